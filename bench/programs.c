@@ -1,0 +1,314 @@
+/* Builds the programs that are measured, following the machine so that every record has its step. */
+#include "programs.h"
+
+#include <stdlib.h>
+#include <string.h>
+
+enum { RACK = 1, DROP, XFER, IN, OUT, MISS, TUCK, KNIT, SPLIT };
+enum { FRONT, BACK };
+enum { LEFT, RIGHT };
+enum { NEEDLES = 250, CARRIERS = 10, LOOP_LIMIT = 8, FLOAT_LIMIT = 20 };
+
+/* A program of one kind is about this long; the others fill PROGRAM_LIMIT. */
+enum { KIND_LENGTH = 32000 };
+
+/* In the sweeps each carrier works columns of its own. */
+enum { WIDTH = NEEDLES / CARRIERS };
+
+struct carrier {
+    int active, slot, attached, bed, needle;
+};
+
+/* A program under way and the machine after it. */
+struct builder {
+    struct program *program;
+    size_t limit;
+    int racking;
+    int loops[2][NEEDLES];
+    struct carrier carriers[CARRIERS + 1]; /* from 1 */
+    uint32_t seed;
+};
+
+static const char *const names[KIND_LIMIT] = {
+    "", "rack", "drop", "xfer", "in", "out", "miss", "tuck", "knit", "split"
+};
+
+const char *kind_name(int kind) { return names[kind]; }
+
+static struct builder begin(struct program *program, const char *name, size_t limit)
+{
+    struct builder b = { .program = program, .limit = limit, .seed = 1 };
+    memset(program, 0, sizeof *program);
+    program->name = name;
+    return b;
+}
+
+static size_t room(const struct builder *b) { return b->limit - b->program->length; }
+
+static int column_of(const struct builder *b, int bed, int needle)
+{
+    return bed == BACK ? needle + b->racking : needle;
+}
+
+static int needle_at(const struct builder *b, int bed, int column)
+{
+    return bed == BACK ? column - b->racking : column;
+}
+
+/* Appends a record that the run comes to. */
+static void append(struct builder *b, const uint8_t *record, size_t size)
+{
+    struct program *p = b->program;
+    if (size > PROGRAM_LIMIT - p->length) abort();
+    memcpy(p->bytes + p->length, record, size);
+    p->length += size;
+    p->records++;
+    p->of_kind[record[0]]++;
+}
+
+static void rack(struct builder *b, int racking)
+{
+    append(b, (uint8_t[]){ RACK, (uint8_t)racking }, 2);
+    b->racking = racking;
+}
+
+static void drop(struct builder *b, int bed, int needle)
+{
+    append(b, (uint8_t[]){ DROP, (uint8_t)bed, (uint8_t)needle }, 3);
+    b->loops[bed][needle] = 0;
+}
+
+/* Follows loops and attachments from one needle to the opposite one. */
+static void move(struct builder *b, int bed, int needle, int other)
+{
+    b->loops[!bed][other] += b->loops[bed][needle];
+    b->loops[bed][needle] = 0;
+    for (int k = 1; k <= CARRIERS; k++) {
+        struct carrier *c = &b->carriers[k];
+        if (!c->attached || c->bed != bed || c->needle != needle) continue;
+        c->bed = !bed;
+        c->needle = other;
+    }
+}
+
+/* The needle on the other bed at the same column. */
+static int opposite(const struct builder *b, int bed, int needle)
+{
+    return needle_at(b, !bed, column_of(b, bed, needle));
+}
+
+static void xfer(struct builder *b, int bed, int needle)
+{
+    int other = opposite(b, bed, needle);
+    append(b, (uint8_t[]){ XFER, (uint8_t)bed, (uint8_t)needle, (uint8_t)other }, 4);
+    move(b, bed, needle, other);
+}
+
+/* A record of kind 4 to 9 with its carrier. */
+static void stitch(struct builder *b, int kind, int direction, int bed, int needle, int k)
+{
+    struct carrier *c = &b->carriers[k];
+    int other = opposite(b, bed, needle), column = column_of(b, bed, needle);
+    append(b, (uint8_t[]){ (uint8_t)kind, (uint8_t)direction, (uint8_t)bed, (uint8_t)needle,
+                           (uint8_t)k, (uint8_t)other }, kind == SPLIT ? 6 : 5);
+    if (kind == SPLIT) move(b, bed, needle, other);
+    if (kind == TUCK) b->loops[bed][needle]++;
+    if (kind == KNIT || kind == SPLIT) b->loops[bed][needle] = 1;
+    if (kind == IN) *c = (struct carrier){ .active = 1, .slot = column + !direction };
+    else if (kind == OUT) *c = (struct carrier){ 0 };
+    else if (kind == MISS) c->slot = column + direction;
+    else *c = (struct carrier){ 1, column + direction, 1, bed, needle };
+}
+
+/* All rack, through the 17 rackings. */
+static void build_rack(struct builder *b)
+{
+    for (int i = 0; room(b) >= 2; i++) rack(b, i * 5 % 17 - 8);
+}
+
+/* All drop, through the 500 hooks. */
+static void build_drop(struct builder *b)
+{
+    for (int i = 0; room(b) >= 3; i++) drop(b, i / NEEDLES % 2, i % NEEDLES);
+}
+
+/* Ten carriers tuck once; then all front needles go to the back bed and return, in turn:
+   one xfer in 25 moves a loop and an attachment. */
+static void build_xfer(struct builder *b)
+{
+    for (int k = 1; k <= CARRIERS; k++) {
+        stitch(b, IN, RIGHT, FRONT, WIDTH * (k - 1), k);
+        stitch(b, TUCK, RIGHT, FRONT, WIDTH * (k - 1), k);
+    }
+    for (int i = 0; room(b) >= 4; i++) xfer(b, i / NEEDLES % 2, i % NEEDLES);
+}
+
+/* Ten carriers come in and go out again: half in, half out. */
+static void build_in_out(struct builder *b)
+{
+    for (int i = 0; room(b) >= 2 * 5 * CARRIERS; i++) {
+        for (int k = 1; k <= CARRIERS; k++)
+            stitch(b, IN, i % 2, k % 2, (i + WIDTH * k) % NEEDLES, k);
+        for (int k = 1; k <= CARRIERS; k++)
+            stitch(b, OUT, 1 - i % 2, k % 2, (i + WIDTH * k) % NEEDLES, k);
+    }
+}
+
+/* A stitch of a sweep; a full hook is dropped before it. */
+static void sweep_stitch(struct builder *b, int kind, int direction, int bed, int needle, int k)
+{
+    int here = b->loops[bed][needle], there = b->loops[!bed][needle];
+    if (kind == TUCK && here == LOOP_LIMIT) drop(b, bed, needle);
+    if (kind == SPLIT && here + there > LOOP_LIMIT) drop(b, here > there ? bed : !bed, needle);
+    stitch(b, kind, direction, bed, needle, k);
+}
+
+/* Ten in, then all of one kind: each carrier goes right and left in turn over its own 25 columns,
+   eight times on the front bed, then on the back. Once the hooks are full, tuck and split need
+   one drop for every eight of them. */
+static void build_sweep(struct builder *b, int kind)
+{
+    for (int k = 1; k <= CARRIERS; k++) stitch(b, IN, RIGHT, FRONT, WIDTH * (k - 1), k);
+    for (int i = 0; room(b) >= 3 + 6; i++) {
+        int step = i % WIDTH, k = i / WIDTH % CARRIERS + 1, pass = i / NEEDLES;
+        int direction = pass % 2 == 0 ? RIGHT : LEFT, bed = pass / 8 % 2;
+        int needle = WIDTH * (k - 1) + (direction == RIGHT ? step : WIDTH - 1 - step);
+        sweep_stitch(b, kind, direction, bed, needle, k);
+    }
+}
+
+/* Below n, the same sequence for every program. */
+static int choose(struct builder *b, int n)
+{
+    b->seed = b->seed * 1664525u + 1013904223u;
+    return (int)((b->seed >> 16) % (uint32_t)n);
+}
+
+/* A column at which both beds have a needle at every racking. */
+static int choose_column(struct builder *b) { return 10 + choose(b, 230); }
+
+/* The column of a carrier's attachment if both beds have a needle there, else any. */
+static int choose_worked(struct builder *b)
+{
+    const struct carrier *c = &b->carriers[1 + choose(b, CARRIERS)];
+    int column = column_of(b, c->bed, c->needle);
+    if (c->attached && column >= 10 && column < 240) return column;
+    return choose_column(b);
+}
+
+/* A drop or an xfer; a drop too where there is no room for the loops. */
+static void mixed_hook(struct builder *b, int kind)
+{
+    int bed = choose(b, 2), needle = needle_at(b, bed, choose_worked(b));
+    int loops = b->loops[bed][needle] + b->loops[!bed][opposite(b, bed, needle)];
+    if (kind == XFER && loops <= LOOP_LIMIT) xfer(b, bed, needle);
+    else drop(b, bed, needle);
+}
+
+/* The kind wanted, or another in its place where it would be refused. */
+static int allowed(const struct builder *b, int kind, int bed, int needle, int k)
+{
+    const struct carrier *c = &b->carriers[k];
+    int distance = column_of(b, c->bed, c->needle) - column_of(b, bed, needle);
+    int loops = b->loops[bed][needle];
+    if (kind == MISS) return MISS;
+    if (c->attached && abs(distance) > FLOAT_LIMIT) return MISS;
+    if (kind == TUCK && loops == LOOP_LIMIT) return KNIT;
+    if (kind == SPLIT && loops + b->loops[!bed][opposite(b, bed, needle)] > LOOP_LIMIT)
+        return KNIT;
+    return kind;
+}
+
+/* A record with a carrier: in if it is inactive, else of the kind wanted; it goes on
+   rightwards with an even carrier, leftwards with an odd one, and now and then turns. */
+static void mixed_stitch(struct builder *b, int kind)
+{
+    int k = 1 + choose(b, CARRIERS), bed = choose(b, 2);
+    int direction = choose(b, 4) > 0 ? k % 2 == 0 : k % 2;
+    const struct carrier *c = &b->carriers[k];
+    if (!c->active) {
+        stitch(b, IN, direction, bed, needle_at(b, bed, choose_column(b)), k);
+        return;
+    }
+    int column = c->slot - (kind == OUT ? direction : !direction);
+    if (column < 10 || column >= 240) {
+        direction = !direction;
+        column = c->slot - (kind == OUT ? direction : !direction);
+    }
+    int needle = needle_at(b, bed, column);
+    if (kind != OUT) kind = allowed(b, kind, bed, needle, k);
+    stitch(b, kind, direction, bed, needle, k);
+}
+
+/* All kinds, ten carriers, every racking; exactly up to the limit. */
+static void build_mixed(struct builder *b)
+{
+    while (room(b) >= 6 + 2) {
+        int part = choose(b, 100);
+        if (part < 4) rack(b, choose(b, 17) - 8);
+        else if (part < 9) mixed_hook(b, DROP);
+        else if (part < 19) mixed_hook(b, XFER);
+        else if (part < 22) mixed_stitch(b, OUT);
+        else if (part < 35) mixed_stitch(b, MISS);
+        else if (part < 50) mixed_stitch(b, TUCK);
+        else if (part < 55) mixed_stitch(b, SPLIT);
+        else mixed_stitch(b, KNIT);
+    }
+    while (room(b) > 3) rack(b, choose(b, 17) - 8);
+    if (room(b) == 3) drop(b, FRONT, 0);
+    else rack(b, 0);
+}
+
+/* A knit with an inactive carrier, then the mixed program: not in, at 0. */
+static void build_refused_first(struct builder *b)
+{
+    struct program *p = b->program;
+    append(b, (uint8_t[]){ KNIT, RIGHT, FRONT, 10, 1 }, 5);
+    build_mixed(b);
+    memset(p->of_kind, 0, sizeof p->of_kind);
+    p->of_kind[KNIT] = p->records = 1;
+    p->answer = (uint64_t)7 << 16;
+}
+
+/* The mixed program, then drop f.250: a field out of range, at the last record. */
+static void build_refused_last(struct builder *b)
+{
+    struct program *p = b->program;
+    b->limit -= 3;
+    build_mixed(b);
+    p->answer = (uint64_t)5 << 16 | p->length;
+    append(b, (uint8_t[]){ DROP, FRONT, NEEDLES }, 3);
+}
+
+static void build_miss(struct builder *b) { build_sweep(b, MISS); }
+static void build_tuck(struct builder *b) { build_sweep(b, TUCK); }
+static void build_knit(struct builder *b) { build_sweep(b, KNIT); }
+static void build_split(struct builder *b) { build_sweep(b, SPLIT); }
+
+static const struct {
+    const char *name;
+    size_t limit;
+    void (*build)(struct builder *);
+} parts[PROGRAMS] = {
+    { "rack", KIND_LENGTH, build_rack },
+    { "drop", KIND_LENGTH, build_drop },
+    { "xfer", KIND_LENGTH, build_xfer },
+    { "in-out", KIND_LENGTH, build_in_out },
+    { "miss", KIND_LENGTH, build_miss },
+    { "tuck", KIND_LENGTH, build_tuck },
+    { "knit", KIND_LENGTH, build_knit },
+    { "split", KIND_LENGTH, build_split },
+    { "mixed", PROGRAM_LIMIT, build_mixed },
+    { "refused-first", PROGRAM_LIMIT, build_refused_first },
+    { "refused-last", PROGRAM_LIMIT, build_refused_last },
+};
+
+const struct program *build_programs(void)
+{
+    static struct program programs[PROGRAMS];
+    for (int i = 0; i < PROGRAMS; i++) {
+        struct builder b = begin(&programs[i], parts[i].name, parts[i].limit);
+        parts[i].build(&b);
+    }
+    return programs;
+}

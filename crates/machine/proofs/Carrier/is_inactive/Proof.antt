@@ -1,0 +1,50 @@
+-- Field by field. Assumes nothing.
+use borrow.Author.Tests.{eq-eqb, ne-eqb}
+use mathlib.Core.Path.{_≡_, refl, sym, ap, _∙_}
+use native.Mathlib.Omega.{arith}
+use mathlib.Core.Bool.{true, false}
+use mir.Syntax.{w32}
+use lib.IntN.{pos}
+use lib.Dec.{eqb}
+use Rattle.machine.specs.declared.Carrier.{Carrier}
+use Rattle.machine.specs.Geometry.{eqZ}
+use Rattle.machine.specs.Machine.{inactiveCarrier}
+use Rattle.machine.proofs.Signed.{fits, is-bits, not-bits}
+use Rattle.machine.proofs.Carrier.is_inactive.Statement.{statement}
+use Rattle.machine.proofs.Carrier.is_inactive.Tie as tie
+
+module _ (d : Carrier) (p : d .active ≡ 0) (q : d .side ≡ 0) where
+  slot-no : eqZ (d .slot .0) (pos 0) ≡ false → false ≡ inactiveCarrier d
+  unfolding inactiveCarrier
+  slot-no e = simp (eq-eqb _ _ p, eq-eqb _ _ q, e)
+
+  bed-no : eqZ (d .slot .0) (pos 0) ≡ true → (d .needle .0 ≡ 0 → ⊥) → false ≡ inactiveCarrier d
+  unfolding inactiveCarrier
+  bed-no e f = simp (eq-eqb _ _ p, eq-eqb _ _ q, e, ne-eqb _ _ f)
+
+  last : eqZ (d .slot .0) (pos 0) ≡ true → d .needle .0 ≡ 0 → eqb (d .needle .1) 0 ≡ inactiveCarrier d
+  unfolding inactiveCarrier
+  last e f = simp (eq-eqb _ _ p, eq-eqb _ _ q, e, eq-eqb _ _ f)
+
+returns : tie.Need-returns
+unfolding inactiveCarrier
+returns c = simp (ne-eqb _ _ (c .if1 .taken))
+
+returns-2 : tie.Need-returns-2
+unfolding inactiveCarrier
+returns-2 c = simp (eq-eqb _ _ (c .before .before .if1 .left), ne-eqb _ _ (c .if2 .taken))
+
+returns-3 : tie.Need-returns-3
+returns-3 c = let d = c .before .before .before .before .before .before .before .before .before .args .self in
+    slot-no d (c .before .before .before .before .before .if1 .left) (c .before .before .before .if2 .left) (not-bits w32 (d .slot .0) (pos 0) (fits w32 _ (c .before .struct-told .given .0 .1)) (fits w32 (pos 0) (omega arith)) (c .if3 .taken))
+
+returns-4 : tie.Need-returns-4
+returns-4 c = let d = c .before .before .before .before .before .before .before .before .before .before .before .args .self in
+    bed-no d (c .before .before .before .before .before .before .before .if1 .left) (c .before .before .before .before .before .if2 .left) (is-bits w32 (d .slot .0) (pos 0) (fits w32 _ (c .before .before .before .struct-told .given .0 .1)) (fits w32 (pos 0) (omega arith)) (c .before .before .if3 .left)) (c .if4 .taken)
+
+returns-5 : tie.Need-returns-5
+returns-5 c = let d = c .before .before .before .before .before .before .before .before .before .before .before .before .args .self in
+    last d (c .before .before .before .before .before .before .before .before .if1 .left) (c .before .before .before .before .before .before .if2 .left) (is-bits w32 (d .slot .0) (pos 0) (fits w32 _ (c .before .before .before .before .struct-told .given .0 .1)) (fits w32 (pos 0) (omega arith)) (c .before .before .before .if3 .left)) (c .before .if4 .left)
+
+pub is-inactive-spec : {M : Type 1} → statement M
+is-inactive-spec = tie.close (tie.spec returns returns-2 returns-3 returns-4 returns-5)

@@ -1,0 +1,116 @@
+-- Laws of the machine's definitions: how far columns reach, and the empty state. Assumes nothing.
+use Prim.Native.Nat.{ℕ, zero, suc, _+_, _<_, _≤_}
+use mathlib.Core.Path.{_≡_, refl, sym, ap, subst, _∙_}
+use mathlib.Core.Bool.{Bool, true, false, _&&_, not, cond}
+use mathlib.Core.List.{List, [], _∷_, map}
+use native.Mathlib.Omega.{arith}
+use lib.IntN.{ℤ, pos, _+ℤ_}
+use lib.Signed.{mag}
+use lib.Dec.{eqb}
+use lib.ListN.{getD, length, drop, replicate}
+use lib.Seq.{drop-cons, drop-length}
+use native.Mathlib.Numerals.{add-one}
+use borrow.Author.Tests.{eqb-true, not-true}
+use Rattle.machine.specs.declared.Needle.{Needle}
+use Rattle.machine.specs.declared.Carrier.{Carrier}
+use Rattle.machine.specs.declared.State.{State}
+use Rattle.machine.specs.declared.Racking.{Racking}
+use Rattle.machine.specs.declared.Column.{Column}
+use mir.Syntax.{w32}
+use mir.Val.{SFits, toZ, ofZ}
+use mir.Facts.{toZ-ofZ}
+use Rattle.machine.specs.Geometry.{columnOf, eqZ}
+use Rattle.machine.specs.Machine.{all, attachedAt, movedTo, noLoops, noneActive, inactive, inactiveCarrier, emptyState, completeOf}
+use Rattle.machine.proofs.Signed.{mag-sum, eqZ-true, back, fits-sum}
+
+-- a column of any needle at any racking
+pub column-reach : (n : Needle) (r : Racking) → n .1 < 65536 → mag (r .0) < 128 → mag (columnOf n r .0) < 65666
+unfolding columnOf
+column-reach n r h k = go (eqb (n .0) 0)
+  where
+    go : (t : Bool) → mag (cond t (pos (n .1)) (pos (n .1) +ℤ r .0)) < 65666
+    go true = omega arith
+    go false = omega (arith, mag-sum (pos (n .1)) (r .0))
+
+-- a slot beside such a column, as code reads it back from 32 bits
+module _ (n : Needle) (r : Racking) (z : Column) (is : z ≡ columnOf n r) (h : n .1 < 65536) (k : mag (r .0) < 128) where
+  slot-reach : mag (z .0) < 65666
+  slot-reach = subst (λ (y : Column). mag (y .0) < 65666) (sym is) (column-reach n r h k)
+
+  pub slot-here : toZ w32 (ofZ w32 (z .0)) ≡ columnOf n r .0
+  slot-here = back w32 (z .0) (omega (arith, slot-reach)) ∙ ap (λ (y : Column). y .0) is
+
+  pub slot-fits : SFits w32 (toZ w32 (ofZ w32 (z .0)) +ℤ pos 1)
+  slot-fits = simp (back w32 (z .0) (omega (arith, slot-reach))) (fits-sum w32 (z .0) (pos 1) (omega (arith, slot-reach)))
+
+  pub slot-next : toZ w32 (ofZ w32 (toZ w32 (ofZ w32 (z .0)) +ℤ pos 1)) ≡ columnOf n r .0 +ℤ pos 1
+  slot-next = toZ-ofZ slot-fits ∙ ap (λ (y : ℤ). y +ℤ pos 1) slot-here
+
+-- a walk along a list
+module _ {A : Type 0} (p : A → Bool) where
+  pub all-next : (l : List A) (i : ℕ) (d : A) → i < length l → all p (drop i l) ≡ (p (getD l i d) && all p (drop (i + 1) l))
+  unfolding all
+  all-next l i d h = rw (drop-cons l i d h, add-one i)
+
+  pub all-end : (l : List A) (i : ℕ) → i ≡ length l → all p (drop i l) ≡ true
+  unfolding all
+  all-end l i h = rw (h, drop-length l)
+
+and-left : (a b : Bool) → (a && b) ≡ true → a ≡ true
+and-left true b e = refl
+and-left false b e = e
+
+and-right : (a b : Bool) → (a && b) ≡ true → b ≡ true
+and-right true b e = e
+and-right false b e = absurd (subst (λ (t : Bool). cond t ⊥ ℕ) e 0)
+
+still : (a b : Needle) (c : Carrier) → not (attachedAt a c) ≡ true → movedTo a b c ≡ c
+unfolding movedTo
+still a b c e = simp (not-true (attachedAt a c) e)
+
+-- where nothing is attached, nothing moves
+pub none-moved : (a b : Needle) (l : List Carrier) → all (λ (c : Carrier). not (attachedAt a c)) l ≡ true → map (movedTo a b) l ≡ l
+unfolding all
+none-moved a b [] e = refl
+none-moved a b (c ∷ l) e = cc (still a b c (and-left (not (attachedAt a c)) _ e), none-moved a b l (and-right (not (attachedAt a c)) _ e))
+
+all-one : {A : Type 0} (p : A → Bool) (a : A) → ((x : A) → p x ≡ true → x ≡ a) → (l : List A) → all p l ≡ true → l ≡ replicate (length l) a
+unfolding all
+all-one p a only [] e = refl
+all-one p a only (x ∷ l) e = cc (only x (and-left (p x) (all p l) e), all-one p a only l (and-right (p x) (all p l) e))
+
+pub and-two : (a b : Bool) → (a && b) ≡ true → (a ≡ true) × (b ≡ true)
+and-two a b e = (and-left a b e, and-right a b e)
+
+same-fields : (a b x y : ℕ) (z : ℤ) → a ≡ 0 → b ≡ 0 → z ≡ pos 0 → x ≡ 0 → y ≡ 0
+    → _≡_ {A = Carrier} (record { active = a; side = b; slot = record { 0 = z }; needle = record { 0 = x; 1 = y } }) inactive
+same-fields a b x y z p q r t u = cc
+
+inactive-is : (c : Carrier) → inactiveCarrier c ≡ true → c ≡ inactive
+unfolding inactiveCarrier
+inactive-is c e =
+    let (p, e1) = and-two (eqb (c .active) 0) (eqb (c .side) 0 && (eqZ (c .slot .0) (pos 0) && (eqb (c .needle .0) 0 && eqb (c .needle .1) 0))) e in
+    let (q, e2) = and-two (eqb (c .side) 0) (eqZ (c .slot .0) (pos 0) && (eqb (c .needle .0) 0 && eqb (c .needle .1) 0)) e1 in
+    let (r, e3) = and-two (eqZ (c .slot .0) (pos 0)) (eqb (c .needle .0) 0 && eqb (c .needle .1) 0) e2 in
+    let (t, u) = and-two (eqb (c .needle .0) 0) (eqb (c .needle .1) 0) e3 in
+    same-fields (c .active) (c .side) (c .needle .0) (c .needle .1) (c .slot .0)
+    (eqb-true (c .active) 0 p) (eqb-true (c .side) 0 q) (eqZ-true (c .slot .0) (pos 0) r) (eqb-true (c .needle .0) 0 t) (eqb-true (c .needle .1) 0 u)
+
+same-parts : (z : ℤ) (l : List ℕ) (k : List Carrier) → z ≡ pos 0 → l ≡ replicate 500 0 → k ≡ replicate 10 inactive
+    → _≡_ {A = State} (record { racking = record { 0 = z }; loops = l; carriers = k }) emptyState
+unfolding emptyState
+same-parts z l k p q r = simp (p, q, r)
+
+-- complete is true exactly of the empty state
+pub complete-is-empty : (s : State) → length (s .loops) ≡ 500 → length (s .carriers) ≡ 10 → completeOf s ≡ true → s ≡ emptyState
+unfolding completeOf
+complete-is-empty s hl hc e =
+    let (r, e1) = and-two (eqZ (s .racking .0) (pos 0)) (noLoops (s .loops) && noneActive (s .carriers)) e in
+    let (l, k) = and-two (noLoops (s .loops)) (noneActive (s .carriers)) e1 in
+    same-parts (s .racking .0) (s .loops) (s .carriers) (eqZ-true (s .racking .0) (pos 0) r)
+    (all-one (λ (n : ℕ). eqb n 0) 0 (λ n h. eqb-true n 0 h) (s .loops) l ∙ ap (λ (n : ℕ). replicate n 0) hl)
+    (all-one inactiveCarrier inactive inactive-is (s .carriers) k ∙ ap (λ (n : ℕ). replicate n inactive) hc)
+
+pub empty-is-complete : completeOf emptyState ≡ true
+unfolding completeOf emptyState all inactiveCarrier eqZ
+empty-is-complete = refl

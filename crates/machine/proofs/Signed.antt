@@ -1,0 +1,162 @@
+-- Whole numbers for `omega`: z = up z - dn z, two naturals that it reads. Sums, differences and casts, once over the width. Assumes nothing.
+use Prim.Native.Nat.{ℕ, zero, suc, _+_, _-_, _≤_, _<_, _^_}
+use mathlib.Core.Path.{_≡_, refl, sym, ap, subst, _∙_}
+use mathlib.Core.Bool.{Bool, true, false, _&&_, cond}
+use native.Mathlib.Omega.{arith}
+use lib.IntN.{ℤ, pos, negsuc, _+ℤ_, _-ℤ_, negℤ, subℕ, natAbs}
+use lib.Signed.{leZ, mag}
+use lib.Dec.{eqb, leb, ltb, leb·suc-suc}
+use borrow.Author.Tests.{eq-eqb, ne-eqb, eqb-true, eqb-false, ltb-true, ltb-false, leb-true, leb-false, le-leb, lt-leb}
+use mir.Syntax.{Width}
+use mir.Facts.{toZ-ofZ}
+use mir.Val.{SFits, hbits, toZ, ofZ}
+use Rattle.machine.specs.Geometry.{eqZ}
+
+abbrev pub up : ℤ → ℕ
+up (pos n) = n
+up (negsuc n) = 0
+
+abbrev pub dn : ℤ → ℕ
+dn (pos n) = 0
+dn (negsuc n) = suc n
+
+up-sub : (a b : ℕ) → up (subℕ a b) ≡ a - b
+up-sub a b = go (ltb a b) (λ e. ltb-true a b e) (λ e. ltb-false a b e)
+  where
+    go : (t : Bool) → (t ≡ true → a < b) → (t ≡ false → b ≤ a) → up (cond t (negsuc (b - suc a)) (pos (a - b))) ≡ a - b
+    go true f g = let h : a < b = f refl in omega arith
+    go false f g = refl
+
+dn-sub : (a b : ℕ) → dn (subℕ a b) ≡ b - a
+dn-sub a b = go (ltb a b) (λ e. ltb-true a b e) (λ e. ltb-false a b e)
+  where
+    go : (t : Bool) → (t ≡ true → a < b) → (t ≡ false → b ≤ a) → dn (cond t (negsuc (b - suc a)) (pos (a - b))) ≡ b - a
+    go true f g = let h : a < b = f refl in omega arith
+    go false f g = let h : b ≤ a = g refl in omega arith
+
+pub sum : (a b : ℤ) → up (a +ℤ b) + (dn a + dn b) ≡ dn (a +ℤ b) + (up a + up b)
+sum (pos a) (pos b) = omega arith
+sum (pos a) (negsuc b) = omega (arith, up-sub a (suc b), dn-sub a (suc b))
+sum (negsuc a) (pos b) = omega (arith, up-sub b (suc a), dn-sub b (suc a))
+sum (negsuc a) (negsuc b) = omega arith
+
+up-neg : (a : ℤ) → up (negℤ a) ≡ dn a
+up-neg (pos zero) = refl
+up-neg (pos (suc n)) = refl
+up-neg (negsuc n) = refl
+
+dn-neg : (a : ℤ) → dn (negℤ a) ≡ up a
+dn-neg (pos zero) = refl
+dn-neg (pos (suc n)) = refl
+dn-neg (negsuc n) = refl
+
+pub difference : (a b : ℤ) → up (a -ℤ b) + (dn a + up b) ≡ dn (a -ℤ b) + (up a + dn b)
+difference a b = omega (arith, sum a (negℤ b), up-neg b, dn-neg b)
+
+-- equal numbers
+pub eq-of : (a b : ℤ) → up a + dn b ≡ up b + dn a → a ≡ b
+eq-of (pos a) (pos b) h = ap pos (omega arith)
+eq-of (pos a) (negsuc b) h = absurd (no h)
+  where
+    no : a + suc b ≡ 0 + 0 → ⊥
+    no h = omega arith
+eq-of (negsuc a) (pos b) h = absurd (no h)
+  where
+    no : 0 + 0 ≡ b + suc a → ⊥
+    no h = omega arith
+eq-of (negsuc a) (negsuc b) h = ap negsuc (omega arith)
+
+pub eqZ-yes : (a b : ℤ) → a ≡ b → eqZ a b ≡ true
+unfolding eqZ
+eqZ-yes a b e = subst (λ (z : ℤ). eqZ a z ≡ true) e (self a)
+  where
+    self : (a : ℤ) → eqZ a a ≡ true
+    self (pos n) = eq-eqb n n refl
+    self (negsuc n) = eq-eqb n n refl
+
+pub eqZ-no : (a b : ℤ) → (a ≡ b → ⊥) → eqZ a b ≡ false
+unfolding eqZ
+eqZ-no (pos a) (pos b) h = ne-eqb a b (λ e. h (ap pos e))
+eqZ-no (pos a) (negsuc b) h = refl
+eqZ-no (negsuc a) (pos b) h = refl
+eqZ-no (negsuc a) (negsuc b) h = ne-eqb a b (λ e. h (ap negsuc e))
+
+pub eqZ-true : (a b : ℤ) → eqZ a b ≡ true → a ≡ b
+unfolding eqZ
+eqZ-true (pos a) (pos b) e = ap pos (eqb-true a b e)
+eqZ-true (pos a) (negsuc b) e = absurd (subst (λ (t : Bool). cond t ⊥ ℕ) e 0)
+eqZ-true (negsuc a) (pos b) e = absurd (subst (λ (t : Bool). cond t ⊥ ℕ) e 0)
+eqZ-true (negsuc a) (negsuc b) e = ap negsuc (eqb-true a b e)
+
+pub eqZ-false : (a b : ℤ) → eqZ a b ≡ false → a ≡ b → ⊥
+eqZ-false a b e h = subst (λ (t : Bool). cond t ℕ ⊥) (sym (eqZ-yes a b h) ∙ e) 0
+
+-- magnitudes: mag z < k says -k ≤ z < k
+up-mag : (a : ℤ) → up a ≤ mag a
+up-mag (pos a) = omega arith
+up-mag (negsuc a) = omega arith
+
+dn-mag : (a : ℤ) → dn a ≤ mag a + 1
+dn-mag (pos a) = omega arith
+dn-mag (negsuc a) = omega arith
+
+pub mag-sum : (a b : ℤ) → mag (a +ℤ b) ≤ mag a + mag b + 1
+mag-sum a b = go (a +ℤ b) (sum a b)
+  where
+    go : (z : ℤ) → up z + (dn a + dn b) ≡ dn z + (up a + up b) → mag z ≤ mag a + mag b + 1
+    go (pos n) h = omega (arith, up-mag a, up-mag b)
+    go (negsuc n) h = omega (arith, dn-mag a, dn-mag b)
+
+neg-mag : (a : ℤ) → mag (negℤ a) ≤ mag a + 1
+neg-mag a = go (negℤ a) (up-neg a) (dn-neg a)
+  where
+    go : (z : ℤ) → up z ≡ dn a → dn z ≡ up a → mag z ≤ mag a + 1
+    go (pos n) p q = omega (arith, dn-mag a)
+    go (negsuc n) p q = omega (arith, up-mag a)
+
+pub mag-difference : (a b : ℤ) → mag (a -ℤ b) ≤ mag a + mag b + 2
+mag-difference a b = omega (arith, mag-sum a (negℤ b), neg-mag b)
+
+-- a magnitude of at most k + 1, as two comparisons
+pub abs-in : (k : ℕ) (d : ℤ) → leb (natAbs d) (suc k) ≡ (leZ (negsuc k) d && leZ d (pos (suc k)))
+abs-in k (pos n) = refl
+abs-in k (negsuc n) = leb·suc-suc n k ∙ and-true (leb n k)
+  where
+    and-true : (t : Bool) → t ≡ (t && true)
+    and-true true = refl
+    and-true false = refl
+
+-- what a width holds, and comes back from its bits
+module _ (w : Width) where
+  pub fits : (z : ℤ) → mag z < 2 ^ hbits w → SFits w z
+  fits z h = record { sfits = h }
+
+  pub back : (z : ℤ) → mag z < 2 ^ hbits w → toZ w (ofZ w z) ≡ z
+  back z h = toZ-ofZ (fits z h)
+
+  pub fits-sum : (a b : ℤ) → mag a + mag b + 1 < 2 ^ hbits w → SFits w (a +ℤ b)
+  fits-sum a b h = fits (a +ℤ b) (omega (arith, mag-sum a b))
+
+  pub fits-difference : (a b : ℤ) → mag a + mag b + 2 < 2 ^ hbits w → SFits w (a -ℤ b)
+  fits-difference a b h = fits (a -ℤ b) (omega (arith, mag-difference a b))
+
+  -- equal bits are equal numbers
+  pub eq-bits : (a b : ℤ) → SFits w a → SFits w b → eqb (ofZ w a) (ofZ w b) ≡ eqZ a b
+  eq-bits a b f g = go (eqb (ofZ w a) (ofZ w b)) refl
+    where
+      same : ofZ w a ≡ ofZ w b → a ≡ b
+      same e = sym (toZ-ofZ f) ∙ ap (toZ w) e ∙ toZ-ofZ g
+      go : (t : Bool) → eqb (ofZ w a) (ofZ w b) ≡ t → t ≡ eqZ a b
+      go true e = sym (eqZ-yes a b (same (eqb-true (ofZ w a) (ofZ w b) e)))
+      go false e = sym (eqZ-no a b (λ q. eqb-false (ofZ w a) (ofZ w b) e (ap (ofZ w) q)))
+
+  -- a test of bits is a test of the number
+  pub is-bits : (a b : ℤ) → SFits w a → SFits w b → ofZ w a ≡ ofZ w b → eqZ a b ≡ true
+  is-bits a b f g e = sym (eq-bits a b f g) ∙ eq-eqb _ _ e
+
+  pub not-bits : (a b : ℤ) → SFits w a → SFits w b → (ofZ w a ≡ ofZ w b → ⊥) → eqZ a b ≡ false
+  not-bits a b f g e = sym (eq-bits a b f g) ∙ ne-eqb _ _ e
+
+-- a value that was cast to a wider type and read back
+pub cast-back : (v w : Width) (z : ℤ) → mag z < 2 ^ hbits v → mag z < 2 ^ hbits w → toZ w (ofZ w (toZ v (ofZ v z))) ≡ z
+cast-back v w z h k = ap (λ (y : ℤ). toZ w (ofZ w y)) (back v z h) ∙ back w z k

@@ -1,0 +1,239 @@
+// The knitting machine: needles, columns, slots, racking, carriers, and the machine state by value.
+ghost use mathlib.Core.Path.{_≡_};
+ghost use mathlib.Core.List.{map};
+ghost use Prim.Native.Nat.{_≤_, _<_};
+ghost use Rattle.machine.specs.Machine.{OnBed, inactive, emptyState, hookOf, sameNeedle, attachedAt, movedTo, anyAttached, noLoops, inactiveCarrier, noneActive, completeOf};
+ghost use Rattle.machine.specs.Geometry.{columnOf, entryOf, exitOf, sameColumn, withinFloat};
+
+// A needle by its bed (0 front, 1 back) and its number there: where a program says it is.
+#[repr(C)]
+pub struct Needle(pub u8, pub u16);
+
+// A physical column, which only a racking gives to a needle.
+#[repr(C)]
+pub struct Column(pub i32);
+
+// A place between columns where a carrier parks: slot z lies just left of column z.
+#[repr(C)]
+pub struct Slot(pub i32);
+
+// How far the back bed is shifted to the right.
+#[repr(C)]
+pub struct Racking(pub i8);
+
+// A yarn carrier. Fields without meaning are 0: all of an inactive carrier's, the needle of an unattached one.
+#[repr(C)]
+pub struct Carrier {
+    // 1 parked, 0 inactive
+    pub active: u8,
+    // the attachment's side of its needle: 0 unattached, 1 left, 2 right
+    pub side: u8,
+    pub slot: Slot,
+    pub needle: Needle,
+}
+
+// The machine state: racking, loops on each hook (front bed first), carriers 1 to 10.
+#[repr(C)]
+pub struct State {
+    pub racking: Racking,
+    pub loops: [u8; State::HOOKS],
+    pub carriers: [Carrier; State::CARRIERS],
+}
+
+impl State {
+    pub const NEEDLES: u8 = 250;
+    pub const HOOKS: usize = 500;
+    pub const CARRIERS: usize = 10;
+    pub const LOOPS_LIMIT: u8 = 8;
+    pub const RACKING_LIMIT: i8 = 8;
+    pub const FLOAT_LIMIT: i64 = 20;
+
+    // The empty state, where every run starts.
+    pub fn empty() -> State
+        ensures { λ s. ⌜ s ≡ emptyState ⌝ }
+    {
+        let c = Carrier::inactive();
+        State { racking: Racking(0), loops: [0u8; 500], carriers: [c; 10] }
+    }
+
+    // Whether the state is the empty one.
+    pub fn complete(self) -> bool
+        ensures { λ b. ⌜ b ≡ completeOf self ⌝ }
+    {
+        let r = self.racking;
+        if r.0 != 0 {
+            return false;
+        }
+        if !no_loops(&self.loops) {
+            return false;
+        }
+        let cs = self.carriers;
+        none_active(cs)
+    }
+}
+
+impl Needle {
+    // The needle's hook among the state's.
+    pub fn hook(self) -> usize
+        requires { ⌜ OnBed self ⌝ }
+        ensures { λ i. ⌜ i ≡ hookOf self ⌝ }
+    {
+        (self.0 as usize) * 250 + (self.1 as usize)
+    }
+
+    // The one conversion of a needle to a column.
+    pub fn column(self, r: Racking) -> Column
+        ensures { λ z. ⌜ z ≡ columnOf self r ⌝ }
+    {
+        let n = self.1 as i32;
+        if self.0 == 0 { Column(n) } else { Column(n + (r.0 as i32)) }
+    }
+
+    // Where a carrier stands before it moves over the needle.
+    pub fn entry(self, r: Racking, right: bool) -> Slot
+        ensures { λ s. ⌜ s ≡ entryOf (columnOf self r) right ⌝ }
+    {
+        let z = self.column(r);
+        if right { Slot(z.0) } else { Slot(z.0 + 1) }
+    }
+
+    // Where it stands after.
+    pub fn exit(self, r: Racking, right: bool) -> Slot
+        ensures { λ s. ⌜ s ≡ exitOf (columnOf self r) right ⌝ }
+    {
+        let z = self.column(r);
+        if right { Slot(z.0 + 1) } else { Slot(z.0) }
+    }
+
+    pub fn equals(self, other: Needle) -> bool
+        ensures { λ b. ⌜ b ≡ sameNeedle self other ⌝ }
+    {
+        self.0 == other.0 && self.1 == other.1
+    }
+}
+
+impl Column {
+    pub fn equals(self, other: Column) -> bool
+        ensures { λ b. ⌜ b ≡ sameColumn self other ⌝ }
+    {
+        self.0 == other.0
+    }
+
+    // Whether a float between the two columns is short enough.
+    pub fn near(self, other: Column) -> bool
+        ensures { λ b. ⌜ b ≡ withinFloat self other ⌝ }
+    {
+        let d = (self.0 as i64) - (other.0 as i64);
+        -20 <= d && d <= 20
+    }
+}
+
+impl Carrier {
+    pub fn inactive() -> Carrier
+        ensures { λ c. ⌜ c ≡ inactive ⌝ }
+    {
+        Carrier { active: 0, side: 0, slot: Slot(0), needle: Needle(0, 0) }
+    }
+
+    // Whether every field is an inactive carrier's.
+    pub fn is_inactive(self) -> bool
+        ensures { λ b. ⌜ b ≡ inactiveCarrier self ⌝ }
+    {
+        let z = self.slot;
+        let n = self.needle;
+        if self.active != 0 {
+            return false;
+        }
+        if self.side != 0 {
+            return false;
+        }
+        if z.0 != 0 {
+            return false;
+        }
+        if n.0 != 0 {
+            return false;
+        }
+        n.1 == 0
+    }
+
+    // Whether the carrier is attached at the needle.
+    pub fn attached_at(self, n: Needle) -> bool
+        ensures { λ b. ⌜ b ≡ attachedAt n self ⌝ }
+    {
+        if self.side == 0 {
+            return false;
+        }
+        let here = self.needle;
+        here.equals(n)
+    }
+
+    // The carrier after the loops at `from` went to `to`: an attachment there goes with them, its side kept.
+    pub fn moved(self, from: Needle, to: Needle) -> Carrier
+        ensures { λ c. ⌜ c ≡ movedTo from to self ⌝ }
+    {
+        if self.attached_at(from) {
+            let z = self.slot;
+            return Carrier { active: self.active, side: self.side, slot: z, needle: to };
+        }
+        self
+    }
+}
+
+// Whether no hook holds a loop.
+pub fn no_loops(loops: &[u8]) -> bool
+    ensures { λ b. ⌜ b ≡ noLoops (now (loops .entry)) ⌝ }
+{
+    let mut i = 0;
+    while i < loops.len() {
+        if loops[i] != 0 {
+            return false;
+        }
+        i += 1;
+    }
+    true
+}
+
+// Whether no carrier is active.
+pub fn none_active(carriers: [Carrier; 10]) -> bool
+    ensures { λ b. ⌜ b ≡ noneActive carriers ⌝ }
+{
+    let mut k = 0;
+    while k < 10 {
+        let c = carriers[k];
+        if !c.is_inactive() {
+            return false;
+        }
+        k += 1;
+    }
+    true
+}
+
+// Whether a carrier is attached at the needle.
+pub fn any_attached(carriers: [Carrier; 10], n: Needle) -> bool
+    ensures { λ b. ⌜ b ≡ anyAttached n carriers ⌝ }
+{
+    let mut k = 0;
+    while k < 10 {
+        let c = carriers[k];
+        if c.attached_at(n) {
+            return true;
+        }
+        k += 1;
+    }
+    false
+}
+
+// The carriers after the loops at `from` went to `to`.
+pub fn attachments_moved(carriers: [Carrier; 10], from: Needle, to: Needle) -> [Carrier; 10]
+    ensures { λ cs. ⌜ cs ≡ map (movedTo from to) carriers ⌝ }
+{
+    let mut cs = carriers;
+    let mut k = 0;
+    while k < 10 {
+        let c = cs[k];
+        let d = c.moved(from, to);
+        cs[k] = d;
+        k += 1;
+    }
+    cs
+}

@@ -1,0 +1,480 @@
+//! The machine of paper 01: numbers, limits, state, columns, records, one step and the run.
+
+pub const DONE: u8 = 0;
+pub const TOO_LONG: u8 = 1;
+pub const UNKNOWN_KIND: u8 = 3;
+pub const CUT_SHORT: u8 = 4;
+pub const FIELD_RANGE: u8 = 5;
+pub const ALREADY_IN: u8 = 6;
+pub const NOT_IN: u8 = 7;
+pub const WRONG_SLOT: u8 = 8;
+pub const FLOAT_TOO_LONG: u8 = 9;
+pub const NOT_OPPOSITE: u8 = 10;
+pub const HOOK_FULL: u8 = 11;
+
+pub const NEEDLES: usize = 250;
+pub const CARRIERS: usize = 10;
+pub const MAX_RACKING: i32 = 8;
+pub const HOOK_LIMIT: u8 = 8;
+pub const FLOAT_LIMIT: i32 = 20;
+pub const PROGRAM_LIMIT: usize = 32_768;
+
+pub const RACK: u8 = 0x01;
+pub const DROP: u8 = 0x02;
+pub const XFER: u8 = 0x03;
+pub const IN: u8 = 0x04;
+pub const OUT: u8 = 0x05;
+pub const MISS: u8 = 0x06;
+pub const TUCK: u8 = 0x07;
+pub const KNIT: u8 = 0x08;
+pub const SPLIT: u8 = 0x09;
+
+#[derive(Clone, Copy, PartialEq, Eq, Debug)]
+pub enum Bed {
+    Front,
+    Back,
+}
+
+/// A direction of travel, and the side of a needle.
+#[derive(Clone, Copy, PartialEq, Eq, Debug)]
+pub enum Direction {
+    Left,
+    Right,
+}
+
+#[derive(Clone, Copy, PartialEq, Eq, Debug)]
+pub struct Needle {
+    pub bed: Bed,
+    pub number: usize,
+}
+
+#[derive(Clone, Copy, PartialEq, Eq, Debug)]
+pub struct Attachment {
+    pub needle: Needle,
+    pub side: Direction,
+}
+
+/// An active carrier.
+#[derive(Clone, Copy, PartialEq, Eq, Debug)]
+pub struct Parked {
+    pub slot: i32,
+    pub attachment: Option<Attachment>,
+}
+
+/// Carrier k is at index k - 1; None is an inactive one.
+#[derive(Clone, PartialEq, Eq, Debug)]
+pub struct State {
+    pub racking: i32,
+    pub front_loops: [u8; NEEDLES],
+    pub back_loops: [u8; NEEDLES],
+    pub carriers: [Option<Parked>; CARRIERS],
+}
+
+/// A carrier (by its index) moves over the column of a needle.
+#[derive(Clone, Copy, PartialEq, Eq, Debug)]
+pub struct CarrierMove {
+    pub direction: Direction,
+    pub needle: Needle,
+    pub carrier: usize,
+}
+
+#[derive(Clone, Copy, PartialEq, Eq, Debug)]
+pub enum Record {
+    Rack(i32),
+    Drop(Needle),
+    Xfer(Needle, Needle),
+    In(CarrierMove),
+    Out(CarrierMove),
+    Miss(CarrierMove),
+    Tuck(CarrierMove),
+    Knit(CarrierMove),
+    Split(CarrierMove, Needle),
+}
+
+/// What a run answers; for a refusal the state precedes the refused record.
+pub struct Answer {
+    pub number: u8,
+    pub place: usize,
+    pub state: State,
+}
+
+impl Answer {
+    pub fn complete(&self) -> bool {
+        self.state == State::empty()
+    }
+}
+
+// Columns and slots.
+
+impl Bed {
+    pub fn other(self) -> Bed {
+        match self {
+            Bed::Front => Bed::Back,
+            Bed::Back => Bed::Front,
+        }
+    }
+}
+
+pub fn entry_slot(column: i32, direction: Direction) -> i32 {
+    match direction {
+        Direction::Right => column,
+        Direction::Left => column + 1,
+    }
+}
+
+pub fn exit_slot(column: i32, direction: Direction) -> i32 {
+    match direction {
+        Direction::Right => column + 1,
+        Direction::Left => column,
+    }
+}
+
+impl State {
+    pub fn empty() -> State {
+        State {
+            racking: 0,
+            front_loops: [0; NEEDLES],
+            back_loops: [0; NEEDLES],
+            carriers: [None; CARRIERS],
+        }
+    }
+
+    pub fn column(&self, needle: Needle) -> i32 {
+        match needle.bed {
+            Bed::Front => needle.number as i32,
+            Bed::Back => needle.number as i32 + self.racking,
+        }
+    }
+
+    pub fn loops(&self, needle: Needle) -> u8 {
+        match needle.bed {
+            Bed::Front => self.front_loops[needle.number],
+            Bed::Back => self.back_loops[needle.number],
+        }
+    }
+
+    fn set_loops(&mut self, needle: Needle, count: u8) {
+        match needle.bed {
+            Bed::Front => self.front_loops[needle.number] = count,
+            Bed::Back => self.back_loops[needle.number] = count,
+        }
+    }
+}
+
+// Records: 3, 4 and 5.
+
+pub fn body_length(kind: u8) -> Option<usize> {
+    match kind {
+        RACK => Some(1),
+        DROP => Some(2),
+        XFER => Some(3),
+        IN..=KNIT => Some(4),
+        SPLIT => Some(5),
+        _ => None,
+    }
+}
+
+fn read_racking(byte: u8) -> Option<i32> {
+    let racking = i32::from(byte as i8);
+    (-MAX_RACKING..=MAX_RACKING)
+        .contains(&racking)
+        .then_some(racking)
+}
+
+fn read_direction(byte: u8) -> Option<Direction> {
+    match byte {
+        0 => Some(Direction::Left),
+        1 => Some(Direction::Right),
+        _ => None,
+    }
+}
+
+fn read_bed(byte: u8) -> Option<Bed> {
+    match byte {
+        0 => Some(Bed::Front),
+        1 => Some(Bed::Back),
+        _ => None,
+    }
+}
+
+fn read_needle(bed: Bed, byte: u8) -> Option<Needle> {
+    let number = usize::from(byte);
+    (number < NEEDLES).then_some(Needle { bed, number })
+}
+
+fn read_carrier(byte: u8) -> Option<usize> {
+    let carrier = usize::from(byte);
+    (1..=CARRIERS).contains(&carrier).then(|| carrier - 1)
+}
+
+fn read_move(body: &[u8]) -> Option<CarrierMove> {
+    Some(CarrierMove {
+        direction: read_direction(body[0])?,
+        needle: read_needle(read_bed(body[1])?, body[2])?,
+        carrier: read_carrier(body[3])?,
+    })
+}
+
+/// The record of a known kind and a whole body, if every field is in range.
+fn read_fields(kind: u8, body: &[u8]) -> Option<Record> {
+    match kind {
+        RACK => Some(Record::Rack(read_racking(body[0])?)),
+        DROP => Some(Record::Drop(read_needle(read_bed(body[0])?, body[1])?)),
+        XFER => {
+            let bed = read_bed(body[0])?;
+            let first = read_needle(bed, body[1])?;
+            Some(Record::Xfer(first, read_needle(bed.other(), body[2])?))
+        }
+        IN => Some(Record::In(read_move(body)?)),
+        OUT => Some(Record::Out(read_move(body)?)),
+        MISS => Some(Record::Miss(read_move(body)?)),
+        TUCK => Some(Record::Tuck(read_move(body)?)),
+        KNIT => Some(Record::Knit(read_move(body)?)),
+        SPLIT => {
+            let first = read_move(body)?;
+            let second = read_needle(first.needle.bed.other(), body[4])?;
+            Some(Record::Split(first, second))
+        }
+        _ => None,
+    }
+}
+
+/// The first record of the bytes and its length, or 3, 4 or 5.
+pub fn read_record(bytes: &[u8]) -> Result<(Record, usize), u8> {
+    let kind = *bytes.first().ok_or(CUT_SHORT)?;
+    let length = 1 + body_length(kind).ok_or(UNKNOWN_KIND)?;
+    let body = bytes.get(1..length).ok_or(CUT_SHORT)?;
+    let record = read_fields(kind, body).ok_or(FIELD_RANGE)?;
+    Ok((record, length))
+}
+
+impl Record {
+    pub fn carrier_move(&self) -> Option<CarrierMove> {
+        match *self {
+            Record::Rack(_) | Record::Drop(_) | Record::Xfer(..) => None,
+            Record::In(m) | Record::Out(m) | Record::Miss(m) => Some(m),
+            Record::Tuck(m) | Record::Knit(m) | Record::Split(m, _) => Some(m),
+        }
+    }
+
+    pub fn first_needle(&self) -> Option<Needle> {
+        match *self {
+            Record::Rack(_) => None,
+            Record::Drop(needle) | Record::Xfer(needle, _) => Some(needle),
+            _ => self.carrier_move().map(|m| m.needle),
+        }
+    }
+
+    /// The needles between which loops and attachments go.
+    pub fn transfer(&self) -> Option<(Needle, Needle)> {
+        match *self {
+            Record::Xfer(first, second) => Some((first, second)),
+            Record::Split(m, second) => Some((m.needle, second)),
+            _ => None,
+        }
+    }
+
+    pub fn forms_loop(&self) -> bool {
+        matches!(self, Record::Tuck(_) | Record::Knit(_) | Record::Split(..))
+    }
+}
+
+// Refusals 6 to 11. Each says whether its own reason holds, whatever the others say.
+
+fn already_in(state: &State, record: &Record) -> bool {
+    matches!(record, Record::In(m) if state.carriers[m.carrier].is_some())
+}
+
+fn not_in(state: &State, record: &Record) -> bool {
+    match (record, record.carrier_move()) {
+        (Record::In(_), _) | (_, None) => false,
+        (_, Some(m)) => state.carriers[m.carrier].is_none(),
+    }
+}
+
+fn wrong_slot(state: &State, record: &Record) -> bool {
+    let Some(m) = record.carrier_move() else {
+        return false;
+    };
+    let Some(parked) = state.carriers[m.carrier] else {
+        return false;
+    };
+    let column = state.column(m.needle);
+    match record {
+        Record::In(_) => false,
+        Record::Out(_) => parked.slot != exit_slot(column, m.direction),
+        _ => parked.slot != entry_slot(column, m.direction),
+    }
+}
+
+/// Columns from a carrier's attachment to the needle it works, for records that form a loop.
+pub fn float_columns(state: &State, record: &Record) -> Option<i32> {
+    let m = record.carrier_move().filter(|_| record.forms_loop())?;
+    let attachment = state.carriers[m.carrier]?.attachment?;
+    Some((state.column(attachment.needle) - state.column(m.needle)).abs())
+}
+
+fn float_too_long(state: &State, record: &Record) -> bool {
+    float_columns(state, record).is_some_and(|columns| columns > FLOAT_LIMIT)
+}
+
+fn not_opposite(state: &State, record: &Record) -> bool {
+    match record.transfer() {
+        Some((first, second)) => state.column(first) != state.column(second),
+        None => false,
+    }
+}
+
+fn hook_full(state: &State, record: &Record) -> bool {
+    match (record, record.transfer()) {
+        (Record::Tuck(m), _) => state.loops(m.needle) + 1 > HOOK_LIMIT,
+        (_, Some((first, second))) => state.loops(first) + state.loops(second) > HOOK_LIMIT,
+        _ => false,
+    }
+}
+
+pub fn holds(state: &State, record: &Record, number: u8) -> bool {
+    match number {
+        ALREADY_IN => already_in(state, record),
+        NOT_IN => not_in(state, record),
+        WRONG_SLOT => wrong_slot(state, record),
+        FLOAT_TOO_LONG => float_too_long(state, record),
+        NOT_OPPOSITE => not_opposite(state, record),
+        HOOK_FULL => hook_full(state, record),
+        _ => false,
+    }
+}
+
+/// The lowest number, 6 to 11, that holds.
+pub fn refusal(state: &State, record: &Record) -> Option<u8> {
+    (ALREADY_IN..=HOOK_FULL).find(|&number| holds(state, record, number))
+}
+
+/// The first record of the bytes and its length, or the lowest number, 3 to 11, that holds.
+pub fn look(state: &State, bytes: &[u8]) -> Result<(Record, usize), u8> {
+    let (record, length) = read_record(bytes)?;
+    match refusal(state, &record) {
+        None => Ok((record, length)),
+        Some(number) => Err(number),
+    }
+}
+
+// Steps.
+
+impl State {
+    fn park(&mut self, m: CarrierMove) {
+        let slot = exit_slot(self.column(m.needle), m.direction);
+        if let Some(parked) = &mut self.carriers[m.carrier] {
+            parked.slot = slot;
+        }
+    }
+
+    fn attach(&mut self, m: CarrierMove) {
+        if let Some(parked) = &mut self.carriers[m.carrier] {
+            parked.attachment = Some(Attachment {
+                needle: m.needle,
+                side: m.direction,
+            });
+        }
+    }
+
+    fn transfer(&mut self, first: Needle, second: Needle) {
+        self.set_loops(second, self.loops(first) + self.loops(second));
+        self.set_loops(first, 0);
+        for parked in self.carriers.iter_mut().flatten() {
+            if let Some(attachment) = &mut parked.attachment {
+                if attachment.needle == first {
+                    attachment.needle = second;
+                }
+            }
+        }
+    }
+
+    fn stitch(&mut self, m: CarrierMove, count: u8) {
+        self.set_loops(m.needle, count);
+        self.park(m);
+        self.attach(m);
+    }
+}
+
+/// Makes the step of a record that has no refusal.
+pub fn apply(state: &mut State, record: &Record) {
+    match *record {
+        Record::Rack(racking) => state.racking = racking,
+        Record::Drop(needle) => state.set_loops(needle, 0),
+        Record::Xfer(first, second) => state.transfer(first, second),
+        Record::In(m) => {
+            let slot = entry_slot(state.column(m.needle), m.direction);
+            state.carriers[m.carrier] = Some(Parked {
+                slot,
+                attachment: None,
+            });
+        }
+        Record::Out(m) => state.carriers[m.carrier] = None,
+        Record::Miss(m) => state.park(m),
+        Record::Tuck(m) => state.stitch(m, state.loops(m.needle) + 1),
+        Record::Knit(m) => state.stitch(m, 1),
+        Record::Split(m, second) => {
+            state.transfer(m.needle, second);
+            state.stitch(m, 1);
+        }
+    }
+}
+
+/// One record: the state changes only if there is no refusal.
+pub fn step(state: &mut State, record: &Record) -> Result<(), u8> {
+    match refusal(state, record) {
+        Some(number) => Err(number),
+        None => {
+            apply(state, record);
+            Ok(())
+        }
+    }
+}
+
+// The run.
+
+/// Runs the records in turn without a limit of length. Before each step, `watch` gets the state,
+/// the bytes from the record on, and the record's number.
+pub fn run_records(program: &[u8], mut watch: impl FnMut(&State, &[u8], u8)) -> Answer {
+    let mut state = State::empty();
+    let mut place = 0;
+    while place < program.len() {
+        let bytes = &program[place..];
+        match look(&state, bytes) {
+            Ok((record, length)) => {
+                watch(&state, bytes, DONE);
+                apply(&mut state, &record);
+                place += length;
+            }
+            Err(number) => {
+                watch(&state, bytes, number);
+                return Answer {
+                    number,
+                    place,
+                    state,
+                };
+            }
+        }
+    }
+    Answer {
+        number: DONE,
+        place: 0,
+        state,
+    }
+}
+
+pub fn run_watched(program: &[u8], watch: impl FnMut(&State, &[u8], u8)) -> Answer {
+    if program.len() > PROGRAM_LIMIT {
+        return Answer {
+            number: TOO_LONG,
+            place: 0,
+            state: State::empty(),
+        };
+    }
+    run_records(program, watch)
+}
+
+pub fn run(program: &[u8]) -> Answer {
+    run_watched(program, |_, _, _| {})
+}
