@@ -1,12 +1,12 @@
 -- Whole numbers for `omega`: z = up z - dn z, two naturals that it reads. Sums, differences and casts, once over the width. Assumes nothing.
 use Prim.Native.Nat.{ℕ, zero, suc, _+_, _-_, _≤_, _<_, _^_}
 use mathlib.Core.Path.{_≡_, refl, sym, ap, subst, _∙_}
-use mathlib.Core.Bool.{Bool, true, false, _&&_, cond}
+use mathlib.Core.Bool.{Bool, true, false, _&&_, not, cond}
 use native.Mathlib.Omega.{arith}
 use lib.IntN.{ℤ, pos, negsuc, _+ℤ_, _-ℤ_, negℤ, subℕ, natAbs}
-use lib.Signed.{leZ, mag}
+use lib.Signed.{leZ, ltZ, mag}
 use lib.Dec.{eqb, leb, ltb, leb·suc-suc}
-use borrow.Author.Tests.{eq-eqb, ne-eqb, eqb-true, eqb-false, ltb-true, ltb-false, leb-true, leb-false, le-leb, lt-leb}
+use borrow.Author.Tests.{eq-eqb, ne-eqb, eqb-true, eqb-false, ltb-true, ltb-false, leb-true, leb-false, lt-ltb, le-ltb, not-true, not-false}
 use mir.Syntax.{Width}
 use mir.Facts.{toZ-ofZ}
 use mir.Val.{SFits, hbits, toZ, ofZ}
@@ -90,6 +90,27 @@ eqZ-true (negsuc a) (negsuc b) e = ap negsuc (eqb-true a b e)
 
 pub eqZ-false : (a b : ℤ) → eqZ a b ≡ false → a ≡ b → ⊥
 eqZ-false a b e h = subst (λ (t : Bool). cond t ℕ ⊥) (sym (eqZ-yes a b h) ∙ e) 0
+
+-- a < b is the failure of b ≤ a
+lt-nle : (a b : ℤ) → ltZ a b ≡ not (leZ b a)
+lt-nle (pos a) (pos b) = go (leb b a) (λ e. leb-true b a e) (λ e. leb-false b a e)
+  where
+    go : (t : Bool) → (t ≡ true → b ≤ a) → (t ≡ false → a < b) → ltb a b ≡ not t
+    go true f g = le-ltb a b (f refl)
+    go false f g = lt-ltb a b (g refl)
+lt-nle (pos a) (negsuc b) = refl
+lt-nle (negsuc a) (pos b) = refl
+lt-nle (negsuc a) (negsuc b) = go (leb a b) (λ e. leb-true a b e) (λ e. leb-false a b e)
+  where
+    go : (t : Bool) → (t ≡ true → a ≤ b) → (t ≡ false → b < a) → ltb b a ≡ not t
+    go true f g = le-ltb b a (f refl)
+    go false f g = lt-ltb b a (g refl)
+
+pub ltZ-true : (a b : ℤ) → ltZ a b ≡ true → leZ b a ≡ false
+ltZ-true a b e = not-true (leZ b a) (sym (lt-nle a b) ∙ e)
+
+pub ltZ-false : (a b : ℤ) → ltZ a b ≡ false → leZ b a ≡ true
+ltZ-false a b e = not-false (leZ b a) (sym (lt-nle a b) ∙ e)
 
 -- magnitudes: mag z < k says -k ≤ z < k
 up-mag : (a : ℤ) → up a ≤ mag a

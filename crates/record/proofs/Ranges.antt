@@ -1,0 +1,41 @@
+-- What the range tests say. Assumes nothing.
+use Prim.Native.Nat.{ℕ, _≤_, _<_}
+use mathlib.Core.Path.{_≡_}
+use mathlib.Core.Bool.{true, _&&_}
+use native.Mathlib.Omega.{arith}
+use lib.Dec.{leb}
+use borrow.Author.Tests.{leb-true}
+use Rattle.machine.proofs.Laws.{and-two}
+use Rattle.record.specs.Format.{needleOk, numberOk, workOk}
+
+pub needle-bed : (bed n : ℕ) → needleOk bed n ≡ true → bed ≤ 1
+unfolding needleOk
+needle-bed bed n e = leb-true bed 1 (and-two (leb bed 1) (numberOk n) e .0)
+
+pub needle-number : (bed n : ℕ) → needleOk bed n ≡ true → n ≤ 249
+unfolding needleOk
+needle-number bed n e = leb-true n 249 (and-two (leb bed 1) (numberOk n) e .1)
+
+module _ (right bed n k : ℕ) (e : workOk right bed n k ≡ true) where
+  pub work-right : right ≤ 1
+  unfolding workOk
+  work-right = leb-true right 1 (and-two (leb right 1) (needleOk bed n && (leb 1 k && leb k 10)) e .0)
+
+  work-rest : (needleOk bed n ≡ true) × ((leb 1 k && leb k 10) ≡ true)
+  unfolding workOk
+  work-rest = and-two (needleOk bed n) (leb 1 k && leb k 10) (and-two (leb right 1) (needleOk bed n && (leb 1 k && leb k 10)) e .1)
+
+  pub work-bed : bed ≤ 1
+  work-bed = needle-bed bed n (work-rest .0)
+
+  pub work-number : n ≤ 249
+  work-number = needle-number bed n (work-rest .0)
+
+  pub work-low : 1 ≤ k
+  work-low = leb-true 1 k (and-two (leb 1 k) (leb k 10) (work-rest .1) .0)
+
+  pub work-high : k ≤ 10
+  work-high = leb-true k 10 (and-two (leb 1 k) (leb k 10) (work-rest .1) .1)
+
+pub four : (k : ℕ) → 1 ≤ k → (k ≡ 1 → ⊥) → (k ≡ 2 → ⊥) → (k ≡ 3 → ⊥) → 4 ≤ k
+four k h a b d = omega arith

@@ -1,0 +1,196 @@
+// The byte format: the kinds and lengths of records, their fields, and a record decoded.
+ghost use mathlib.Core.Path.{_≡_};
+ghost use Prim.Native.Nat.{_<_};
+ghost use lib.ListN.{length, getD};
+ghost use Rattle.record.specs.Format.{signedOf, needleOk, workOk, refusedAs, whole, rackAt, dropAt, xferAt, workAt, splitAt, decodeOf};
+use machine::Needle;
+use machine::Racking;
+
+// A record by its fields; 0 where its kind has no such field.
+pub struct Record {
+    pub kind: u8,
+    pub racking: Racking,
+    // the direction: true for right
+    pub right: bool,
+    pub at: Needle,
+    pub carrier: u8,
+    pub to: Needle,
+}
+
+// The first record of a slice: a refusal's number, or 0 with the record and its length.
+pub struct Decoded {
+    pub number: u8,
+    pub size: usize,
+    pub what: Record,
+}
+
+pub const UNKNOWN_KIND: u8 = 3;
+pub const CUT_SHORT: u8 = 4;
+pub const FIELD_RANGE: u8 = 5;
+
+// A byte in two's complement.
+fn signed(b: u8) -> i8
+    ensures { λ z. ⌜ z ≡ signedOf b ⌝ }
+{
+    if b < 128 { b as i8 } else { ((b as i16) - 256) as i8 }
+}
+
+// A byte of a slice that is long enough.
+fn byte(l: &[u8], i: usize) -> u8
+    requires { ⌜ i < length (now l) ⌝ }
+    ensures { λ b. ⌜ b ≡ getD (now (l .entry)) i 0 ⌝ }
+{
+    l[i]
+}
+
+fn refused(number: u8) -> Decoded
+    ensures { λ d. ⌜ d ≡ refusedAs number ⌝ }
+{
+    let none = Needle(0, 0);
+    let what = Record { kind: 0, racking: Racking(0), right: false, at: none, carrier: 0, to: none };
+    Decoded { number, size: 0, what }
+}
+
+// Rack: the new racking.
+fn rack(l: &[u8]) -> Decoded
+    ensures { λ d. ⌜ d ≡ whole (now (l .entry)) 2 (rackAt (now (l .entry))) ⌝ }
+{
+    if l.len() < 2 {
+        return refused(4);
+    }
+    let z = signed(byte(l, 1));
+    if z < -8 {
+        return refused(5);
+    }
+    if 8 < z {
+        return refused(5);
+    }
+    let none = Needle(0, 0);
+    let racking = Racking(z);
+    let what = Record { kind: 1, racking, right: false, at: none, carrier: 0, to: none };
+    Decoded { number: 0, size: 2, what }
+}
+
+fn needle_ok(bed: u8, n: u8) -> bool
+    ensures { λ b. ⌜ b ≡ needleOk bed n ⌝ }
+{
+    if 1 < bed {
+        return false;
+    }
+    n <= 249
+}
+
+fn work_ok(right: u8, bed: u8, n: u8, k: u8) -> bool
+    ensures { λ b. ⌜ b ≡ workOk right bed n k ⌝ }
+{
+    if 1 < right {
+        return false;
+    }
+    if !needle_ok(bed, n) {
+        return false;
+    }
+    if k < 1 {
+        return false;
+    }
+    k <= 10
+}
+
+// Drop: bed, needle.
+fn drop(l: &[u8]) -> Decoded
+    ensures { λ d. ⌜ d ≡ whole (now (l .entry)) 3 (dropAt (now (l .entry))) ⌝ }
+{
+    if l.len() < 3 {
+        return refused(4);
+    }
+    let bed = byte(l, 1);
+    let n = byte(l, 2);
+    if !needle_ok(bed, n) {
+        return refused(5);
+    }
+    let at = Needle(bed, n as u16);
+    let what = Record { kind: 2, racking: Racking(0), right: false, at, carrier: 0, to: Needle(0, 0) };
+    Decoded { number: 0, size: 3, what }
+}
+
+// Xfer: bed, needle, needle on the other bed.
+fn xfer(l: &[u8]) -> Decoded
+    ensures { λ d. ⌜ d ≡ whole (now (l .entry)) 4 (xferAt (now (l .entry))) ⌝ }
+{
+    if l.len() < 4 {
+        return refused(4);
+    }
+    let bed = byte(l, 1);
+    let n = byte(l, 2);
+    let m = byte(l, 3);
+    if !needle_ok(bed, n) {
+        return refused(5);
+    }
+    if 249 < m {
+        return refused(5);
+    }
+    let at = Needle(bed, n as u16);
+    let to = Needle(1 - bed, m as u16);
+    let what = Record { kind: 3, racking: Racking(0), right: false, at, carrier: 0, to };
+    Decoded { number: 0, size: 4, what }
+}
+
+// In, out, miss, tuck and knit: direction, bed, needle, carrier.
+fn work(kind: u8, l: &[u8]) -> Decoded
+    ensures { λ d. ⌜ d ≡ whole (now (l .entry)) 5 (workAt kind (now (l .entry))) ⌝ }
+{
+    if l.len() < 5 {
+        return refused(4);
+    }
+    let right = byte(l, 1);
+    let bed = byte(l, 2);
+    let n = byte(l, 3);
+    let k = byte(l, 4);
+    if !work_ok(right, bed, n, k) {
+        return refused(5);
+    }
+    let at = Needle(bed, n as u16);
+    let what = Record { kind, racking: Racking(0), right: right == 1, at, carrier: k, to: Needle(0, 0) };
+    Decoded { number: 0, size: 5, what }
+}
+
+// Split: direction, bed, needle, carrier, needle on the other bed.
+fn split(l: &[u8]) -> Decoded
+    ensures { λ d. ⌜ d ≡ whole (now (l .entry)) 6 (splitAt (now (l .entry))) ⌝ }
+{
+    if l.len() < 6 {
+        return refused(4);
+    }
+    let right = byte(l, 1);
+    let bed = byte(l, 2);
+    let n = byte(l, 3);
+    let k = byte(l, 4);
+    let m = byte(l, 5);
+    if !work_ok(right, bed, n, k) {
+        return refused(5);
+    }
+    if 249 < m {
+        return refused(5);
+    }
+    let at = Needle(bed, n as u16);
+    let to = Needle(1 - bed, m as u16);
+    let what = Record { kind: 9, racking: Racking(0), right: right == 1, at, carrier: k, to };
+    Decoded { number: 0, size: 6, what }
+}
+
+// The first record of the slice.
+pub fn decode(l: &[u8]) -> Decoded
+    ensures { λ d. ⌜ d ≡ decodeOf (now (l .entry)) ⌝ }
+{
+    if l.len() == 0 {
+        return refused(4);
+    }
+    let kind = byte(l, 0);
+    match kind {
+        1 => rack(l),
+        2 => drop(l),
+        3 => xfer(l),
+        4..=8 => work(kind, l),
+        9 => split(l),
+        _ => refused(3),
+    }
+}
