@@ -1,0 +1,54 @@
+-- Demand 2: what the run says of every program, against the validity relation.
+use Prim.Native.Nat.{ℕ, _≤_, _<_}
+use mathlib.Core.Path.{_≡_}
+use mathlib.Core.Bool.{Bool, true}
+use mathlib.Core.List.{List, _++_}
+use mathlib.Core.Logic.{_↔_}
+use lib.ListN.{length, take, drop}
+use Rattle.machine.specs.declared.State.{State}
+use Rattle.machine.specs.Machine.{emptyState}
+use Rattle.record.specs.declared.Record.{Record}
+use Rattle.record.specs.Format.{Form}
+use Rattle.run.specs.declared.Answer.{Answer}
+use Rattle.run.specs.Relation.{Step, Steps, Valid}
+use Rattle.run.specs.Reason.{Reason}
+use Rattle.run.specs.Run.{runOf}
+
+-- the run accepts a program exactly if it is valid
+abbrev pub AcceptsExactlyValid : Type 0
+AcceptsExactlyValid = (p : List ℕ) → (runOf p .number ≡ 0) ↔ ((t : State) × Valid p t)
+
+-- and then gives the relation's final racking, loops, parking and attachments, at place 0
+pub record Done (p : List ℕ) (t : State) (a : Answer) : Type 0 where
+  pub number : a .number ≡ 0
+  pub place : a .place ≡ 0
+  pub state : a .state ≡ t
+
+abbrev pub GivesFinalState : Type 0
+GivesFinalState = (p : List ℕ) (t : State) → Valid p t → Done p t (runOf p)
+
+-- a program that is too long gets 1, and only such a program; place 0, the empty state
+abbrev pub TooLongExactly : Type 0
+TooLongExactly = (p : List ℕ) → (runOf p .number ≡ 1) ↔ (32768 < length p)
+
+abbrev pub TooLongAnswer : Type 0
+TooLongAnswer = (p : List ℕ) → 32768 < length p → runOf p ≡ record { number = 1; place = 0; complete = true; state = emptyState }
+
+-- the first record that has no step, and the first reason that holds
+pub record FirstRefusal (p : List ℕ) (a : Answer) : Type 0 where
+  -- there is something at the place
+  pub within : a .place < length p
+  -- the records before it have their steps, and the state is the one they end in
+  pub before : Steps emptyState (take (a .place) p) (a .state)
+  -- no record there has a step
+  pub no-step : (bytes rest : List ℕ) (x : Record) (t : State) → drop (a .place) p ≡ bytes ++ rest → Form bytes x → Step (a .state) x t → ⊥
+  -- the number's reason holds there, and no reason of a smaller number does
+  pub reason : Reason (a .number) (a .state) (drop (a .place) p)
+  pub least : (m : ℕ) → m < a .number → Reason m (a .state) (drop (a .place) p) → ⊥
+
+abbrev pub RefusesFirst : Type 0
+RefusesFirst = (p : List ℕ) → length p ≤ 32768 → (runOf p .number ≡ 0 → ⊥) → FirstRefusal p (runOf p)
+
+-- complete says whether the state is the empty one, whatever the number
+abbrev pub CompleteIsEmpty : Type 0
+CompleteIsEmpty = (p : List ℕ) → (runOf p .complete ≡ true) ↔ (runOf p .state ≡ emptyState)

@@ -1,0 +1,24 @@
+-- The parts of a step that work on the loops alone, as the code's small functions make them.
+use Prim.Native.Nat.{ℕ, _+_, _-_, _≤_, _<_}
+use mathlib.Core.Bool.{Bool, cond}
+use mathlib.Core.List.{List}
+use lib.ListN.{getD, set}
+use lib.Dec.{eqb, leb}
+use Rattle.machine.specs.declared.Needle.{Needle}
+use Rattle.machine.specs.declared.Racking.{Racking}
+use Rattle.machine.specs.Machine.{hookOf}
+use Rattle.machine.specs.Geometry.{columnOf, sameColumn}
+
+-- one loop more, and its refusal
+unfoldable pub tuckNo : ℕ → ℕ
+tuckNo here = cond (leb (here + 1) 8) 0 11
+
+unfoldable pub tucked : List ℕ → Needle → List ℕ
+tucked l n = cond (eqb (tuckNo (getD l (hookOf n) 0)) 0) (set l (hookOf n) (getD l (hookOf n) 0 + 1)) l
+
+-- the loops at a go to b and v are left, and its refusal
+unfoldable pub transferNo : List ℕ → Needle → Needle → Racking → ℕ
+transferNo l a b r = cond (sameColumn (columnOf a r) (columnOf b r)) (cond (leb (getD l (hookOf a) 0 + getD l (hookOf b) 0) 8) 0 11) 10
+
+unfoldable pub transferredLoops : List ℕ → Needle → Needle → Racking → ℕ → List ℕ
+transferredLoops l a b r v = cond (eqb (transferNo l a b r) 0) (set (set l (hookOf a) v) (hookOf b) (getD l (hookOf a) 0 + getD l (hookOf b) 0)) l

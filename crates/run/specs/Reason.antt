@@ -1,0 +1,95 @@
+-- Why a record has no step: the rows 3 to 11 of document 01's table, each said by itself.
+use Prim.Native.Nat.{ℕ, _+_, _≤_, _<_}
+use mathlib.Core.Path.{_≡_}
+use mathlib.Core.Bool.{Bool, true, false, _&&_, cond}
+use mathlib.Core.List.{List, [], _∷_, _++_}
+use lib.Dec.{eqb, leb}
+use lib.IntN.{_-ℤ_, natAbs}
+use lib.ListN.{length}
+use Rattle.machine.specs.declared.Slot.{Slot}
+use Rattle.machine.specs.declared.Carrier.{Carrier}
+use Rattle.machine.specs.declared.State.{State}
+use Rattle.machine.specs.Machine.{loopsOn, carrierOf}
+use Rattle.machine.specs.Geometry.{columnOf}
+use Rattle.record.specs.declared.Record.{Record}
+use Rattle.record.specs.Format.{Form, sizeOf, byte, rackOk, needleOk, numberOk, workOk}
+use Rattle.run.specs.Relation.{Active, Inactive, Attached, ParkedAt, Opposite, entrySlot, exitSlot}
+
+-- a known kind with all its bytes there
+pub record Whole (l : List ℕ) : Type 0 where
+  pub some : 0 < length l
+  pub known : sizeOf (byte l 0) ≡ 0 → ⊥
+  pub long : sizeOf (byte l 0) ≤ length l
+
+-- 3, strange: a byte that is no kind
+pub record UnknownKind (l : List ℕ) : Type 0 where
+  pub some : 0 < length l
+  pub unknown : sizeOf (byte l 0) ≡ 0
+
+-- 4, cut short: no byte, or fewer than the kind needs
+pub data CutShort (l : List ℕ) : Type 0 where
+  no-byte : length l ≡ 0 → CutShort l
+  too-few : (sizeOf (byte l 0) ≡ 0 → ⊥) → length l < sizeOf (byte l 0) → CutShort l
+
+-- 5, field: a field outside its range, by the kind
+unfoldable pub fieldsOk : List ℕ → Bool
+fieldsOk l =
+    cond (eqb (byte l 0) 1) (rackOk (byte l 1))
+    (cond (eqb (byte l 0) 2) (needleOk (byte l 1) (byte l 2))
+    (cond (eqb (byte l 0) 3) (needleOk (byte l 1) (byte l 2) && numberOk (byte l 3))
+    (cond (eqb (byte l 0) 9) (workOk (byte l 1) (byte l 2) (byte l 3) (byte l 4) && numberOk (byte l 5))
+    (workOk (byte l 1) (byte l 2) (byte l 3) (byte l 4)))))
+
+pub record FieldRange (l : List ℕ) : Type 0 where
+  pub whole : Whole l
+  pub outside : fieldsOk l ≡ false
+
+module _ (s : State) (x : Record) where
+  -- 6, already in: in for an active carrier
+  pub record AlreadyIn : Type 0 where
+    pub kind : x .kind ≡ 4
+    pub active : Active (carrierOf s (x .carrier))
+
+  -- 7, not in: any other use of an inactive one
+  pub record NotIn : Type 0 where
+    pub kind : 5 ≤ x .kind
+    pub carrier-off : Inactive (carrierOf s (x .carrier))
+
+  -- 8, elsewhere: parked at the wrong slot, which is not the exit slot for out and not the entry slot for the rest
+  pub record WrongSlot : Type 0 where
+    pub kind : 5 ≤ x .kind
+    pub active : Active (carrierOf s (x .carrier))
+    pub elsewhere : carrierOf s (x .carrier) .slot ≡ cond (eqb (x .kind) 5) (exitSlot s x) (entrySlot s x) → ⊥
+
+  -- 9, float: over 20 columns, for tuck, knit and split
+  pub record FloatTooLong : Type 0 where
+    pub kind : 7 ≤ x .kind
+    pub attached : Attached (carrierOf s (x .carrier))
+    pub over : 20 < natAbs (columnOf (carrierOf s (x .carrier) .needle) (s .racking) .0 -ℤ columnOf (x .at) (s .racking) .0)
+
+  -- 10, not opposite: columns differ, for xfer and split
+  pub data NotOpposite : Type 0 where
+    xfer : x .kind ≡ 3 → (Opposite s x → ⊥) → NotOpposite
+    split : x .kind ≡ 9 → (Opposite s x → ⊥) → NotOpposite
+
+  -- 11, hook full: over 8 loops on a hook, the worked one of a tuck, the second of an xfer or split
+  pub data HookFull : Type 0 where
+    tuck : x .kind ≡ 7 → 8 < loopsOn s (x .at) + 1 → HookFull
+    xfer : x .kind ≡ 3 → 8 < loopsOn s (x .at) + loopsOn s (x .to) → HookFull
+    split : x .kind ≡ 9 → 8 < loopsOn s (x .at) + loopsOn s (x .to) → HookFull
+
+-- a reason by its number: of a record
+pub data RecordReason (n : ℕ) (s : State) (x : Record) : Type 0 where
+  already-in : n ≡ 6 → AlreadyIn s x → RecordReason n s x
+  not-in : n ≡ 7 → NotIn s x → RecordReason n s x
+  wrong-slot : n ≡ 8 → WrongSlot s x → RecordReason n s x
+  float-too-long : n ≡ 9 → FloatTooLong s x → RecordReason n s x
+  not-opposite : n ≡ 10 → NotOpposite s x → RecordReason n s x
+  hook-full : n ≡ 11 → HookFull s x → RecordReason n s x
+
+-- and of bytes that begin with a record, or with none
+pub data Reason (n : ℕ) (s : State) (l : List ℕ) : Type 0 where
+  unknown-kind : n ≡ 3 → UnknownKind l → Reason n s l
+  cut-short : n ≡ 4 → CutShort l → Reason n s l
+  field-range : n ≡ 5 → FieldRange l → Reason n s l
+  of-record : (bytes rest : List ℕ) (x : Record) → l ≡ bytes ++ rest → Form bytes x → RecordReason n s x → Reason n s l

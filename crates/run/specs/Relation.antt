@@ -1,0 +1,106 @@
+-- The validity relation, in the shape of 000 (Definition 5.4, Figure 11): one rule for each kind of record, with the premises of document 01, 'Steps'.
+use Prim.Native.Nat.{ℕ, _+_, _-_, _≤_, _<_}
+use mathlib.Core.Path.{_≡_}
+use mathlib.Core.Bool.{Bool, cond}
+use mathlib.Core.List.{List, [], _∷_, _++_, map}
+use lib.IntN.{pos, _-ℤ_, natAbs}
+use lib.ListN.{set, length}
+use Rattle.machine.specs.declared.Needle.{Needle}
+use Rattle.machine.specs.declared.Racking.{Racking}
+use Rattle.machine.specs.declared.Slot.{Slot}
+use Rattle.machine.specs.declared.Carrier.{Carrier}
+use Rattle.machine.specs.declared.State.{State}
+use Rattle.machine.specs.Machine.{inactive, emptyState, hookOf, loopsOn, carrierOf, movedTo}
+use Rattle.machine.specs.Geometry.{columnOf, entryOf, exitOf}
+use Rattle.record.specs.declared.Record.{Record}
+use Rattle.record.specs.Format.{Form}
+
+-- a state with one thing changed: the racking, the loops on a hook, carrier k
+abbrev pub racked : State → Racking → State
+racked s r = record { racking = r; loops = s .loops; carriers = s .carriers }
+
+abbrev pub withLoops : State → Needle → ℕ → State
+withLoops s n v = record { racking = s .racking; loops = set (s .loops) (hookOf n) v; carriers = s .carriers }
+
+abbrev pub withCarrier : State → ℕ → Carrier → State
+withCarrier s k c = record { racking = s .racking; loops = s .loops; carriers = set (s .carriers) (k - 1) c }
+
+-- all loops and attachments at one needle go to another, sides kept
+abbrev pub transferred : State → Needle → Needle → State
+transferred s a b =
+    record {
+      racking = s .racking;
+      loops = set (set (s .loops) (hookOf a) 0) (hookOf b) (loopsOn s a + loopsOn s b);
+      carriers = map (movedTo a b) (s .carriers) }
+
+-- where a record's carrier stands before it passes the needle, and after
+abbrev pub entrySlot : State → Record → Slot
+entrySlot s x = entryOf (columnOf (x .at) (s .racking)) (x .right)
+
+abbrev pub exitSlot : State → Record → Slot
+exitSlot s x = exitOf (columnOf (x .at) (s .racking)) (x .right)
+
+-- a carrier that parks unattached; one that is parked elsewhere, its attachment kept; one that is attached on the side it moved to
+abbrev pub unattached : Slot → Carrier
+unattached z = record { active = 1; side = 0; slot = z; needle = record { 0 = 0; 1 = 0 } }
+
+abbrev pub parkedOn : Carrier → Slot → Carrier
+parkedOn c z = record { active = 1; side = c .side; slot = z; needle = c .needle }
+
+abbrev pub attached : Slot → Needle → Bool → Carrier
+attached z n right = record { active = 1; side = cond right 2 1; slot = z; needle = n }
+
+-- the premises
+abbrev pub Active : Carrier → Type 0
+Active c = c .active ≡ 0 → ⊥
+
+abbrev pub Inactive : Carrier → Type 0
+Inactive c = c .active ≡ 0
+
+abbrev pub Attached : Carrier → Type 0
+Attached c = c .side ≡ 0 → ⊥
+
+pub record ParkedAt (c : Carrier) (z : Slot) : Type 0 where
+  pub active : Active c
+  pub here : c .slot ≡ z
+
+-- an attached carrier's needle is at most 20 columns from the needle worked
+abbrev pub Floats : State → Record → Type 0
+Floats s x = Attached (carrierOf s (x .carrier)) → natAbs (columnOf (carrierOf s (x .carrier) .needle) (s .racking) .0 -ℤ columnOf (x .at) (s .racking) .0) ≤ 20
+
+-- both needles have the same column
+abbrev pub Opposite : State → Record → Type 0
+Opposite s x = columnOf (x .at) (s .racking) ≡ columnOf (x .to) (s .racking)
+
+-- a hook holds 0 to 8 loops
+abbrev pub Room : ℕ → Type 0
+Room n = n ≤ 8
+
+-- executing x on s produces t
+pub data Step (s : State) (x : Record) : State → Type 0 where
+  rack : x .kind ≡ 1 → Step s x (racked s (x .racking))
+  drop : x .kind ≡ 2 → Step s x (withLoops s (x .at) 0)
+  xfer : x .kind ≡ 3 → Opposite s x → Room (loopsOn s (x .at) + loopsOn s (x .to))
+      → Step s x (transferred s (x .at) (x .to))
+  carrier-in : x .kind ≡ 4 → Inactive (carrierOf s (x .carrier))
+      → Step s x (withCarrier s (x .carrier) (unattached (entrySlot s x)))
+  carrier-out : x .kind ≡ 5 → ParkedAt (carrierOf s (x .carrier)) (exitSlot s x)
+      → Step s x (withCarrier s (x .carrier) inactive)
+  miss : x .kind ≡ 6 → ParkedAt (carrierOf s (x .carrier)) (entrySlot s x)
+      → Step s x (withCarrier s (x .carrier) (parkedOn (carrierOf s (x .carrier)) (exitSlot s x)))
+  tuck : x .kind ≡ 7 → ParkedAt (carrierOf s (x .carrier)) (entrySlot s x) → Floats s x → Room (loopsOn s (x .at) + 1)
+      → Step s x (withCarrier (withLoops s (x .at) (loopsOn s (x .at) + 1)) (x .carrier) (attached (exitSlot s x) (x .at) (x .right)))
+  knit : x .kind ≡ 8 → ParkedAt (carrierOf s (x .carrier)) (entrySlot s x) → Floats s x
+      → Step s x (withCarrier (withLoops s (x .at) 1) (x .carrier) (attached (exitSlot s x) (x .at) (x .right)))
+  split : x .kind ≡ 9 → ParkedAt (carrierOf s (x .carrier)) (entrySlot s x) → Floats s x → Opposite s x → Room (loopsOn s (x .at) + loopsOn s (x .to))
+      → Step s x (withCarrier (withLoops (transferred s (x .at) (x .to)) (x .at) 1) (x .carrier) (attached (exitSlot s x) (x .at) (x .right)))
+
+-- the records of a list of bytes, each with its step in turn (000: V-seq)
+pub data Steps : State → List ℕ → State → Type 0 where
+  none : {s : State} → Steps s [] s
+  next : {s t u : State} {bytes rest : List ℕ} {x : Record} → Form bytes x → Step s x t → Steps t rest u → Steps s (bytes ++ rest) u
+
+-- a valid program and its final state
+pub record Valid (p : List ℕ) (t : State) : Type 0 where
+  pub short : length p ≤ 32768
+  pub steps : Steps emptyState p t

@@ -1,0 +1,125 @@
+-- The step as code makes it: what a record sees, what it decides, what is stored. One shape for every kind.
+use Prim.Native.Nat.{ℕ, _+_, _-_, _≤_, _<_}
+use mathlib.Core.Path.{_≡_}
+use mathlib.Core.Bool.{Bool, true, false, _&&_, not, cond}
+use mathlib.Core.List.{List, [], _∷_, map}
+use lib.IntN.{pos}
+use lib.ListN.{getD, set}
+use lib.Dec.{eqb, leb}
+use Rattle.machine.specs.declared.Needle.{Needle}
+use Rattle.machine.specs.declared.Column.{Column}
+use Rattle.machine.specs.declared.Racking.{Racking}
+use Rattle.machine.specs.declared.Slot.{Slot}
+use Rattle.machine.specs.declared.Carrier.{Carrier}
+use Rattle.machine.specs.declared.State.{State}
+use Rattle.machine.specs.Machine.{inactive, hookOf, loopsOn, carrierOf, movedTo}
+use Rattle.machine.specs.Geometry.{eqZ, columnOf, entryOf, exitOf, sameColumn, withinFloat}
+use Rattle.record.specs.declared.Record.{Record}
+use Rattle.record.specs.Names.{needlesIn, needlesOf, carriersOf}
+
+-- ---- see: a carrier shows the column of its attachment and not the needle
+pub record Look : Type 0 where
+  pub active : Bool
+  pub slot : Slot
+  pub attached : Bool
+  pub column : Column
+
+pub record Seen : Type 0 where
+  pub racking : Racking
+  pub here : ℕ
+  pub there : ℕ
+  pub look : Look
+
+unfoldable pub lookOf : Racking → Carrier → Look
+lookOf r c = record { active = not (eqb (c .active) 0); slot = c .slot; attached = not (eqb (c .side) 0); column = columnOf (c .needle) r }
+
+unfoldable pub seeOf : State → Record → Seen
+seeOf s x = record { racking = s .racking; here = loopsOn s (x .at); there = loopsOn s (x .to); look = lookOf (s .racking) (carrierOf s (x .carrier)) }
+
+-- ---- decide: the number is the first that holds, 0 for none
+abbrev pub orNumber : ℕ → ℕ → ℕ
+orNumber a b = cond (eqb a 0) b a
+
+-- 7 and 8: parked at a slot
+unfoldable pub parkedNo : Look → Slot → ℕ
+parkedNo c z = cond (c .active) (cond (eqZ (c .slot .0) (z .0)) 0 8) 7
+
+-- 9: a float to a column
+unfoldable pub floatNo : Look → Column → ℕ
+floatNo c z = cond (c .attached) (cond (withinFloat (c .column) z) 0 9) 0
+
+-- 6 to 9: the carrier is inactive for in, at the exit slot for out, at the entry slot for the rest, and near for tuck, knit and split
+unfoldable pub carrierNo : Record → Racking → Look → ℕ
+carrierNo x r c =
+    cond (leb (x .kind) 3) 0
+    (cond (eqb (x .kind) 4) (cond (c .active) 6 0)
+    (cond (eqb (x .kind) 5) (parkedNo c (exitOf (columnOf (x .at) r) (x .right)))
+    (cond (eqb (x .kind) 6) (parkedNo c (entryOf (columnOf (x .at) r) (x .right)))
+    (orNumber (parkedNo c (entryOf (columnOf (x .at) r) (x .right))) (floatNo c (columnOf (x .at) r))))))
+
+-- 10: the two needles of xfer and split
+unfoldable pub oppositeNo : Record → Racking → ℕ
+oppositeNo x r = cond (eqb (needlesIn (x .kind)) 2) (cond (sameColumn (columnOf (x .at) r) (columnOf (x .to) r)) 0 10) 0
+
+-- the loops on the first needle and on the second, afterwards
+unfoldable pub firstAfter : ℕ → ℕ → ℕ
+firstAfter kind here = cond (eqb kind 7) (here + 1) (cond (leb kind 7) 0 1)
+
+unfoldable pub secondAfter : ℕ → ℕ → ℕ → ℕ
+secondAfter kind here there = cond (eqb (needlesIn kind) 2) (here + there) 0
+
+-- 11: either is over 8
+unfoldable pub roomNo : ℕ → ℕ → ℕ → ℕ
+roomNo kind here there = cond (leb (firstAfter kind here) 8) (cond (leb (secondAfter kind here there) 8) 0 11) 11
+
+unfoldable pub numberOf : Record → Seen → ℕ
+numberOf x s = orNumber (carrierNo x (s .racking) (s .look)) (orNumber (oppositeNo x (s .racking)) (roomNo (x .kind) (s .here) (s .there)))
+
+-- ---- apply: edits at listed places
+module _ {A W : Type 0} (act : W → A → A) (d : A) where
+  unfoldable pub edit : List ℕ → List W → List A → List A
+  edit [] vs l = l
+  edit (i ∷ is) [] l = l
+  edit (i ∷ is) (v ∷ vs) l = edit is vs (set l i (act v (getD l i d)))
+
+abbrev pub stored : ℕ → ℕ → ℕ
+stored v old = v
+
+-- what becomes of a carrier: parked or not, its attachment kept or replaced
+pub record Act : Type 0 where
+  pub active : ℕ
+  pub slot : Slot
+  pub keep : Bool
+  pub side : ℕ
+  pub needle : Needle
+
+abbrev pub noNeedle : Needle
+noNeedle = record { 0 = 0; 1 = 0 }
+
+unfoldable pub actOf : Record → Racking → Act
+actOf x r =
+    cond (leb (x .kind) 4) (record { active = 1; slot = entryOf (columnOf (x .at) r) (x .right); keep = false; side = 0; needle = noNeedle })
+    (cond (eqb (x .kind) 5) (record { active = 0; slot = record { 0 = pos 0 }; keep = false; side = 0; needle = noNeedle })
+    (cond (eqb (x .kind) 6) (record { active = 1; slot = exitOf (columnOf (x .at) r) (x .right); keep = true; side = 0; needle = noNeedle })
+    (record { active = 1; slot = exitOf (columnOf (x .at) r) (x .right); keep = false; side = cond (x .right) 2 1; needle = x .at })))
+
+unfoldable pub acted : Act → Carrier → Carrier
+acted a c = record { active = a .active; side = cond (a .keep) (c .side) (a .side); slot = a .slot; needle = cond (a .keep) (c .needle) (a .needle) }
+
+-- a record with two needles takes the attachments along
+unfoldable pub moveAttachments : Record → List Carrier → List Carrier
+moveAttachments x l = cond (eqb (needlesIn (x .kind)) 2) (map (movedTo (x .at) (x .to)) l) l
+
+unfoldable pub rackingAfter : Record → Racking → Racking
+rackingAfter x r = cond (leb (x .kind) 1) (x .racking) r
+
+-- ---- the step of a record: its number, and the state after it where that is 0
+unfoldable pub numberAt : State → Record → ℕ
+numberAt s x = numberOf x (seeOf s x)
+
+unfoldable pub applyOf : State → Record → State
+applyOf s x =
+    record {
+      racking = rackingAfter x (s .racking);
+      loops = edit stored 0 (map hookOf (needlesOf x)) (firstAfter (x .kind) (loopsOn s (x .at)) ∷ secondAfter (x .kind) (loopsOn s (x .at)) (loopsOn s (x .to)) ∷ []) (s .loops);
+      carriers = edit acted inactive (map (λ (k : ℕ). k - 1) (carriersOf x)) (actOf x (s .racking) ∷ []) (moveAttachments x (s .carriers)) }

@@ -1,0 +1,133 @@
+// The step of a record and the run of a program, with the refusals 1 and 3 to 11.
+ghost use mathlib.Core.Path.{_≡_};
+ghost use mathlib.Core.Bool.{cond};
+ghost use Prim.Native.Nat.{_+_, _-_, _≤_, _<_};
+ghost use lib.Dec.{eqb};
+ghost use lib.ListN.{getD, set};
+ghost use Rattle.machine.specs.Machine.{OnBed, hookOf};
+ghost use Rattle.machine.specs.Geometry.{columnOf, entryOf, exitOf};
+ghost use Rattle.run.specs.Relation.{attached};
+ghost use Rattle.run.specs.Step.{lookOf, parkedNo, floatNo, orNumber};
+ghost use Rattle.run.specs.Leaves.{tuckNo, tucked, transferNo, transferredLoops};
+ghost use Rattle.run.specs.Run.{runFrom, runOf, stepOf};
+use machine::Carrier;
+use machine::Needle;
+use machine::Racking;
+use machine::Slot;
+use machine::State;
+
+// Where a run stopped: the refusal's number and the record's start, or 0 and 0, and the state.
+pub struct Reached {
+    pub number: u8,
+    pub place: usize,
+    pub state: State,
+}
+
+// The same with whether the state is the empty one.
+pub struct Answer {
+    pub number: u8,
+    pub place: usize,
+    pub complete: bool,
+    pub state: State,
+}
+
+// One step: the refusal's number and 0, or 0 and the record's length, and the state.
+pub struct Stepped {
+    pub number: u8,
+    pub length: usize,
+    pub state: State,
+}
+
+pub const TOO_LONG: u8 = 1;
+pub const ALREADY_IN: u8 = 6;
+pub const NOT_IN: u8 = 7;
+pub const WRONG_SLOT: u8 = 8;
+pub const FLOAT_TOO_LONG: u8 = 9;
+pub const NOT_OPPOSITE: u8 = 10;
+pub const HOOK_FULL: u8 = 11;
+
+// Whether the carrier is parked at the slot: 0, or 7 or 8.
+fn parked(c: Carrier, z: Slot, r: Racking) -> u8
+    ensures { λ n. ⌜ n ≡ parkedNo (lookOf r c) z ⌝ }
+{
+    if c.active == 0 {
+        return 7;
+    }
+    let here = c.slot;
+    if here.0 == z.0 { 0 } else { 8 }
+}
+
+// Whether the carrier can form a loop at the needle: 0, or 7 to 9.
+fn ready(c: Carrier, n: Needle, r: Racking, right: bool) -> u8
+    ensures { λ k. ⌜ k ≡ orNumber (parkedNo (lookOf r c) (entryOf (columnOf n r) right)) (floatNo (lookOf r c) (columnOf n r)) ⌝ }
+{
+    let number = parked(c, n.entry(r, right), r);
+    if number != 0 {
+        return number;
+    }
+    if c.side == 0 {
+        return 0;
+    }
+    let last = c.needle;
+    let z = last.column(r);
+    if z.near(n.column(r)) { 0 } else { 9 }
+}
+
+// The carrier after it formed a loop at the needle.
+fn attach(n: Needle, r: Racking, right: bool) -> Carrier
+    ensures { λ c. ⌜ c ≡ attached (exitOf (columnOf n r) right) n right ⌝ }
+{
+    let slot = n.exit(r, right);
+    let side = if right { 2 } else { 1 };
+    Carrier { active: 1, side, slot, needle: n }
+}
+
+// Leaves v loops on the needle's hook.
+fn put(loops: &mut [u8; 500], n: Needle, v: u8)
+    requires { ⌜ OnBed n ⌝ }
+    ensures { λ _. ⌜ now (loops .exit) ≡ set (now (loops .entry)) (hookOf n) v ⌝ }
+{
+    let i = n.hook();
+    loops[i] = v;
+}
+
+// One loop more on the needle's hook: 0, or 11 and no store.
+fn tuck(loops: &mut [u8; 500], n: Needle) -> u8
+    requires { ⌜ OnBed n ⌝ }
+    ensures { λ k. ⌜ (k ≡ tuckNo (getD (now (loops .entry)) (hookOf n) 0)) × (now (loops .exit) ≡ tucked (now (loops .entry)) n) ⌝ }
+{
+    let i = n.hook();
+    let here = loops[i];
+    if 8 <= here {
+        return 11;
+    }
+    loops[i] = here + 1;
+    0
+}
+
+// The loops at a go to b, and v are left at a: 0, or 10 or 11 and no store.
+fn transfer(loops: &mut [u8; 500], a: Needle, b: Needle, r: Racking, v: u8) -> u8
+    requires { ⌜ (OnBed a) × (OnBed b) ⌝ }
+    ensures { λ k. ⌜ (k ≡ transferNo (now (loops .entry)) a b r) × (now (loops .exit) ≡ transferredLoops (now (loops .entry)) a b r v) ⌝ }
+{
+    let z = a.column(r);
+    if !z.equals(b.column(r)) {
+        return 10;
+    }
+    let i = a.hook();
+    let j = b.hook();
+    let here = loops[i];
+    let there = loops[j];
+    if 8 < wide(here) + wide(there) {
+        return 11;
+    }
+    loops[i] = v;
+    loops[j] = here + there;
+    0
+}
+
+fn wide(n: u8) -> u16
+    ensures { λ k. ⌜ k ≡ n ⌝ }
+{
+    n as u16
+}
