@@ -126,8 +126,9 @@ fn transfer(loops: &mut [u8; 500], a: Needle, b: Needle, r: Racking, v: u8) -> u
     0
 }
 
+// A byte in a wider type, which a sum of two fits.
 fn wide(n: u8) -> u16
-    ensures { λ k. ⌜ k ≡ n ⌝ }
+    ensures { λ k. ⌜ (k ≡ n) × (k < 256) ⌝ }
 {
     n as u16
 }

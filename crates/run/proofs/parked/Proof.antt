@@ -1,19 +1,37 @@
+-- Inactive, elsewhere or at the slot. Assumes nothing.
+use borrow.Author.Tests.{eq-eqb, ne-eqb, le-leb, lt-leb, not-true, not-false}
+use mathlib.Core.Path.{_≡_, refl, sym, ap, _∙_}
+use mathlib.Core.Bool.{true, false}
+use mir.Syntax.{w32}
+use Rattle.machine.specs.declared.Carrier.{Carrier}
+use Rattle.machine.specs.declared.Slot.{Slot}
+use Rattle.machine.specs.declared.Racking.{Racking}
+use Rattle.machine.specs.Geometry.{eqZ}
+use Rattle.machine.proofs.Signed.{fits, is-bits, not-bits}
+use Rattle.run.specs.Step.{lookOf, parkedNo}
+use Rattle.run.proofs.Looks.{parked-is}
 use Rattle.run.proofs.parked.Statement.{statement}
 use Rattle.run.proofs.parked.Tie as tie
-use Rattle.run.proofs.parked.Reads as reads
-use Rattle.run.proofs.parked.Lts as lts
 
--- src/lib.rt:54:9
+module _ (d : Carrier) (z : Slot) (r : Racking) where
+  off : d .active ≡ 0 → 7 ≡ parkedNo (lookOf r d) z
+  off e = sym (parked-is d r z ∙ simp (eq-eqb _ _ e))
+
+  module _ (a : d .active ≡ 0 → ⊥) where
+    here : eqZ (d .slot .0) (z .0) ≡ true → 0 ≡ parkedNo (lookOf r d) z
+    here e = sym (parked-is d r z ∙ simp (ne-eqb _ _ a, e))
+
+    elsewhere : eqZ (d .slot .0) (z .0) ≡ false → 8 ≡ parkedNo (lookOf r d) z
+    elsewhere e = sym (parked-is d r z ∙ simp (ne-eqb _ _ a, e))
+
 returns : tie.Need-returns
-returns c = ?
+returns c = let a = c .before .before .args in off (a .c) (a .z) (a .r) (c .if1 .taken)
 
--- src/lib.rt:50:1
 returns-2 : tie.Need-returns-2
-returns-2 c = ?
+returns-2 c = let a = c .before .before .before .before .before .before .before .before .args in here (a .c) (a .z) (a .r) (c .before .before .before .before .before .before .if1 .left) (is-bits w32 _ _ (fits w32 _ (c .before .before .before .struct-told .given .0 .1)) (fits w32 _ (c .before .struct-told2 .given .0 .1)) (c .if2 .taken))
 
--- src/lib.rt:50:1
 returns-3 : tie.Need-returns-3
-returns-3 c = ?
+returns-3 c = let a = c .before .before .before .before .before .before .before .before .args in elsewhere (a .c) (a .z) (a .r) (c .before .before .before .before .before .before .if1 .left) (not-bits w32 _ _ (fits w32 _ (c .before .before .before .struct-told .given .0 .1)) (fits w32 _ (c .before .struct-told2 .given .0 .1)) (c .if2 .left))
 
 pub parked-spec : {M : Type 1} → statement M
 parked-spec = tie.close (tie.spec returns returns-2 returns-3)

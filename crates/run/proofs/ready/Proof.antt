@@ -1,48 +1,63 @@
+-- Parked at the entry slot, then the float. Assumes nothing.
 use borrow.Author.Needs.{needs}
+use borrow.Author.Tests.{eq-eqb, ne-eqb, le-leb, lt-leb, not-true, not-false}
+use mathlib.Core.Path.{_≡_, refl, sym, ap, _∙_}
+use Prim.Native.Nat.{ℕ}
+use mathlib.Core.Bool.{Bool, true, false}
+use Rattle.machine.specs.declared.Carrier.{Carrier}
+use Rattle.machine.specs.declared.Column.{Column}
+use Rattle.machine.specs.declared.Slot.{Slot}
+use Rattle.machine.specs.declared.Racking.{Racking}
+use Rattle.machine.specs.Geometry.{columnOf, withinFloat}
+use Rattle.run.specs.Step.{orNumber, lookOf, parkedNo, floatNo}
+use Rattle.run.proofs.Looks.{float-is}
 use Rattle.run.proofs.ready.Statement.{statement}
 use Rattle.run.proofs.ready.Tie as tie
-use Rattle.run.proofs.ready.Reads as reads
-use Rattle.run.proofs.ready.Lts as lts
-use Rattle.machine.proofs.Column.near.Reads as near-reads
-use Rattle.machine.proofs.Needle.column.Reads as column-reads
-use Rattle.machine.proofs.Needle.entry.Reads as entry-reads
-use Rattle.run.proofs.parked.Reads as parked-reads
 
--- src/lib.rt:64:28
+module _ (d : Carrier) (s : Slot) (r : Racking) (z : Column) (k : ℕ) (is : k ≡ parkedNo (lookOf r d) s) where
+  refused : (k ≡ 0 → ⊥) → k ≡ orNumber (parkedNo (lookOf r d) s) (floatNo (lookOf r d) z)
+  refused h = simp (← is, ne-eqb k 0 h)
+
+  module _ (h : k ≡ 0) where
+    past : (n : ℕ) → floatNo (lookOf r d) z ≡ n → n ≡ orNumber (parkedNo (lookOf r d) s) (floatNo (lookOf r d) z)
+    past n e = sym (simp (← is, eq-eqb k 0 h) e)
+
+    free : d .side ≡ 0 → 0 ≡ orNumber (parkedNo (lookOf r d) s) (floatNo (lookOf r d) z)
+    free e = past 0 (float-is d r z ∙ simp (eq-eqb _ _ e))
+
+    module _ (e : d .side ≡ 0 → ⊥) where
+      near : withinFloat (columnOf (d .needle) r) z ≡ true → 0 ≡ orNumber (parkedNo (lookOf r d) s) (floatNo (lookOf r d) z)
+      near f = past 0 (float-is d r z ∙ simp (ne-eqb _ _ e, f))
+
+      far : withinFloat (columnOf (d .needle) r) z ≡ false → 9 ≡ orNumber (parkedNo (lookOf r d) s) (floatNo (lookOf r d) z)
+      far f = past 9 (float-is d r z ∙ simp (ne-eqb _ _ e, f))
+
 entry-requires : tie.Need-entry-requires
 entry-requires c κs = search needs
 
--- src/lib.rt:64:9
 parked-requires : tie.Need-parked-requires
 parked-requires c κs = search needs
 
--- src/lib.rt:66:9
 returns : tie.Need-returns
-returns c = ?
+returns c = let a = c .before .before .before .args in simp (← c .before .before .entry .ensures) (refused (a .c) (c .before .before .entry .result) (a .r) (columnOf (a .n) (a .r)) (c .before .parked .result) (c .before .parked .ensures) (c .if1 .taken))
 
--- src/lib.rt:69:9
 returns-2 : tie.Need-returns-2
-returns-2 c = ?
+returns-2 c = let a = c .before .before .before .before .before .args in simp (← c .before .before .before .before .entry .ensures) (free (a .c) (c .before .before .before .before .entry .result) (a .r) (columnOf (a .n) (a .r)) (c .before .before .before .parked .result) (c .before .before .before .parked .ensures) (c .before .before .if1 .left) (c .if2 .taken))
 
--- src/lib.rt:72:9
 column-requires : tie.Need-column-requires
 column-requires c κs = search needs
 
--- src/lib.rt:73:15
 column-requires-2 : tie.Need-column-requires-2
 column-requires-2 c κs = search needs
 
--- src/lib.rt:73:8
 near-requires : tie.Need-near-requires
 near-requires c κs = search needs
 
--- src/lib.rt:61:1
 returns-3 : tie.Need-returns-3
-returns-3 c = ?
+returns-3 c = let a = c .before .before .before .before .before .before .before .before .before .before .args in simp (← c .before .before .before .before .before .before .before .before .before .entry .ensures) (near (a .c) (c .before .before .before .before .before .before .before .before .before .entry .result) (a .r) (columnOf (a .n) (a .r)) (c .before .before .before .before .before .before .before .before .parked .result) (c .before .before .before .before .before .before .before .before .parked .ensures) (c .before .before .before .before .before .before .before .if1 .left) (c .before .before .before .before .before .if2 .left) (ap (λ (z : Column). withinFloat z (columnOf (a .n) (a .r))) (sym (c .before .before .before .column .ensures)) ∙ ap (withinFloat (c .before .before .before .column .result)) (sym (c .before .before .column2 .ensures)) ∙ sym (c .before .near .ensures) ∙ c .if3 .taken))
 
--- src/lib.rt:61:1
 returns-4 : tie.Need-returns-4
-returns-4 c = ?
+returns-4 c = let a = c .before .before .before .before .before .before .before .before .before .before .args in simp (← c .before .before .before .before .before .before .before .before .before .entry .ensures) (far (a .c) (c .before .before .before .before .before .before .before .before .before .entry .result) (a .r) (columnOf (a .n) (a .r)) (c .before .before .before .before .before .before .before .before .parked .result) (c .before .before .before .before .before .before .before .before .parked .ensures) (c .before .before .before .before .before .before .before .if1 .left) (c .before .before .before .before .before .if2 .left) (ap (λ (z : Column). withinFloat z (columnOf (a .n) (a .r))) (sym (c .before .before .before .column .ensures)) ∙ ap (withinFloat (c .before .before .before .column .result)) (sym (c .before .before .column2 .ensures)) ∙ sym (c .before .near .ensures) ∙ c .if3 .left))
 
 pub ready-spec : {M : Type 1} → statement M
 ready-spec =

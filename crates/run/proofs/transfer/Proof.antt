@@ -1,76 +1,87 @@
+-- The columns, then the room, then two stores. Assumes nothing.
 use borrow.Author.Needs.{needs}
+use native.Mathlib.Omega.{arith}
+use mathlib.Core.Path.{_≡_, refl, sym, ap, _∙_}
+use borrow.Author.Tests.{eq-eqb, ne-eqb, le-leb, lt-leb, not-true, not-false}
+use Prim.Native.Nat.{ℕ, _+_, _≤_, _<_}
+use mathlib.Core.Bool.{true, false}
+use mathlib.Core.List.{List}
+use lib.ListN.{getD, set}
+use Rattle.machine.specs.declared.Needle.{Needle}
+use Rattle.machine.specs.declared.Column.{Column}
+use Rattle.machine.specs.declared.Racking.{Racking}
+use Rattle.machine.specs.Machine.{hookOf}
+use Rattle.machine.specs.Geometry.{columnOf, sameColumn}
+use Rattle.run.specs.Leaves.{transferNo, transferredLoops}
 use Rattle.run.proofs.transfer.Statement.{statement}
 use Rattle.run.proofs.transfer.Tie as tie
-use Rattle.run.proofs.transfer.Reads as reads
-use Rattle.run.proofs.transfer.Lts as lts
-use Rattle.machine.proofs.Column.equals.Reads as equals-reads
-use Rattle.machine.proofs.Needle.column.Reads as column-reads
-use Rattle.machine.proofs.Needle.hook.Reads as hook-reads
-use Rattle.run.proofs.wide.Reads as wide-reads
 
--- src/lib.rt:113:9
+module _ (l : List ℕ) (a b : Needle) (r : Racking) (v : ℕ) where
+  crooked : sameColumn (columnOf a r) (columnOf b r) ≡ false → (10 ≡ transferNo l a b r) × (l ≡ transferredLoops l a b r v)
+  unfolding transferNo transferredLoops
+  crooked e = (simp e, simp e)
+
+  module _ (e : sameColumn (columnOf a r) (columnOf b r) ≡ true) where
+    full : 8 < getD l (hookOf a) 0 + getD l (hookOf b) 0 → (11 ≡ transferNo l a b r) × (l ≡ transferredLoops l a b r v)
+    unfolding transferNo transferredLoops
+    full h = let f = lt-leb (getD l (hookOf a) 0 + getD l (hookOf b) 0) 8 h in (simp (e, f), simp (e, f))
+
+    room : getD l (hookOf a) 0 + getD l (hookOf b) 0 ≤ 8
+        → (0 ≡ transferNo l a b r) × (set (set l (hookOf a) v) (hookOf b) (getD l (hookOf a) 0 + getD l (hookOf b) 0) ≡ transferredLoops l a b r v)
+    unfolding transferNo transferredLoops
+    room h = let f = le-leb (getD l (hookOf a) 0 + getD l (hookOf b) 0) 8 h in (simp (e, f), simp (e, f))
+
 column-requires : tie.Need-column-requires
 column-requires c κs = search needs
 
--- src/lib.rt:114:18
 column-requires-2 : tie.Need-column-requires-2
 column-requires-2 c κs = search needs
 
--- src/lib.rt:114:9
 equals-requires : tie.Need-equals-requires
 equals-requires c κs = search needs
 
--- src/lib.rt:115:9
 returns : tie.Need-returns
-returns c = ?
+returns c = let a = c .before .before .before .before .args in crooked (a .loops .now) (a .a) (a .b) (a .r) (a .v) (ap (λ (z : Column). sameColumn z (columnOf (a .b) (a .r))) (sym (c .before .before .before .column .ensures)) ∙ ap (sameColumn (c .before .before .before .column .result)) (sym (c .before .before .column2 .ensures)) ∙ sym (c .before .equals .ensures) ∙ not-true (c .before .equals .result) (c .if1 .taken))
 
--- src/lib.rt:117:9
 hook-requires : tie.Need-hook-requires
 hook-requires c κs = search needs
 
--- src/lib.rt:118:9
 hook-requires-2 : tie.Need-hook-requires-2
 hook-requires-2 c κs = search needs
 
--- src/lib.rt:119:16
 element-copy-out-here : tie.Need-element-copy-out-here
 element-copy-out-here c = search needs
 
--- src/lib.rt:120:17
 element-copy-out-there : tie.Need-element-copy-out-there
 element-copy-out-there c = search needs
 
--- src/lib.rt:121:12
 wide-requires : tie.Need-wide-requires
 wide-requires c κs = search needs
 
--- src/lib.rt:121:25
 wide-requires-2 : tie.Need-wide-requires-2
 wide-requires-2 c κs = search needs
 
--- src/lib.rt:121:12
 add-if2 : tie.Need-add-if2
-add-if2 c = ?
+add-if2 c = omega (arith, c .before .wide .ensures .1, c .wide2 .ensures .1)
 
--- src/lib.rt:122:9
 returns-2 : tie.Need-returns-2
-returns-2 c = ?
+returns-2 c = let a = c .before .before .before .before .before .before .before .before .before .before .before .args in let l = a .loops .now in
+    full l (a .a) (a .b) (a .r) (a .v) (ap (λ (z : Column). sameColumn z (columnOf (a .b) (a .r))) (sym (c .before .before .before .before .before .before .before .before .before .before .column .ensures)) ∙ ap (sameColumn (c .before .before .before .before .before .before .before .before .before .before .column .result)) (sym (c .before .before .before .before .before .before .before .before .before .column2 .ensures)) ∙ sym (c .before .before .before .before .before .before .before .before .equals .ensures) ∙ not-false (c .before .before .before .before .before .before .before .before .equals .result) (c .before .before .before .before .before .before .before .if1 .left))
+    (simp (c .before .before .wide .ensures .0, c .before .wide2 .ensures .0, c .before .before .before .before .before .before .hook .ensures, c .before .before .before .before .before .hook2 .ensures) at (c .if2 .taken))
 
--- src/lib.rt:124:5
 element-write-loops : tie.Need-element-write-loops
 element-write-loops c = search needs
 
--- src/lib.rt:125:16
 add-loops : tie.Need-add-loops
-add-loops c = search needs
+add-loops c = omega (arith, c .before .before .wide .ensures .0, c .before .wide2 .ensures .0, c .if2 .left)
 
--- src/lib.rt:125:5
 element-write-loops-2 : tie.Need-element-write-loops-2
 element-write-loops-2 c = search needs
 
--- src/lib.rt:109:1
 returns-3 : tie.Need-returns-3
-returns-3 c = ?
+returns-3 c = let a = c .before .before .before .before .before .before .before .before .before .before .before .args in let l = a .loops .now in
+    simp (c .before .before .before .before .before .before .hook .ensures, c .before .before .before .before .before .hook2 .ensures) (room l (a .a) (a .b) (a .r) (a .v) (ap (λ (z : Column). sameColumn z (columnOf (a .b) (a .r))) (sym (c .before .before .before .before .before .before .before .before .before .before .column .ensures)) ∙ ap (sameColumn (c .before .before .before .before .before .before .before .before .before .before .column .result)) (sym (c .before .before .before .before .before .before .before .before .before .column2 .ensures)) ∙ sym (c .before .before .before .before .before .before .before .before .equals .ensures) ∙ not-false (c .before .before .before .before .before .before .before .before .equals .result) (c .before .before .before .before .before .before .before .if1 .left))
+    (simp (c .before .before .wide .ensures .0, c .before .wide2 .ensures .0, c .before .before .before .before .before .before .hook .ensures, c .before .before .before .before .before .hook2 .ensures) at (c .if2 .left)))
 
 pub transfer-spec : {M : Type 1} → statement M
 transfer-spec =

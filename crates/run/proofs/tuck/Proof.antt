@@ -1,33 +1,43 @@
+-- A loop more, if there is room. Assumes nothing.
 use borrow.Author.Needs.{needs}
+use native.Mathlib.Omega.{arith}
+use mathlib.Core.Path.{_≡_, refl, sym, ap, _∙_}
+use borrow.Author.Tests.{eq-eqb, ne-eqb, le-leb, lt-leb, not-true, not-false}
+use Prim.Native.Nat.{ℕ, _+_, _≤_, _<_}
+use mathlib.Core.List.{List}
+use lib.ListN.{getD, set}
+use Rattle.machine.specs.declared.Needle.{Needle}
+use Rattle.machine.specs.Machine.{hookOf}
+use Rattle.run.specs.Leaves.{tuckNo, tucked}
 use Rattle.run.proofs.tuck.Statement.{statement}
 use Rattle.run.proofs.tuck.Tie as tie
-use Rattle.run.proofs.tuck.Reads as reads
-use Rattle.run.proofs.tuck.Lts as lts
-use Rattle.machine.proofs.Needle.hook.Reads as hook-reads
 
--- src/lib.rt:99:9
+module _ (l : List ℕ) (n : Needle) where
+  full : 8 ≤ getD l (hookOf n) 0 → (11 ≡ tuckNo (getD l (hookOf n) 0)) × (l ≡ tucked l n)
+  unfolding tuckNo tucked
+  full h = let e = lt-leb (getD l (hookOf n) 0 + 1) 8 (omega arith) in (simp e, simp e)
+
+  room : getD l (hookOf n) 0 < 8 → (0 ≡ tuckNo (getD l (hookOf n) 0)) × (set l (hookOf n) (getD l (hookOf n) 0 + 1) ≡ tucked l n)
+  unfolding tuckNo tucked
+  room h = let e = le-leb (getD l (hookOf n) 0 + 1) 8 (omega arith) in (simp e, simp e)
+
 hook-requires : tie.Need-hook-requires
 hook-requires c κs = search needs
 
--- src/lib.rt:100:16
 element-copy-out-here : tie.Need-element-copy-out-here
 element-copy-out-here c = search needs
 
--- src/lib.rt:102:9
 returns : tie.Need-returns
-returns c = ?
+returns c = full (c .before .before .before .args .loops .now) (c .before .before .before .args .n) (simp (c .before .before .hook .ensures) at (c .if1 .taken))
 
--- src/lib.rt:104:16
 add-loops : tie.Need-add-loops
 add-loops c = search needs
 
--- src/lib.rt:104:5
 element-write-loops : tie.Need-element-write-loops
 element-write-loops c = search needs
 
--- src/lib.rt:95:1
 returns-2 : tie.Need-returns-2
-returns-2 c = ?
+returns-2 c = simp (c .before .before .hook .ensures) (room (c .before .before .before .args .loops .now) (c .before .before .before .args .n) (simp (c .before .before .hook .ensures) at (c .if1 .left)))
 
 pub tuck-spec : {M : Type 1} → statement M
 tuck-spec =
