@@ -1,2 +1,4 @@
 pub mod Looks
 pub mod ByKind
+pub mod Arms
+pub mod Turns

@@ -132,3 +132,120 @@ fn wide(n: u8) -> u16
 {
     n as u16
 }
+
+// The run from a state over bytes of any length. Stores are made in its own state, one arm for each kind.
+pub fn run_from(state: State, program: &[u8]) -> Reached
+    ensures { λ a. ⌜ a ≡ runFrom 0 (now (program .entry)) 0 state ⌝ }
+{
+    let mut st = state;
+    let mut at: usize = 0;
+    while at < program.len() {
+        let d = record::decode(&program[at..]);
+        if d.number != 0 {
+            return Reached { number: d.number, place: at, state: st };
+        }
+        let next = at + d.size;
+        let x = d.what;
+        let kind = x.kind;
+        let n = x.at;
+        let r = st.racking;
+        match kind {
+            1 => {
+                let z = x.racking;
+                st.racking = z;
+            }
+            2 => put(&mut st.loops, n, 0),
+            3 => {
+                let m = x.to;
+                let number = transfer(&mut st.loops, n, m, r, 0);
+                if number != 0 {
+                    return Reached { number, place: at, state: st };
+                }
+                let cs = st.carriers;
+                if machine::any_attached(cs, n) {
+                    let ds = machine::attachments_moved(cs, n, m);
+                    st.carriers = ds;
+                }
+            }
+            4 => {
+                let k = (x.carrier as usize) - 1;
+                let c = st.carriers[k];
+                if c.active != 0 {
+                    return Reached { number: 6, place: at, state: st };
+                }
+                let slot = n.entry(r, x.right);
+                st.carriers[k] = Carrier { active: 1, side: 0, slot, needle: Needle(0, 0) };
+            }
+            5 => {
+                let k = (x.carrier as usize) - 1;
+                let c = st.carriers[k];
+                let number = parked(c, n.exit(r, x.right), r);
+                if number != 0 {
+                    return Reached { number, place: at, state: st };
+                }
+                let then = Carrier::inactive();
+                st.carriers[k] = then;
+            }
+            6 => {
+                let k = (x.carrier as usize) - 1;
+                let c = st.carriers[k];
+                let number = parked(c, n.entry(r, x.right), r);
+                if number != 0 {
+                    return Reached { number, place: at, state: st };
+                }
+                let slot = n.exit(r, x.right);
+                let last = c.needle;
+                st.carriers[k] = Carrier { active: 1, side: c.side, slot, needle: last };
+            }
+            7 => {
+                let k = (x.carrier as usize) - 1;
+                let c = st.carriers[k];
+                let number = ready(c, n, r, x.right);
+                if number != 0 {
+                    return Reached { number, place: at, state: st };
+                }
+                let number = tuck(&mut st.loops, n);
+                if number != 0 {
+                    return Reached { number, place: at, state: st };
+                }
+                let then = attach(n, r, x.right);
+                st.carriers[k] = then;
+            }
+            8 => {
+                let k = (x.carrier as usize) - 1;
+                let c = st.carriers[k];
+                let number = ready(c, n, r, x.right);
+                if number != 0 {
+                    return Reached { number, place: at, state: st };
+                }
+                put(&mut st.loops, n, 1);
+                let then = attach(n, r, x.right);
+                st.carriers[k] = then;
+            }
+            _ => {
+                let m = x.to;
+                let k = (x.carrier as usize) - 1;
+                let c = st.carriers[k];
+                let number = ready(c, n, r, x.right);
+                if number != 0 {
+                    return Reached { number, place: at, state: st };
+                }
+                let number = transfer(&mut st.loops, n, m, r, 1);
+                if number != 0 {
+                    return Reached { number, place: at, state: st };
+                }
+                let then = attach(n, r, x.right);
+                let cs = st.carriers;
+                if machine::any_attached(cs, n) {
+                    let mut ds = machine::attachments_moved(cs, n, m);
+                    ds[k] = then;
+                    st.carriers = ds;
+                } else {
+                    st.carriers[k] = then;
+                }
+            }
+        }
+        at = next;
+    }
+    Reached { number: 0, place: 0, state: st }
+}

@@ -1,0 +1,181 @@
+-- Decoding against the form of a record: what was decoded is the form at the front of the bytes, and a form decodes to its record. Assumes nothing.
+use Prim.Native.Nat.{ℕ, zero, suc, _+_, _-_, _≤_, _<_}
+use mathlib.Core.Path.{_≡_, refl, sym, ap, subst, _∙_}
+use mathlib.Core.Bool.{Bool, true, false, _&&_, cond}
+use mathlib.Core.List.{List, [], _∷_, _++_}
+use native.Mathlib.Omega.{arith}
+use lib.IntN.{natAbs}
+use lib.ListN.{length, take, drop, length-append}
+use lib.Seq.{drop-cons}
+use lib.Dec.{eqb, leb, ltb}
+use borrow.Author.Tests.{ne-eqb, eqb-true, eqb-false, leb-true, le-leb, lt-leb, ltb-true, ltb-false, le-ltb}
+use Rattle.machine.specs.Machine.{OnBed}
+use Rattle.machine.proofs.Laws.{and-two}
+use Rattle.record.specs.declared.Record.{Record}
+use Rattle.record.specs.declared.Decoded.{Decoded}
+use Rattle.record.specs.Format.{Form, sizeOf, signedOf, rackOk, numberOk, needleOk, workOk, needle, rackRecord, dropRecord, xferRecord, workRecord, splitRecord, byte, refusedAs, ranged, whole, decodeOf}
+use Rattle.record.specs.Names.{needlesIn, InRange}
+use Rattle.record.proofs.Ranges.{needle-bed, needle-number, work-right, work-bed, work-number, work-low, work-high}
+
+-- a choice by a test
+pub cond-cases : {A : Type 0} (P : A → Type 0) (b : Bool) {x y : A} → (b ≡ true → P x) → (b ≡ false → P y) → P (cond b x y)
+cond-cases P true f g = f refl
+cond-cases P false f g = g refl
+
+-- ---- a form decodes to its record, whatever follows it
+pub needle-in : (bed n : ℕ) → bed ≤ 1 → n ≤ 249 → needleOk bed n ≡ true
+unfolding needleOk
+needle-in bed n a b = simp (le-leb bed 1 a, le-leb n 249 b)
+
+pub work-in : (right bed n k : ℕ) → right ≤ 1 → bed ≤ 1 → n ≤ 249 → 1 ≤ k → k ≤ 10 → workOk right bed n k ≡ true
+unfolding workOk
+work-in right bed n k a b c d e = simp (le-leb right 1 a, needle-in bed n b c, le-leb 1 k d, le-leb k 10 e)
+
+module _ (bytes rest : List ℕ) (ok : Bool) (x : Record) (some : 0 < length bytes) (in-range : ok ≡ true) where
+  past : cond (eqb (length (bytes ++ rest)) 0) (refusedAs 4) (whole (bytes ++ rest) (length bytes) (ranged ok (length bytes) x)) ≡ record { number = 0; size = length bytes; what = x }
+  unfolding whole ranged
+  past =
+      let long = length-append bytes rest in
+      simp (ne-eqb (length (bytes ++ rest)) 0 (λ q. omega arith), le-ltb (length (bytes ++ rest)) (length bytes) (omega arith), in-range)
+
+pub form-decode : {bytes : List ℕ} {x : Record} → Form bytes x → (rest : List ℕ) → decodeOf (bytes ++ rest) ≡ record { number = 0; size = length bytes; what = x }
+unfolding decodeOf rackOk
+form-decode (Form.rack {b = b} h) rest = past (1 ∷ b ∷ []) rest _ _ (omega arith) (le-leb (natAbs (signedOf b)) 8 h)
+form-decode (Form.drop {bed = bed} {n = n} h i) rest = past (2 ∷ bed ∷ n ∷ []) rest _ _ (omega arith) (needle-in bed n h i)
+form-decode (Form.xfer {bed = bed} {n = n} {m = m} h i j) rest = past (3 ∷ bed ∷ n ∷ m ∷ []) rest _ _ (omega arith) (simp (needle-in bed n h i) (le-leb m 249 j))
+form-decode (Form.work {kind = kind} {right = right} {bed = bed} {n = n} {k = k} a b c d e f g) rest =
+    simp (ne-eqb kind 1 (λ q. omega arith), ne-eqb kind 2 (λ q. omega arith), ne-eqb kind 3 (λ q. omega arith), le-leb 4 kind a, le-leb kind 8 b)
+    (past (kind ∷ right ∷ bed ∷ n ∷ k ∷ []) rest _ _ (omega arith) (work-in right bed n k c d e f g))
+form-decode (Form.split {right = right} {bed = bed} {n = n} {k = k} {m = m} c d e f g h) rest =
+    past (9 ∷ right ∷ bed ∷ n ∷ k ∷ m ∷ []) rest _ _ (omega arith) (simp (work-in right bed n k c d e f g) (le-leb m 249 h))
+
+-- ---- every list of bytes is one of five
+-- a known kind: its length, whether its fields are in range, and the record
+pub data Fields (l : List ℕ) : ℕ → Bool → Record → Type 0 where
+  one : byte l 0 ≡ 1 → Fields l 2 (rackOk (byte l 1)) (rackRecord (signedOf (byte l 1)))
+  two : byte l 0 ≡ 2 → Fields l 3 (needleOk (byte l 1) (byte l 2)) (dropRecord (needle (byte l 1) (byte l 2)))
+  three : byte l 0 ≡ 3 → Fields l 4 (needleOk (byte l 1) (byte l 2) && numberOk (byte l 3)) (xferRecord (needle (byte l 1) (byte l 2)) (needle (1 - byte l 1) (byte l 3)))
+  middle : 4 ≤ byte l 0 → byte l 0 ≤ 8
+      → Fields l 5 (workOk (byte l 1) (byte l 2) (byte l 3) (byte l 4)) (workRecord (byte l 0) (eqb (byte l 1) 1) (needle (byte l 2) (byte l 3)) (byte l 4))
+  nine : byte l 0 ≡ 9
+      → Fields l 6 (workOk (byte l 1) (byte l 2) (byte l 3) (byte l 4) && numberOk (byte l 5))
+      (splitRecord (eqb (byte l 1) 1) (needle (byte l 2) (byte l 3)) (byte l 4) (needle (1 - byte l 2) (byte l 5)))
+
+pub data Reads (l : List ℕ) : Decoded → Type 0 where
+  none : length l ≡ 0 → Reads l (refusedAs 4)
+  strange : 0 < length l → sizeOf (byte l 0) ≡ 0 → Reads l (refusedAs 3)
+  short : {size : ℕ} {ok : Bool} {x : Record} → Fields l size ok x → 0 < length l → length l < size → Reads l (refusedAs 4)
+  outside : {size : ℕ} {ok : Bool} {x : Record} → Fields l size ok x → size ≤ length l → ok ≡ false → Reads l (refusedAs 5)
+  done : {size : ℕ} {ok : Bool} {x : Record} → Fields l size ok x → size ≤ length l → ok ≡ true → Reads l (record { number = 0; size = size; what = x })
+
+known : {l : List ℕ} {size : ℕ} {ok : Bool} {x : Record} → 0 < length l → Fields l size ok x → Reads l (whole l size (ranged ok size x))
+unfolding whole ranged
+known {l} {size} {ok} h f =
+    cond-cases (Reads l) (ltb (length l) size) (λ t. Reads.short f h (ltb-true (length l) size t))
+    (λ t. cond-cases (Reads l) ok (Reads.done f (ltb-false (length l) size t)) (Reads.outside f (ltb-false (length l) size t)))
+
+no-size : (k : ℕ) → eqb k 1 ≡ false → eqb k 2 ≡ false → eqb k 3 ≡ false → (leb 4 k && leb k 8) ≡ false → eqb k 9 ≡ false → sizeOf k ≡ 0
+unfolding sizeOf
+no-size k a b c d e = simp (a, b, c, d, e)
+
+pub reads : (l : List ℕ) → Reads l (decodeOf l)
+unfolding decodeOf
+reads l =
+    cond-cases (Reads l) (eqb (length l) 0) (λ h. Reads.none (eqb-true (length l) 0 h))
+    (λ h. let some : 0 < length l = omega (arith, eqb-false (length l) 0 h) in
+      cond-cases (Reads l) (eqb (byte l 0) 1) (λ a. known some (Fields.one (eqb-true (byte l 0) 1 a)))
+      (λ a. cond-cases (Reads l) (eqb (byte l 0) 2) (λ b. known some (Fields.two (eqb-true (byte l 0) 2 b)))
+      (λ b. cond-cases (Reads l) (eqb (byte l 0) 3) (λ c. known some (Fields.three (eqb-true (byte l 0) 3 c)))
+      (λ c. cond-cases (Reads l) (leb 4 (byte l 0) && leb (byte l 0) 8)
+      (λ d. let (low, high) = and-two (leb 4 (byte l 0)) (leb (byte l 0) 8) d in known some (Fields.middle (leb-true 4 (byte l 0) low) (leb-true (byte l 0) 8 high)))
+      (λ d. cond-cases (Reads l) (eqb (byte l 0) 9) (λ e. known some (Fields.nine (eqb-true (byte l 0) 9 e)))
+      (λ e. Reads.strange some (no-size (byte l 0) a b c d e)))))))
+
+pub fields-size : {l : List ℕ} {size : ℕ} {ok : Bool} {x : Record} → Fields l size ok x → sizeOf (byte l 0) ≡ size
+unfolding sizeOf
+fields-size (Fields.one e) = simp e
+fields-size (Fields.two e) = simp e
+fields-size (Fields.three e) = simp e
+fields-size {l} (Fields.middle a b) =
+    simp (ne-eqb (byte l 0) 1 (λ q. omega arith), ne-eqb (byte l 0) 2 (λ q. omega arith), ne-eqb (byte l 0) 3 (λ q. omega arith), le-leb 4 (byte l 0) a, le-leb (byte l 0) 8 b)
+fields-size (Fields.nine e) = simp e
+
+pub fields-positive : {l : List ℕ} {size : ℕ} {ok : Bool} {x : Record} → Fields l size ok x → 0 < size
+fields-positive (Fields.one e) = omega arith
+fields-positive (Fields.two e) = omega arith
+fields-positive (Fields.three e) = omega arith
+fields-positive (Fields.middle a b) = omega arith
+fields-positive (Fields.nine e) = omega arith
+
+-- ---- the form at the front of the bytes
+bytesFrom : ℕ → ℕ → List ℕ → List ℕ
+bytesFrom zero i l = []
+bytesFrom (suc n) i l = byte l i ∷ bytesFrom n (suc i) l
+
+front : (n i : ℕ) (l : List ℕ) → i + n ≤ length l → take n (drop i l) ≡ bytesFrom n i l
+unfolding bytesFrom
+front zero i l h = refl
+front (suc n) i l h = ap (take (suc n)) (drop-cons l i 0 (omega arith)) ∙ ap (λ (t : List ℕ). byte l i ∷ t) (front n (suc i) l (omega arith))
+
+fields-form : {l : List ℕ} {size : ℕ} {ok : Bool} {x : Record} → Fields l size ok x → ok ≡ true → Form (bytesFrom size 0 l) x
+unfolding rackOk bytesFrom
+fields-form {l} (Fields.one e) t = rw e (Form.rack (leb-true (natAbs (signedOf (byte l 1))) 8 t))
+fields-form {l} (Fields.two e) t = rw e (Form.drop (needle-bed (byte l 1) (byte l 2) t) (needle-number (byte l 1) (byte l 2) t))
+fields-form {l} (Fields.three e) t =
+    let (p, q) = and-two (needleOk (byte l 1) (byte l 2)) (numberOk (byte l 3)) t in
+    rw e (Form.xfer (needle-bed (byte l 1) (byte l 2) p) (needle-number (byte l 1) (byte l 2) p) (leb-true (byte l 3) 249 q))
+fields-form {l} (Fields.middle a b) t =
+    Form.work a b (work-right (byte l 1) (byte l 2) (byte l 3) (byte l 4) t) (work-bed (byte l 1) (byte l 2) (byte l 3) (byte l 4) t)
+    (work-number (byte l 1) (byte l 2) (byte l 3) (byte l 4) t) (work-low (byte l 1) (byte l 2) (byte l 3) (byte l 4) t) (work-high (byte l 1) (byte l 2) (byte l 3) (byte l 4) t)
+fields-form {l} (Fields.nine e) t =
+    let (p, q) = and-two (workOk (byte l 1) (byte l 2) (byte l 3) (byte l 4)) (numberOk (byte l 5)) t in
+    rw e (Form.split (work-right (byte l 1) (byte l 2) (byte l 3) (byte l 4) p) (work-bed (byte l 1) (byte l 2) (byte l 3) (byte l 4) p)
+    (work-number (byte l 1) (byte l 2) (byte l 3) (byte l 4) p) (work-low (byte l 1) (byte l 2) (byte l 3) (byte l 4) p) (work-high (byte l 1) (byte l 2) (byte l 3) (byte l 4) p)
+    (leb-true (byte l 5) 249 q))
+
+-- what was decoded: its length and its form
+pub read-done : {l : List ℕ} {d : Decoded} → Reads l d → d .number ≡ 0 → (0 < d .size) × (d .size ≤ length l) × Form (take (d .size) l) (d .what)
+unfolding refusedAs
+read-done (Reads.none a) e = absurd (omega arith)
+read-done (Reads.strange a b) e = absurd (omega arith)
+read-done (Reads.short f a b) e = absurd (omega arith)
+read-done (Reads.outside f a b) e = absurd (omega arith)
+read-done {l} (Reads.done {size = size} {x = x} f a b) e =
+    (fields-positive f, a, subst (λ (t : List ℕ). Form t x) (sym (front size 0 l (omega arith))) (fields-form f b))
+
+pub decode-size : (l : List ℕ) → decodeOf l .number ≡ 0 → (0 < decodeOf l .size) × (decodeOf l .size ≤ length l)
+decode-size l e = let (a, b, c) = read-done (reads l) e in (a, b)
+
+pub decode-form : (l : List ℕ) → decodeOf l .number ≡ 0 → Form (take (decodeOf l .size) l) (decodeOf l .what)
+decode-form l e = let (a, b, c) = read-done (reads l) e in c
+
+-- ---- its fields are in range
+on-bed : (bed n : ℕ) → bed ≤ 1 → n ≤ 249 → OnBed (needle bed n)
+on-bed bed n a b = record { bed = omega arith; number = omega arith }
+
+work-needles : (k : ℕ) → 4 ≤ k → k ≤ 8 → needlesIn k ≡ 2 → ⊥
+unfolding needlesIn
+work-needles k a b =
+    simp (lt-leb k 1 (omega arith), ne-eqb k 2 (λ q. omega arith), ne-eqb k 3 (λ q. omega arith), le-leb k 8 b)
+    (cond-cases (λ (n : ℕ). n ≡ 2 → ⊥) (leb k 6) (λ t e. omega arith) (λ t e. omega arith))
+
+pub form-in : {bytes : List ℕ} {x : Record} → Form bytes x → InRange x
+unfolding needlesIn
+form-in (Form.rack h) = record {
+    low = omega arith; high = omega arith; at-bed = on-bed 0 0 (omega arith) (omega arith); to-bed = on-bed 0 0 (omega arith) (omega arith);
+    carrier-low = λ q. omega arith; carrier-high = omega arith; beds-differ = λ p q. omega arith }
+form-in (Form.drop {bed = bed} {n = n} h i) = record {
+    low = omega arith; high = omega arith; at-bed = on-bed bed n h i; to-bed = on-bed 0 0 (omega arith) (omega arith);
+    carrier-low = λ q. omega arith; carrier-high = omega arith; beds-differ = λ p q. omega arith }
+form-in (Form.xfer {bed = bed} {n = n} {m = m} h i j) = record {
+    low = omega arith; high = omega arith; at-bed = on-bed bed n h i; to-bed = on-bed (1 - bed) m (omega arith) j;
+    carrier-low = λ q. omega arith; carrier-high = omega arith; beds-differ = λ p q. omega arith }
+form-in (Form.work {kind = kind} {bed = bed} {n = n} a b c d e f g) = record {
+    low = omega arith; high = omega arith; at-bed = on-bed bed n d e; to-bed = on-bed 0 0 (omega arith) (omega arith);
+    carrier-low = λ q. f; carrier-high = g; beds-differ = λ p q. work-needles kind a b p }
+form-in (Form.split {bed = bed} {n = n} {m = m} c d e f g h) = record {
+    low = omega arith; high = omega arith; at-bed = on-bed bed n d e; to-bed = on-bed (1 - bed) m (omega arith) h;
+    carrier-low = λ q. f; carrier-high = g; beds-differ = λ p q. omega arith }
+
+pub decode-in : (l : List ℕ) → decodeOf l .number ≡ 0 → InRange (decodeOf l .what)
+decode-in l e = form-in (decode-form l e)

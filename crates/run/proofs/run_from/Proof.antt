@@ -1,0 +1,489 @@
+-- The run: after each turn the rest of the program is run from the state so far. Each arm cites the law of its kind. Assumes nothing.
+use Prim.Native.Nat.{ℕ, _-_, _≤_, _<_}
+use mathlib.Core.Path.{_≡_, refl, sym, _∙_}
+use native.Mathlib.Omega.{arith}
+use borrow.Author.Needs.{needs}
+use lib.ListN.{length, drop}
+use Rattle.run.specs.Run.{runFrom}
+use Rattle.run.proofs.Turns.{ended, turned, refused, in-range, sized, stopped, goes}
+use Rattle.run.proofs.Arms.{nine, carrier-at, transfer-kept, tuck-kept, unmoved, rack-made, drop-made, xfer-stopped, xfer-made, in-stopped, in-made, out-stopped, out-made, miss-stopped, miss-made, tuck-unready, tuck-stopped, tuck-made-at, knit-unready, knit-made, split-unready, split-stopped, split-made}
+use Rattle.run.proofs.run_from.Statement.{statement}
+use Rattle.run.proofs.run_from.Tie as tie
+
+abbrev Inv-loop : tie.InvT-loop
+Inv-loop program st₀ at₀ st at = (at ≤ length program) × (runFrom 0 program 0 st₀ ≡ runFrom 0 (drop at program) at st)
+
+abbrev μ-loop : tie.MeasureT-loop
+μ-loop program st₀ at₀ st at = length program - at
+
+loop-holds : tie.Need-loop-holds Inv-loop μ-loop
+loop-holds c = (search needs, refl)
+
+sub-decode : tie.Need-sub-decode Inv-loop μ-loop
+sub-decode c = search needs
+
+part-decode-start : tie.Need-part-decode-start Inv-loop μ-loop
+part-decode-start c = search needs
+
+part-decode-end : tie.Need-part-decode-end Inv-loop μ-loop
+part-decode-end c = search needs
+
+decode-requires : tie.Need-decode-requires Inv-loop μ-loop
+decode-requires c κs = search needs
+
+returns : tie.Need-returns Inv-loop μ-loop
+returns c = refused (turned (c .before .before .before .before .loop-test .taken) (c .before .before .before .before .before .loop .inv .1) (c .before .before .decode .ensures)) (c .if1 .taken)
+
+add-next : tie.Need-add-next Inv-loop μ-loop
+add-next c = let t = turned (c .before .before .before .before .before .loop-test .taken) (c .before .before .before .before .before .before .loop .inv .1) (c .before .before .before .decode .ensures) in let k = c .before .if1 .left in let s = c .before .before .before .before .before .before .loop .st in let x = c .before .before .before .decode .result .what in
+    let z = sized t k in omega (arith, z .1, c .before .before .before .before .before .loop-test .taken, c .before .before .before .before .before .before .before .before .good)
+
+put-requires : tie.Need-put-requires Inv-loop μ-loop
+put-requires c κs = let t = turned (c .before .before .before .before .before .before .before .before .before .before .loop-test .taken) (c .before .before .before .before .before .before .before .before .before .before .before .loop .inv .1) (c .before .before .before .before .before .before .before .before .decode .ensures) in let k = c .before .before .before .before .before .before .if1 .left in let s = c .before .before .before .before .before .before .before .before .before .before .before .loop .st in let x = c .before .before .before .before .before .before .before .before .decode .result .what in
+    let i = in-range t k in i .at-bed
+
+transfer-requires : tie.Need-transfer-requires Inv-loop μ-loop
+transfer-requires c κs = let t = turned (c .before .before .before .before .before .before .before .before .before .before .before .loop-test .taken) (c .before .before .before .before .before .before .before .before .before .before .before .before .loop .inv .1) (c .before .before .before .before .before .before .before .before .before .decode .ensures) in let k = c .before .before .before .before .before .before .before .if1 .left in let s = c .before .before .before .before .before .before .before .before .before .before .before .before .loop .st in let x = c .before .before .before .before .before .before .before .before .before .decode .result .what in
+    let i = in-range t k in (i .at-bed, i .to-bed)
+
+returns-2 : tie.Need-returns-2 Inv-loop μ-loop
+returns-2 c = let t = turned (c .before .before .before .before .before .before .before .before .before .before .before .before .before .loop-test .taken) (c .before .before .before .before .before .before .before .before .before .before .before .before .before .before .loop .inv .1) (c .before .before .before .before .before .before .before .before .before .before .before .decode .ensures) in let k = c .before .before .before .before .before .before .before .before .before .if1 .left in let s = c .before .before .before .before .before .before .before .before .before .before .before .before .before .before .loop .st in let x = c .before .before .before .before .before .before .before .before .before .before .before .decode .result .what in
+    simp (c .before .transfer .ensures .1, transfer-kept (s .loops) (x .at) (x .to) (s .racking) 0 _ (c .before .transfer .ensures .0) (c .if2 .taken)) (stopped t k _ (xfer-stopped s x (c .before .before .before .before .match .keys3) _ (c .before .transfer .ensures .0)) (c .if2 .taken))
+
+any-attached-requires : tie.Need-any-attached-requires Inv-loop μ-loop
+any-attached-requires c κs = search needs
+
+attachments-moved-requires : tie.Need-attachments-moved-requires Inv-loop μ-loop
+attachments-moved-requires c κs = search needs
+
+cast-k : tie.Need-cast-k Inv-loop μ-loop
+cast-k c = search needs
+
+sub-k : tie.Need-sub-k Inv-loop μ-loop
+sub-k c = let t = turned (c .before .before .before .before .before .before .before .before .before .before .loop-test .taken) (c .before .before .before .before .before .before .before .before .before .before .before .loop .inv .1) (c .before .before .before .before .before .before .before .before .decode .ensures) in let k = c .before .before .before .before .before .before .if1 .left in let s = c .before .before .before .before .before .before .before .before .before .before .before .loop .st in let x = c .before .before .before .before .before .before .before .before .decode .result .what in
+    let i = in-range t k in let w = carrier-at i (c .before .match .keys4) (omega arith) in omega (arith, w .0, w .1)
+
+mul-c : tie.Need-mul-c Inv-loop μ-loop
+mul-c c = let t = turned (c .before .before .before .before .before .before .before .before .before .before .loop-test .taken) (c .before .before .before .before .before .before .before .before .before .before .before .loop .inv .1) (c .before .before .before .before .before .before .before .before .decode .ensures) in let k = c .before .before .before .before .before .before .if1 .left in let s = c .before .before .before .before .before .before .before .before .before .before .before .loop .st in let x = c .before .before .before .before .before .before .before .before .decode .result .what in
+    let i = in-range t k in let w = carrier-at i (c .before .match .keys4) (omega arith) in omega (arith, w .0, w .1)
+
+element-copy-out-c : tie.Need-element-copy-out-c Inv-loop μ-loop
+element-copy-out-c c = let t = turned (c .before .before .before .before .before .before .before .before .before .before .loop-test .taken) (c .before .before .before .before .before .before .before .before .before .before .before .loop .inv .1) (c .before .before .before .before .before .before .before .before .decode .ensures) in let k = c .before .before .before .before .before .before .if1 .left in let s = c .before .before .before .before .before .before .before .before .before .before .before .loop .st in let x = c .before .before .before .before .before .before .before .before .decode .result .what in
+    let i = in-range t k in let w = carrier-at i (c .before .match .keys4) (omega arith) in omega (arith, w .0, w .1)
+
+returns-3 : tie.Need-returns-3 Inv-loop μ-loop
+returns-3 c = let t = turned (c .before .before .before .before .before .before .before .before .before .before .before .before .before .loop-test .taken) (c .before .before .before .before .before .before .before .before .before .before .before .before .before .before .loop .inv .1) (c .before .before .before .before .before .before .before .before .before .before .before .decode .ensures) in let k = c .before .before .before .before .before .before .before .before .before .if1 .left in let s = c .before .before .before .before .before .before .before .before .before .before .before .before .before .before .loop .st in let x = c .before .before .before .before .before .before .before .before .before .before .before .decode .result .what in
+    stopped t k _ (in-stopped s x (c .before .before .before .before .match .keys4) (c .if4 .taken)) (λ e. omega arith)
+
+entry-requires : tie.Need-entry-requires Inv-loop μ-loop
+entry-requires c κs = search needs
+
+mul-t57 : tie.Need-mul-t57 Inv-loop μ-loop
+mul-t57 c = let t = turned (c .before .before .before .before .before .before .before .before .before .before .before .before .before .before .loop-test .taken) (c .before .before .before .before .before .before .before .before .before .before .before .before .before .before .before .loop .inv .1) (c .before .before .before .before .before .before .before .before .before .before .before .before .decode .ensures) in let k = c .before .before .before .before .before .before .before .before .before .before .if1 .left in let s = c .before .before .before .before .before .before .before .before .before .before .before .before .before .before .before .loop .st in let x = c .before .before .before .before .before .before .before .before .before .before .before .before .decode .result .what in
+    let i = in-range t k in let w = carrier-at i (c .before .before .before .before .before .match .keys4) (omega arith) in omega (arith, w .0, w .1)
+
+element-set-from-st : tie.Need-element-set-from-st Inv-loop μ-loop
+element-set-from-st c = let t = turned (c .before .before .before .before .before .before .before .before .before .before .before .before .before .before .loop-test .taken) (c .before .before .before .before .before .before .before .before .before .before .before .before .before .before .before .loop .inv .1) (c .before .before .before .before .before .before .before .before .before .before .before .before .decode .ensures) in let k = c .before .before .before .before .before .before .before .before .before .before .if1 .left in let s = c .before .before .before .before .before .before .before .before .before .before .before .before .before .before .before .loop .st in let x = c .before .before .before .before .before .before .before .before .before .before .before .before .decode .result .what in
+    let i = in-range t k in let w = carrier-at i (c .before .before .before .before .before .match .keys4) (omega arith) in omega (arith, w .0, w .1)
+
+cast-k-2 : tie.Need-cast-k-2 Inv-loop μ-loop
+cast-k-2 c = search needs
+
+sub-k-2 : tie.Need-sub-k-2 Inv-loop μ-loop
+sub-k-2 c = let t = turned (c .before .before .before .before .before .before .before .before .before .before .loop-test .taken) (c .before .before .before .before .before .before .before .before .before .before .before .loop .inv .1) (c .before .before .before .before .before .before .before .before .decode .ensures) in let k = c .before .before .before .before .before .before .if1 .left in let s = c .before .before .before .before .before .before .before .before .before .before .before .loop .st in let x = c .before .before .before .before .before .before .before .before .decode .result .what in
+    let i = in-range t k in let w = carrier-at i (c .before .match .keys5) (omega arith) in omega (arith, w .0, w .1)
+
+mul-c-2 : tie.Need-mul-c-2 Inv-loop μ-loop
+mul-c-2 c = let t = turned (c .before .before .before .before .before .before .before .before .before .before .loop-test .taken) (c .before .before .before .before .before .before .before .before .before .before .before .loop .inv .1) (c .before .before .before .before .before .before .before .before .decode .ensures) in let k = c .before .before .before .before .before .before .if1 .left in let s = c .before .before .before .before .before .before .before .before .before .before .before .loop .st in let x = c .before .before .before .before .before .before .before .before .decode .result .what in
+    let i = in-range t k in let w = carrier-at i (c .before .match .keys5) (omega arith) in omega (arith, w .0, w .1)
+
+element-copy-out-c-2 : tie.Need-element-copy-out-c-2 Inv-loop μ-loop
+element-copy-out-c-2 c = let t = turned (c .before .before .before .before .before .before .before .before .before .before .loop-test .taken) (c .before .before .before .before .before .before .before .before .before .before .before .loop .inv .1) (c .before .before .before .before .before .before .before .before .decode .ensures) in let k = c .before .before .before .before .before .before .if1 .left in let s = c .before .before .before .before .before .before .before .before .before .before .before .loop .st in let x = c .before .before .before .before .before .before .before .before .decode .result .what in
+    let i = in-range t k in let w = carrier-at i (c .before .match .keys5) (omega arith) in omega (arith, w .0, w .1)
+
+exit-requires : tie.Need-exit-requires Inv-loop μ-loop
+exit-requires c κs = search needs
+
+parked-requires : tie.Need-parked-requires Inv-loop μ-loop
+parked-requires c κs = search needs
+
+returns-4 : tie.Need-returns-4 Inv-loop μ-loop
+returns-4 c = let t = turned (c .before .before .before .before .before .before .before .before .before .before .before .before .before .before .loop-test .taken) (c .before .before .before .before .before .before .before .before .before .before .before .before .before .before .before .loop .inv .1) (c .before .before .before .before .before .before .before .before .before .before .before .before .decode .ensures) in let k = c .before .before .before .before .before .before .before .before .before .before .if1 .left in let s = c .before .before .before .before .before .before .before .before .before .before .before .before .before .before .before .loop .st in let x = c .before .before .before .before .before .before .before .before .before .before .before .before .decode .result .what in
+    stopped t k _ (out-stopped s x _ _ (c .before .parked .ensures) (c .before .before .before .before .before .match .keys5) (c .before .before .exit .ensures)) (c .if5 .taken)
+
+inactive-requires : tie.Need-inactive-requires Inv-loop μ-loop
+inactive-requires c κs = search needs
+
+mul-then : tie.Need-mul-then Inv-loop μ-loop
+mul-then c = let t = turned (c .before .before .before .before .before .before .before .before .before .before .before .before .before .before .before .loop-test .taken) (c .before .before .before .before .before .before .before .before .before .before .before .before .before .before .before .before .loop .inv .1) (c .before .before .before .before .before .before .before .before .before .before .before .before .before .decode .ensures) in let k = c .before .before .before .before .before .before .before .before .before .before .before .if1 .left in let s = c .before .before .before .before .before .before .before .before .before .before .before .before .before .before .before .before .loop .st in let x = c .before .before .before .before .before .before .before .before .before .before .before .before .before .decode .result .what in
+    let i = in-range t k in let w = carrier-at i (c .before .before .before .before .before .before .match .keys5) (omega arith) in omega (arith, w .0, w .1)
+
+element-set-from-then : tie.Need-element-set-from-then Inv-loop μ-loop
+element-set-from-then c = let t = turned (c .before .before .before .before .before .before .before .before .before .before .before .before .before .before .before .loop-test .taken) (c .before .before .before .before .before .before .before .before .before .before .before .before .before .before .before .before .loop .inv .1) (c .before .before .before .before .before .before .before .before .before .before .before .before .before .decode .ensures) in let k = c .before .before .before .before .before .before .before .before .before .before .before .if1 .left in let s = c .before .before .before .before .before .before .before .before .before .before .before .before .before .before .before .before .loop .st in let x = c .before .before .before .before .before .before .before .before .before .before .before .before .before .decode .result .what in
+    let i = in-range t k in let w = carrier-at i (c .before .before .before .before .before .before .match .keys5) (omega arith) in omega (arith, w .0, w .1)
+
+cast-k-3 : tie.Need-cast-k-3 Inv-loop μ-loop
+cast-k-3 c = search needs
+
+sub-k-3 : tie.Need-sub-k-3 Inv-loop μ-loop
+sub-k-3 c = let t = turned (c .before .before .before .before .before .before .before .before .before .before .loop-test .taken) (c .before .before .before .before .before .before .before .before .before .before .before .loop .inv .1) (c .before .before .before .before .before .before .before .before .decode .ensures) in let k = c .before .before .before .before .before .before .if1 .left in let s = c .before .before .before .before .before .before .before .before .before .before .before .loop .st in let x = c .before .before .before .before .before .before .before .before .decode .result .what in
+    let i = in-range t k in let w = carrier-at i (c .before .match .keys6) (omega arith) in omega (arith, w .0, w .1)
+
+mul-c-3 : tie.Need-mul-c-3 Inv-loop μ-loop
+mul-c-3 c = let t = turned (c .before .before .before .before .before .before .before .before .before .before .loop-test .taken) (c .before .before .before .before .before .before .before .before .before .before .before .loop .inv .1) (c .before .before .before .before .before .before .before .before .decode .ensures) in let k = c .before .before .before .before .before .before .if1 .left in let s = c .before .before .before .before .before .before .before .before .before .before .before .loop .st in let x = c .before .before .before .before .before .before .before .before .decode .result .what in
+    let i = in-range t k in let w = carrier-at i (c .before .match .keys6) (omega arith) in omega (arith, w .0, w .1)
+
+element-copy-out-c-3 : tie.Need-element-copy-out-c-3 Inv-loop μ-loop
+element-copy-out-c-3 c = let t = turned (c .before .before .before .before .before .before .before .before .before .before .loop-test .taken) (c .before .before .before .before .before .before .before .before .before .before .before .loop .inv .1) (c .before .before .before .before .before .before .before .before .decode .ensures) in let k = c .before .before .before .before .before .before .if1 .left in let s = c .before .before .before .before .before .before .before .before .before .before .before .loop .st in let x = c .before .before .before .before .before .before .before .before .decode .result .what in
+    let i = in-range t k in let w = carrier-at i (c .before .match .keys6) (omega arith) in omega (arith, w .0, w .1)
+
+entry-requires-2 : tie.Need-entry-requires-2 Inv-loop μ-loop
+entry-requires-2 c κs = search needs
+
+parked-requires-2 : tie.Need-parked-requires-2 Inv-loop μ-loop
+parked-requires-2 c κs = search needs
+
+returns-5 : tie.Need-returns-5 Inv-loop μ-loop
+returns-5 c = let t = turned (c .before .before .before .before .before .before .before .before .before .before .before .before .before .before .loop-test .taken) (c .before .before .before .before .before .before .before .before .before .before .before .before .before .before .before .loop .inv .1) (c .before .before .before .before .before .before .before .before .before .before .before .before .decode .ensures) in let k = c .before .before .before .before .before .before .before .before .before .before .if1 .left in let s = c .before .before .before .before .before .before .before .before .before .before .before .before .before .before .before .loop .st in let x = c .before .before .before .before .before .before .before .before .before .before .before .before .decode .result .what in
+    stopped t k _ (miss-stopped s x _ _ (c .before .parked2 .ensures) (c .before .before .before .before .before .match .keys6) (c .before .before .entry2 .ensures)) (c .if6 .taken)
+
+exit-requires-2 : tie.Need-exit-requires-2 Inv-loop μ-loop
+exit-requires-2 c κs = search needs
+
+mul-t75 : tie.Need-mul-t75 Inv-loop μ-loop
+mul-t75 c = let t = turned (c .before .before .before .before .before .before .before .before .before .before .before .before .before .before .before .before .loop-test .taken) (c .before .before .before .before .before .before .before .before .before .before .before .before .before .before .before .before .before .loop .inv .1) (c .before .before .before .before .before .before .before .before .before .before .before .before .before .before .decode .ensures) in let k = c .before .before .before .before .before .before .before .before .before .before .before .before .if1 .left in let s = c .before .before .before .before .before .before .before .before .before .before .before .before .before .before .before .before .before .loop .st in let x = c .before .before .before .before .before .before .before .before .before .before .before .before .before .before .decode .result .what in
+    let i = in-range t k in let w = carrier-at i (c .before .before .before .before .before .before .before .match .keys6) (omega arith) in omega (arith, w .0, w .1)
+
+element-set-from-st-2 : tie.Need-element-set-from-st-2 Inv-loop μ-loop
+element-set-from-st-2 c = let t = turned (c .before .before .before .before .before .before .before .before .before .before .before .before .before .before .before .before .loop-test .taken) (c .before .before .before .before .before .before .before .before .before .before .before .before .before .before .before .before .before .loop .inv .1) (c .before .before .before .before .before .before .before .before .before .before .before .before .before .before .decode .ensures) in let k = c .before .before .before .before .before .before .before .before .before .before .before .before .if1 .left in let s = c .before .before .before .before .before .before .before .before .before .before .before .before .before .before .before .before .before .loop .st in let x = c .before .before .before .before .before .before .before .before .before .before .before .before .before .before .decode .result .what in
+    let i = in-range t k in let w = carrier-at i (c .before .before .before .before .before .before .before .match .keys6) (omega arith) in omega (arith, w .0, w .1)
+
+cast-k-4 : tie.Need-cast-k-4 Inv-loop μ-loop
+cast-k-4 c = search needs
+
+sub-k-4 : tie.Need-sub-k-4 Inv-loop μ-loop
+sub-k-4 c = let t = turned (c .before .before .before .before .before .before .before .before .before .before .loop-test .taken) (c .before .before .before .before .before .before .before .before .before .before .before .loop .inv .1) (c .before .before .before .before .before .before .before .before .decode .ensures) in let k = c .before .before .before .before .before .before .if1 .left in let s = c .before .before .before .before .before .before .before .before .before .before .before .loop .st in let x = c .before .before .before .before .before .before .before .before .decode .result .what in
+    let i = in-range t k in let w = carrier-at i (c .before .match .keys7) (omega arith) in omega (arith, w .0, w .1)
+
+mul-c-4 : tie.Need-mul-c-4 Inv-loop μ-loop
+mul-c-4 c = let t = turned (c .before .before .before .before .before .before .before .before .before .before .loop-test .taken) (c .before .before .before .before .before .before .before .before .before .before .before .loop .inv .1) (c .before .before .before .before .before .before .before .before .decode .ensures) in let k = c .before .before .before .before .before .before .if1 .left in let s = c .before .before .before .before .before .before .before .before .before .before .before .loop .st in let x = c .before .before .before .before .before .before .before .before .decode .result .what in
+    let i = in-range t k in let w = carrier-at i (c .before .match .keys7) (omega arith) in omega (arith, w .0, w .1)
+
+element-copy-out-c-4 : tie.Need-element-copy-out-c-4 Inv-loop μ-loop
+element-copy-out-c-4 c = let t = turned (c .before .before .before .before .before .before .before .before .before .before .loop-test .taken) (c .before .before .before .before .before .before .before .before .before .before .before .loop .inv .1) (c .before .before .before .before .before .before .before .before .decode .ensures) in let k = c .before .before .before .before .before .before .if1 .left in let s = c .before .before .before .before .before .before .before .before .before .before .before .loop .st in let x = c .before .before .before .before .before .before .before .before .decode .result .what in
+    let i = in-range t k in let w = carrier-at i (c .before .match .keys7) (omega arith) in omega (arith, w .0, w .1)
+
+ready-requires : tie.Need-ready-requires Inv-loop μ-loop
+ready-requires c κs = search needs
+
+returns-6 : tie.Need-returns-6 Inv-loop μ-loop
+returns-6 c = let t = turned (c .before .before .before .before .before .before .before .before .before .before .before .before .before .loop-test .taken) (c .before .before .before .before .before .before .before .before .before .before .before .before .before .before .loop .inv .1) (c .before .before .before .before .before .before .before .before .before .before .before .decode .ensures) in let k = c .before .before .before .before .before .before .before .before .before .if1 .left in let s = c .before .before .before .before .before .before .before .before .before .before .before .before .before .before .loop .st in let x = c .before .before .before .before .before .before .before .before .before .before .before .decode .result .what in
+    stopped t k _ (tuck-unready s x _ (c .before .ready .ensures) (c .before .before .before .before .match .keys7) (c .if7 .taken)) (c .if7 .taken)
+
+tuck-requires : tie.Need-tuck-requires Inv-loop μ-loop
+tuck-requires c κs = let t = turned (c .before .before .before .before .before .before .before .before .before .before .before .before .before .before .loop-test .taken) (c .before .before .before .before .before .before .before .before .before .before .before .before .before .before .before .loop .inv .1) (c .before .before .before .before .before .before .before .before .before .before .before .before .decode .ensures) in let k = c .before .before .before .before .before .before .before .before .before .before .if1 .left in let s = c .before .before .before .before .before .before .before .before .before .before .before .before .before .before .before .loop .st in let x = c .before .before .before .before .before .before .before .before .before .before .before .before .decode .result .what in
+    let i = in-range t k in i .at-bed
+
+returns-7 : tie.Need-returns-7 Inv-loop μ-loop
+returns-7 c = let t = turned (c .before .before .before .before .before .before .before .before .before .before .before .before .before .before .before .before .loop-test .taken) (c .before .before .before .before .before .before .before .before .before .before .before .before .before .before .before .before .before .loop .inv .1) (c .before .before .before .before .before .before .before .before .before .before .before .before .before .before .decode .ensures) in let k = c .before .before .before .before .before .before .before .before .before .before .before .before .if1 .left in let s = c .before .before .before .before .before .before .before .before .before .before .before .before .before .before .before .before .before .loop .st in let x = c .before .before .before .before .before .before .before .before .before .before .before .before .before .before .decode .result .what in
+    simp (c .before .tuck .ensures .1, tuck-kept (s .loops) (x .at) _ (c .before .tuck .ensures .0) (c .if8 .taken)) (stopped t k _ (tuck-stopped s x _ (c .before .before .before .before .ready .ensures) (c .before .before .before .if7 .left) _ (c .before .before .before .before .before .before .before .match .keys7) (c .before .tuck .ensures .0)) (c .if8 .taken))
+
+attach-requires : tie.Need-attach-requires Inv-loop μ-loop
+attach-requires c κs = search needs
+
+mul-then-2 : tie.Need-mul-then-2 Inv-loop μ-loop
+mul-then-2 c = let t = turned (c .before .before .before .before .before .before .before .before .before .before .before .before .before .before .before .before .before .loop-test .taken) (c .before .before .before .before .before .before .before .before .before .before .before .before .before .before .before .before .before .before .loop .inv .1) (c .before .before .before .before .before .before .before .before .before .before .before .before .before .before .before .decode .ensures) in let k = c .before .before .before .before .before .before .before .before .before .before .before .before .before .if1 .left in let s = c .before .before .before .before .before .before .before .before .before .before .before .before .before .before .before .before .before .before .loop .st in let x = c .before .before .before .before .before .before .before .before .before .before .before .before .before .before .before .decode .result .what in
+    let i = in-range t k in let w = carrier-at i (c .before .before .before .before .before .before .before .before .match .keys7) (omega arith) in omega (arith, w .0, w .1)
+
+element-set-from-then-2 : tie.Need-element-set-from-then-2 Inv-loop μ-loop
+element-set-from-then-2 c = let t = turned (c .before .before .before .before .before .before .before .before .before .before .before .before .before .before .before .before .before .loop-test .taken) (c .before .before .before .before .before .before .before .before .before .before .before .before .before .before .before .before .before .before .loop .inv .1) (c .before .before .before .before .before .before .before .before .before .before .before .before .before .before .before .decode .ensures) in let k = c .before .before .before .before .before .before .before .before .before .before .before .before .before .if1 .left in let s = c .before .before .before .before .before .before .before .before .before .before .before .before .before .before .before .before .before .before .loop .st in let x = c .before .before .before .before .before .before .before .before .before .before .before .before .before .before .before .decode .result .what in
+    let i = in-range t k in let w = carrier-at i (c .before .before .before .before .before .before .before .before .match .keys7) (omega arith) in omega (arith, w .0, w .1)
+
+cast-k-5 : tie.Need-cast-k-5 Inv-loop μ-loop
+cast-k-5 c = search needs
+
+sub-k-5 : tie.Need-sub-k-5 Inv-loop μ-loop
+sub-k-5 c = let t = turned (c .before .before .before .before .before .before .before .before .before .before .loop-test .taken) (c .before .before .before .before .before .before .before .before .before .before .before .loop .inv .1) (c .before .before .before .before .before .before .before .before .decode .ensures) in let k = c .before .before .before .before .before .before .if1 .left in let s = c .before .before .before .before .before .before .before .before .before .before .before .loop .st in let x = c .before .before .before .before .before .before .before .before .decode .result .what in
+    let i = in-range t k in let w = carrier-at i (c .before .match .keys8) (omega arith) in omega (arith, w .0, w .1)
+
+mul-c-5 : tie.Need-mul-c-5 Inv-loop μ-loop
+mul-c-5 c = let t = turned (c .before .before .before .before .before .before .before .before .before .before .loop-test .taken) (c .before .before .before .before .before .before .before .before .before .before .before .loop .inv .1) (c .before .before .before .before .before .before .before .before .decode .ensures) in let k = c .before .before .before .before .before .before .if1 .left in let s = c .before .before .before .before .before .before .before .before .before .before .before .loop .st in let x = c .before .before .before .before .before .before .before .before .decode .result .what in
+    let i = in-range t k in let w = carrier-at i (c .before .match .keys8) (omega arith) in omega (arith, w .0, w .1)
+
+element-copy-out-c-5 : tie.Need-element-copy-out-c-5 Inv-loop μ-loop
+element-copy-out-c-5 c = let t = turned (c .before .before .before .before .before .before .before .before .before .before .loop-test .taken) (c .before .before .before .before .before .before .before .before .before .before .before .loop .inv .1) (c .before .before .before .before .before .before .before .before .decode .ensures) in let k = c .before .before .before .before .before .before .if1 .left in let s = c .before .before .before .before .before .before .before .before .before .before .before .loop .st in let x = c .before .before .before .before .before .before .before .before .decode .result .what in
+    let i = in-range t k in let w = carrier-at i (c .before .match .keys8) (omega arith) in omega (arith, w .0, w .1)
+
+ready-requires-2 : tie.Need-ready-requires-2 Inv-loop μ-loop
+ready-requires-2 c κs = search needs
+
+returns-8 : tie.Need-returns-8 Inv-loop μ-loop
+returns-8 c = let t = turned (c .before .before .before .before .before .before .before .before .before .before .before .before .before .loop-test .taken) (c .before .before .before .before .before .before .before .before .before .before .before .before .before .before .loop .inv .1) (c .before .before .before .before .before .before .before .before .before .before .before .decode .ensures) in let k = c .before .before .before .before .before .before .before .before .before .if1 .left in let s = c .before .before .before .before .before .before .before .before .before .before .before .before .before .before .loop .st in let x = c .before .before .before .before .before .before .before .before .before .before .before .decode .result .what in
+    stopped t k _ (knit-unready s x _ (c .before .ready2 .ensures) (c .before .before .before .before .match .keys8)) (c .if9 .taken)
+
+put-requires-2 : tie.Need-put-requires-2 Inv-loop μ-loop
+put-requires-2 c κs = let t = turned (c .before .before .before .before .before .before .before .before .before .before .before .before .before .before .loop-test .taken) (c .before .before .before .before .before .before .before .before .before .before .before .before .before .before .before .loop .inv .1) (c .before .before .before .before .before .before .before .before .before .before .before .before .decode .ensures) in let k = c .before .before .before .before .before .before .before .before .before .before .if1 .left in let s = c .before .before .before .before .before .before .before .before .before .before .before .before .before .before .before .loop .st in let x = c .before .before .before .before .before .before .before .before .before .before .before .before .decode .result .what in
+    let i = in-range t k in i .at-bed
+
+attach-requires-2 : tie.Need-attach-requires-2 Inv-loop μ-loop
+attach-requires-2 c κs = search needs
+
+mul-then-3 : tie.Need-mul-then-3 Inv-loop μ-loop
+mul-then-3 c = let t = turned (c .before .before .before .before .before .before .before .before .before .before .before .before .before .before .before .before .loop-test .taken) (c .before .before .before .before .before .before .before .before .before .before .before .before .before .before .before .before .before .loop .inv .1) (c .before .before .before .before .before .before .before .before .before .before .before .before .before .before .decode .ensures) in let k = c .before .before .before .before .before .before .before .before .before .before .before .before .if1 .left in let s = c .before .before .before .before .before .before .before .before .before .before .before .before .before .before .before .before .before .loop .st in let x = c .before .before .before .before .before .before .before .before .before .before .before .before .before .before .decode .result .what in
+    let i = in-range t k in let w = carrier-at i (c .before .before .before .before .before .before .before .match .keys8) (omega arith) in omega (arith, w .0, w .1)
+
+element-set-from-then-3 : tie.Need-element-set-from-then-3 Inv-loop μ-loop
+element-set-from-then-3 c = let t = turned (c .before .before .before .before .before .before .before .before .before .before .before .before .before .before .before .before .loop-test .taken) (c .before .before .before .before .before .before .before .before .before .before .before .before .before .before .before .before .before .loop .inv .1) (c .before .before .before .before .before .before .before .before .before .before .before .before .before .before .decode .ensures) in let k = c .before .before .before .before .before .before .before .before .before .before .before .before .if1 .left in let s = c .before .before .before .before .before .before .before .before .before .before .before .before .before .before .before .before .before .loop .st in let x = c .before .before .before .before .before .before .before .before .before .before .before .before .before .before .decode .result .what in
+    let i = in-range t k in let w = carrier-at i (c .before .before .before .before .before .before .before .match .keys8) (omega arith) in omega (arith, w .0, w .1)
+
+cast-k-6 : tie.Need-cast-k-6 Inv-loop μ-loop
+cast-k-6 c = search needs
+
+sub-k-6 : tie.Need-sub-k-6 Inv-loop μ-loop
+sub-k-6 c = let no = c .before .before .match .rest in let t = turned (c .before .before .before .before .before .before .before .before .before .before .before .loop-test .taken) (c .before .before .before .before .before .before .before .before .before .before .before .before .loop .inv .1) (c .before .before .before .before .before .before .before .before .before .decode .ensures) in let k = c .before .before .before .before .before .before .before .if1 .left in let s = c .before .before .before .before .before .before .before .before .before .before .before .before .loop .st in let x = c .before .before .before .before .before .before .before .before .before .decode .result .what in
+    let i = in-range t k in let w = carrier-at i (nine i (no .0 .0 .0 .0 .0 .0 .0 .1) (no .0 .0 .0 .0 .0 .0 .1) (no .0 .0 .0 .0 .0 .1) (no .0 .0 .0 .0 .1) (no .0 .0 .0 .1) (no .0 .0 .1) (no .0 .1) (no .1)) (omega arith) in omega (arith, w .0, w .1)
+
+mul-c-6 : tie.Need-mul-c-6 Inv-loop μ-loop
+mul-c-6 c = let no = c .before .before .match .rest in let t = turned (c .before .before .before .before .before .before .before .before .before .before .before .loop-test .taken) (c .before .before .before .before .before .before .before .before .before .before .before .before .loop .inv .1) (c .before .before .before .before .before .before .before .before .before .decode .ensures) in let k = c .before .before .before .before .before .before .before .if1 .left in let s = c .before .before .before .before .before .before .before .before .before .before .before .before .loop .st in let x = c .before .before .before .before .before .before .before .before .before .decode .result .what in
+    let i = in-range t k in let w = carrier-at i (nine i (no .0 .0 .0 .0 .0 .0 .0 .1) (no .0 .0 .0 .0 .0 .0 .1) (no .0 .0 .0 .0 .0 .1) (no .0 .0 .0 .0 .1) (no .0 .0 .0 .1) (no .0 .0 .1) (no .0 .1) (no .1)) (omega arith) in omega (arith, w .0, w .1)
+
+element-copy-out-c-6 : tie.Need-element-copy-out-c-6 Inv-loop μ-loop
+element-copy-out-c-6 c = let no = c .before .before .match .rest in let t = turned (c .before .before .before .before .before .before .before .before .before .before .before .loop-test .taken) (c .before .before .before .before .before .before .before .before .before .before .before .before .loop .inv .1) (c .before .before .before .before .before .before .before .before .before .decode .ensures) in let k = c .before .before .before .before .before .before .before .if1 .left in let s = c .before .before .before .before .before .before .before .before .before .before .before .before .loop .st in let x = c .before .before .before .before .before .before .before .before .before .decode .result .what in
+    let i = in-range t k in let w = carrier-at i (nine i (no .0 .0 .0 .0 .0 .0 .0 .1) (no .0 .0 .0 .0 .0 .0 .1) (no .0 .0 .0 .0 .0 .1) (no .0 .0 .0 .0 .1) (no .0 .0 .0 .1) (no .0 .0 .1) (no .0 .1) (no .1)) (omega arith) in omega (arith, w .0, w .1)
+
+ready-requires-3 : tie.Need-ready-requires-3 Inv-loop μ-loop
+ready-requires-3 c κs = search needs
+
+returns-9 : tie.Need-returns-9 Inv-loop μ-loop
+returns-9 c = let no = c .before .before .before .before .before .match .rest in let t = turned (c .before .before .before .before .before .before .before .before .before .before .before .before .before .before .loop-test .taken) (c .before .before .before .before .before .before .before .before .before .before .before .before .before .before .before .loop .inv .1) (c .before .before .before .before .before .before .before .before .before .before .before .before .decode .ensures) in let k = c .before .before .before .before .before .before .before .before .before .before .if1 .left in let s = c .before .before .before .before .before .before .before .before .before .before .before .before .before .before .before .loop .st in let x = c .before .before .before .before .before .before .before .before .before .before .before .before .decode .result .what in let i = in-range t k in
+    stopped t k _ (split-unready s x _ (c .before .ready3 .ensures) (nine i (no .0 .0 .0 .0 .0 .0 .0 .1) (no .0 .0 .0 .0 .0 .0 .1) (no .0 .0 .0 .0 .0 .1) (no .0 .0 .0 .0 .1) (no .0 .0 .0 .1) (no .0 .0 .1) (no .0 .1) (no .1)) (c .if10 .taken)) (c .if10 .taken)
+
+transfer-requires-2 : tie.Need-transfer-requires-2 Inv-loop μ-loop
+transfer-requires-2 c κs = let no = c .before .before .before .before .before .before .match .rest in let t = turned (c .before .before .before .before .before .before .before .before .before .before .before .before .before .before .before .loop-test .taken) (c .before .before .before .before .before .before .before .before .before .before .before .before .before .before .before .before .loop .inv .1) (c .before .before .before .before .before .before .before .before .before .before .before .before .before .decode .ensures) in let k = c .before .before .before .before .before .before .before .before .before .before .before .if1 .left in let s = c .before .before .before .before .before .before .before .before .before .before .before .before .before .before .before .before .loop .st in let x = c .before .before .before .before .before .before .before .before .before .before .before .before .before .decode .result .what in
+    let i = in-range t k in (i .at-bed, i .to-bed)
+
+returns-10 : tie.Need-returns-10 Inv-loop μ-loop
+returns-10 c = let no = c .before .before .before .before .before .before .before .before .match .rest in let t = turned (c .before .before .before .before .before .before .before .before .before .before .before .before .before .before .before .before .before .loop-test .taken) (c .before .before .before .before .before .before .before .before .before .before .before .before .before .before .before .before .before .before .loop .inv .1) (c .before .before .before .before .before .before .before .before .before .before .before .before .before .before .before .decode .ensures) in let k = c .before .before .before .before .before .before .before .before .before .before .before .before .before .if1 .left in let s = c .before .before .before .before .before .before .before .before .before .before .before .before .before .before .before .before .before .before .loop .st in let x = c .before .before .before .before .before .before .before .before .before .before .before .before .before .before .before .decode .result .what in let i = in-range t k in
+    simp (c .before .transfer2 .ensures .1, transfer-kept (s .loops) (x .at) (x .to) (s .racking) 1 _ (c .before .transfer2 .ensures .0) (c .if11 .taken)) (stopped t k _ (split-stopped s x _ (c .before .before .before .before .ready3 .ensures) (c .before .before .before .if10 .left) _ (nine i (no .0 .0 .0 .0 .0 .0 .0 .1) (no .0 .0 .0 .0 .0 .0 .1) (no .0 .0 .0 .0 .0 .1) (no .0 .0 .0 .0 .1) (no .0 .0 .0 .1) (no .0 .0 .1) (no .0 .1) (no .1)) (c .before .transfer2 .ensures .0)) (c .if11 .taken))
+
+attach-requires-3 : tie.Need-attach-requires-3 Inv-loop μ-loop
+attach-requires-3 c κs = search needs
+
+any-attached-requires-2 : tie.Need-any-attached-requires-2 Inv-loop μ-loop
+any-attached-requires-2 c κs = search needs
+
+attachments-moved-requires-2 : tie.Need-attachments-moved-requires-2 Inv-loop μ-loop
+attachments-moved-requires-2 c κs = search needs
+
+mul-ds : tie.Need-mul-ds Inv-loop μ-loop
+mul-ds c = let no = c .before .before .before .before .before .before .before .before .before .before .before .before .before .match .rest in let t = turned (c .before .before .before .before .before .before .before .before .before .before .before .before .before .before .before .before .before .before .before .before .before .before .loop-test .taken) (c .before .before .before .before .before .before .before .before .before .before .before .before .before .before .before .before .before .before .before .before .before .before .before .loop .inv .1) (c .before .before .before .before .before .before .before .before .before .before .before .before .before .before .before .before .before .before .before .before .decode .ensures) in let k = c .before .before .before .before .before .before .before .before .before .before .before .before .before .before .before .before .before .before .if1 .left in let s = c .before .before .before .before .before .before .before .before .before .before .before .before .before .before .before .before .before .before .before .before .before .before .before .loop .st in let x = c .before .before .before .before .before .before .before .before .before .before .before .before .before .before .before .before .before .before .before .before .decode .result .what in
+    let i = in-range t k in let w = carrier-at i (nine i (no .0 .0 .0 .0 .0 .0 .0 .1) (no .0 .0 .0 .0 .0 .0 .1) (no .0 .0 .0 .0 .0 .1) (no .0 .0 .0 .0 .1) (no .0 .0 .0 .1) (no .0 .0 .1) (no .0 .1) (no .1)) (omega arith) in omega (arith, w .0, w .1)
+
+array-set-from-ds : tie.Need-array-set-from-ds Inv-loop μ-loop
+array-set-from-ds c = let no = c .before .before .before .before .before .before .before .before .before .before .before .before .before .match .rest in let t = turned (c .before .before .before .before .before .before .before .before .before .before .before .before .before .before .before .before .before .before .before .before .before .before .loop-test .taken) (c .before .before .before .before .before .before .before .before .before .before .before .before .before .before .before .before .before .before .before .before .before .before .before .loop .inv .1) (c .before .before .before .before .before .before .before .before .before .before .before .before .before .before .before .before .before .before .before .before .decode .ensures) in let k = c .before .before .before .before .before .before .before .before .before .before .before .before .before .before .before .before .before .before .if1 .left in let s = c .before .before .before .before .before .before .before .before .before .before .before .before .before .before .before .before .before .before .before .before .before .before .before .loop .st in let x = c .before .before .before .before .before .before .before .before .before .before .before .before .before .before .before .before .before .before .before .before .decode .result .what in
+    let i = in-range t k in let w = carrier-at i (nine i (no .0 .0 .0 .0 .0 .0 .0 .1) (no .0 .0 .0 .0 .0 .0 .1) (no .0 .0 .0 .0 .0 .1) (no .0 .0 .0 .0 .1) (no .0 .0 .0 .1) (no .0 .0 .1) (no .0 .1) (no .1)) (omega arith) in omega (arith, w .0, w .1)
+
+mul-then-4 : tie.Need-mul-then-4 Inv-loop μ-loop
+mul-then-4 c = let no = c .before .before .before .before .before .before .before .before .before .before .before .before .match .rest in let t = turned (c .before .before .before .before .before .before .before .before .before .before .before .before .before .before .before .before .before .before .before .before .before .loop-test .taken) (c .before .before .before .before .before .before .before .before .before .before .before .before .before .before .before .before .before .before .before .before .before .before .loop .inv .1) (c .before .before .before .before .before .before .before .before .before .before .before .before .before .before .before .before .before .before .before .decode .ensures) in let k = c .before .before .before .before .before .before .before .before .before .before .before .before .before .before .before .before .before .if1 .left in let s = c .before .before .before .before .before .before .before .before .before .before .before .before .before .before .before .before .before .before .before .before .before .before .loop .st in let x = c .before .before .before .before .before .before .before .before .before .before .before .before .before .before .before .before .before .before .before .decode .result .what in
+    let i = in-range t k in let w = carrier-at i (nine i (no .0 .0 .0 .0 .0 .0 .0 .1) (no .0 .0 .0 .0 .0 .0 .1) (no .0 .0 .0 .0 .0 .1) (no .0 .0 .0 .0 .1) (no .0 .0 .0 .1) (no .0 .0 .1) (no .0 .1) (no .1)) (omega arith) in omega (arith, w .0, w .1)
+
+element-set-from-then-4 : tie.Need-element-set-from-then-4 Inv-loop μ-loop
+element-set-from-then-4 c = let no = c .before .before .before .before .before .before .before .before .before .before .before .before .match .rest in let t = turned (c .before .before .before .before .before .before .before .before .before .before .before .before .before .before .before .before .before .before .before .before .before .loop-test .taken) (c .before .before .before .before .before .before .before .before .before .before .before .before .before .before .before .before .before .before .before .before .before .before .loop .inv .1) (c .before .before .before .before .before .before .before .before .before .before .before .before .before .before .before .before .before .before .before .decode .ensures) in let k = c .before .before .before .before .before .before .before .before .before .before .before .before .before .before .before .before .before .if1 .left in let s = c .before .before .before .before .before .before .before .before .before .before .before .before .before .before .before .before .before .before .before .before .before .before .loop .st in let x = c .before .before .before .before .before .before .before .before .before .before .before .before .before .before .before .before .before .before .before .decode .result .what in
+    let i = in-range t k in let w = carrier-at i (nine i (no .0 .0 .0 .0 .0 .0 .0 .1) (no .0 .0 .0 .0 .0 .0 .1) (no .0 .0 .0 .0 .0 .1) (no .0 .0 .0 .0 .1) (no .0 .0 .0 .1) (no .0 .0 .1) (no .0 .1) (no .1)) (omega arith) in omega (arith, w .0, w .1)
+
+loop-less : tie.Need-loop-less Inv-loop μ-loop
+loop-less c = let t = turned (c .before .before .before .before .before .before .before .before .before .before .loop-test .taken) (c .before .before .before .before .before .before .before .before .before .before .before .loop .inv .1) (c .before .before .before .before .before .before .before .before .decode .ensures) in let k = c .before .before .before .before .before .before .if1 .left in let s = c .before .before .before .before .before .before .before .before .before .before .before .loop .st in let x = c .before .before .before .before .before .before .before .before .decode .result .what in
+    let z = sized t k in omega (arith, z .0, z .1, c .before .before .before .before .before .before .before .before .before .before .loop-test .taken)
+
+loop-again : tie.Need-loop-again Inv-loop μ-loop
+loop-again c = let t = turned (c .before .before .before .before .before .before .before .before .before .before .loop-test .taken) (c .before .before .before .before .before .before .before .before .before .before .before .loop .inv .1) (c .before .before .before .before .before .before .before .before .decode .ensures) in let k = c .before .before .before .before .before .before .if1 .left in let s = c .before .before .before .before .before .before .before .before .before .before .before .loop .st in let x = c .before .before .before .before .before .before .before .before .decode .result .what in
+    let m = rack-made s x (c .before .match .keys1) in let z = sized t k in (omega (arith, z .1, c .before .before .before .before .before .before .before .before .before .before .loop-test .taken), goes t k _ (m .0) (m .1))
+
+loop-less-2 : tie.Need-loop-less-2 Inv-loop μ-loop
+loop-less-2 c = let t = turned (c .before .before .before .before .before .before .before .before .before .before .before .loop-test .taken) (c .before .before .before .before .before .before .before .before .before .before .before .before .loop .inv .1) (c .before .before .before .before .before .before .before .before .before .decode .ensures) in let k = c .before .before .before .before .before .before .before .if1 .left in let s = c .before .before .before .before .before .before .before .before .before .before .before .before .loop .st in let x = c .before .before .before .before .before .before .before .before .before .decode .result .what in
+    let z = sized t k in omega (arith, z .0, z .1, c .before .before .before .before .before .before .before .before .before .before .before .loop-test .taken)
+
+loop-again-2 : tie.Need-loop-again-2 Inv-loop μ-loop
+loop-again-2 c = let t = turned (c .before .before .before .before .before .before .before .before .before .before .before .loop-test .taken) (c .before .before .before .before .before .before .before .before .before .before .before .before .loop .inv .1) (c .before .before .before .before .before .before .before .before .before .decode .ensures) in let k = c .before .before .before .before .before .before .before .if1 .left in let s = c .before .before .before .before .before .before .before .before .before .before .before .before .loop .st in let x = c .before .before .before .before .before .before .before .before .before .decode .result .what in
+    let m = drop-made s x (c .before .before .match .keys2) _ (c .put .ensures) in let z = sized t k in (omega (arith, z .1, c .before .before .before .before .before .before .before .before .before .before .before .loop-test .taken), goes t k _ (m .0) (m .1))
+
+loop-less-3 : tie.Need-loop-less-3 Inv-loop μ-loop
+loop-less-3 c = let t = turned (c .before .before .before .before .before .before .before .before .before .before .before .before .before .before .before .before .before .loop-test .taken) (c .before .before .before .before .before .before .before .before .before .before .before .before .before .before .before .before .before .before .loop .inv .1) (c .before .before .before .before .before .before .before .before .before .before .before .before .before .before .before .decode .ensures) in let k = c .before .before .before .before .before .before .before .before .before .before .before .before .before .if1 .left in let s = c .before .before .before .before .before .before .before .before .before .before .before .before .before .before .before .before .before .before .loop .st in let x = c .before .before .before .before .before .before .before .before .before .before .before .before .before .before .before .decode .result .what in
+    let z = sized t k in omega (arith, z .0, z .1, c .before .before .before .before .before .before .before .before .before .before .before .before .before .before .before .before .before .loop-test .taken)
+
+loop-again-3 : tie.Need-loop-again-3 Inv-loop μ-loop
+loop-again-3 c = let t = turned (c .before .before .before .before .before .before .before .before .before .before .before .before .before .before .before .before .before .loop-test .taken) (c .before .before .before .before .before .before .before .before .before .before .before .before .before .before .before .before .before .before .loop .inv .1) (c .before .before .before .before .before .before .before .before .before .before .before .before .before .before .before .decode .ensures) in let k = c .before .before .before .before .before .before .before .before .before .before .before .before .before .if1 .left in let s = c .before .before .before .before .before .before .before .before .before .before .before .before .before .before .before .before .before .before .loop .st in let x = c .before .before .before .before .before .before .before .before .before .before .before .before .before .before .before .decode .result .what in
+    let m = xfer-made s x (c .before .before .before .before .before .before .before .before .match .keys3) _ (c .before .before .before .before .before .transfer .ensures .0) (c .before .before .before .before .if2 .left) _ _ (c .before .before .before .before .before .transfer .ensures .1) (c .attachments-moved .ensures) in let z = sized t k in (omega (arith, z .1, c .before .before .before .before .before .before .before .before .before .before .before .before .before .before .before .before .before .loop-test .taken), goes t k _ (m .0) (m .1))
+
+loop-less-4 : tie.Need-loop-less-4 Inv-loop μ-loop
+loop-less-4 c = let t = turned (c .before .before .before .before .before .before .before .before .before .before .before .before .before .before .before .before .loop-test .taken) (c .before .before .before .before .before .before .before .before .before .before .before .before .before .before .before .before .before .loop .inv .1) (c .before .before .before .before .before .before .before .before .before .before .before .before .before .before .decode .ensures) in let k = c .before .before .before .before .before .before .before .before .before .before .before .before .if1 .left in let s = c .before .before .before .before .before .before .before .before .before .before .before .before .before .before .before .before .before .loop .st in let x = c .before .before .before .before .before .before .before .before .before .before .before .before .before .before .decode .result .what in
+    let z = sized t k in omega (arith, z .0, z .1, c .before .before .before .before .before .before .before .before .before .before .before .before .before .before .before .before .loop-test .taken)
+
+loop-again-4 : tie.Need-loop-again-4 Inv-loop μ-loop
+loop-again-4 c = let t = turned (c .before .before .before .before .before .before .before .before .before .before .before .before .before .before .before .before .loop-test .taken) (c .before .before .before .before .before .before .before .before .before .before .before .before .before .before .before .before .before .loop .inv .1) (c .before .before .before .before .before .before .before .before .before .before .before .before .before .before .decode .ensures) in let k = c .before .before .before .before .before .before .before .before .before .before .before .before .if1 .left in let s = c .before .before .before .before .before .before .before .before .before .before .before .before .before .before .before .before .before .loop .st in let x = c .before .before .before .before .before .before .before .before .before .before .before .before .before .before .decode .result .what in
+    let m = xfer-made s x (c .before .before .before .before .before .before .before .match .keys3) _ (c .before .before .before .before .transfer .ensures .0) (c .before .before .before .if2 .left) _ _ (c .before .before .before .before .transfer .ensures .1) (unmoved (x .at) (x .to) (s .carriers) (sym (c .before .any-attached .ensures) ∙ c .if3 .left)) in let z = sized t k in (omega (arith, z .1, c .before .before .before .before .before .before .before .before .before .before .before .before .before .before .before .before .loop-test .taken), goes t k _ (m .0) (m .1))
+
+loop-less-5 : tie.Need-loop-less-5 Inv-loop μ-loop
+loop-less-5 c = let t = turned (c .before .before .before .before .before .before .before .before .before .before .before .before .before .before .loop-test .taken) (c .before .before .before .before .before .before .before .before .before .before .before .before .before .before .before .loop .inv .1) (c .before .before .before .before .before .before .before .before .before .before .before .before .decode .ensures) in let k = c .before .before .before .before .before .before .before .before .before .before .if1 .left in let s = c .before .before .before .before .before .before .before .before .before .before .before .before .before .before .before .loop .st in let x = c .before .before .before .before .before .before .before .before .before .before .before .before .decode .result .what in
+    let z = sized t k in omega (arith, z .0, z .1, c .before .before .before .before .before .before .before .before .before .before .before .before .before .before .loop-test .taken)
+
+loop-again-5 : tie.Need-loop-again-5 Inv-loop μ-loop
+loop-again-5 c = let t = turned (c .before .before .before .before .before .before .before .before .before .before .before .before .before .before .loop-test .taken) (c .before .before .before .before .before .before .before .before .before .before .before .before .before .before .before .loop .inv .1) (c .before .before .before .before .before .before .before .before .before .before .before .before .decode .ensures) in let k = c .before .before .before .before .before .before .before .before .before .before .if1 .left in let s = c .before .before .before .before .before .before .before .before .before .before .before .before .before .before .before .loop .st in let x = c .before .before .before .before .before .before .before .before .before .before .before .before .decode .result .what in
+    let m = in-made s x (c .before .before .before .before .before .match .keys4) (c .before .if4 .left) _ (c .entry .ensures) in let z = sized t k in (omega (arith, z .1, c .before .before .before .before .before .before .before .before .before .before .before .before .before .before .loop-test .taken), goes t k _ (m .0) (m .1))
+
+loop-less-6 : tie.Need-loop-less-6 Inv-loop μ-loop
+loop-less-6 c = let t = turned (c .before .before .before .before .before .before .before .before .before .before .before .before .before .before .before .loop-test .taken) (c .before .before .before .before .before .before .before .before .before .before .before .before .before .before .before .before .loop .inv .1) (c .before .before .before .before .before .before .before .before .before .before .before .before .before .decode .ensures) in let k = c .before .before .before .before .before .before .before .before .before .before .before .if1 .left in let s = c .before .before .before .before .before .before .before .before .before .before .before .before .before .before .before .before .loop .st in let x = c .before .before .before .before .before .before .before .before .before .before .before .before .before .decode .result .what in
+    let z = sized t k in omega (arith, z .0, z .1, c .before .before .before .before .before .before .before .before .before .before .before .before .before .before .before .loop-test .taken)
+
+loop-again-6 : tie.Need-loop-again-6 Inv-loop μ-loop
+loop-again-6 c = let t = turned (c .before .before .before .before .before .before .before .before .before .before .before .before .before .before .before .loop-test .taken) (c .before .before .before .before .before .before .before .before .before .before .before .before .before .before .before .before .loop .inv .1) (c .before .before .before .before .before .before .before .before .before .before .before .before .before .decode .ensures) in let k = c .before .before .before .before .before .before .before .before .before .before .before .if1 .left in let s = c .before .before .before .before .before .before .before .before .before .before .before .before .before .before .before .before .loop .st in let x = c .before .before .before .before .before .before .before .before .before .before .before .before .before .decode .result .what in
+    let m = out-made s x _ _ (c .before .before .parked .ensures) (c .before .before .before .before .before .before .match .keys5) (c .before .before .before .exit .ensures) (c .before .if5 .left) _ (c .inactive .ensures) in let z = sized t k in (omega (arith, z .1, c .before .before .before .before .before .before .before .before .before .before .before .before .before .before .before .loop-test .taken), goes t k _ (m .0) (m .1))
+
+loop-less-7 : tie.Need-loop-less-7 Inv-loop μ-loop
+loop-less-7 c = let t = turned (c .before .before .before .before .before .before .before .before .before .before .before .before .before .before .before .before .loop-test .taken) (c .before .before .before .before .before .before .before .before .before .before .before .before .before .before .before .before .before .loop .inv .1) (c .before .before .before .before .before .before .before .before .before .before .before .before .before .before .decode .ensures) in let k = c .before .before .before .before .before .before .before .before .before .before .before .before .if1 .left in let s = c .before .before .before .before .before .before .before .before .before .before .before .before .before .before .before .before .before .loop .st in let x = c .before .before .before .before .before .before .before .before .before .before .before .before .before .before .decode .result .what in
+    let z = sized t k in omega (arith, z .0, z .1, c .before .before .before .before .before .before .before .before .before .before .before .before .before .before .before .before .loop-test .taken)
+
+loop-again-7 : tie.Need-loop-again-7 Inv-loop μ-loop
+loop-again-7 c = let t = turned (c .before .before .before .before .before .before .before .before .before .before .before .before .before .before .before .before .loop-test .taken) (c .before .before .before .before .before .before .before .before .before .before .before .before .before .before .before .before .before .loop .inv .1) (c .before .before .before .before .before .before .before .before .before .before .before .before .before .before .decode .ensures) in let k = c .before .before .before .before .before .before .before .before .before .before .before .before .if1 .left in let s = c .before .before .before .before .before .before .before .before .before .before .before .before .before .before .before .before .before .loop .st in let x = c .before .before .before .before .before .before .before .before .before .before .before .before .before .before .decode .result .what in
+    let m = miss-made s x _ _ (c .before .before .before .parked2 .ensures) (c .before .before .before .before .before .before .before .match .keys6) (c .before .before .before .before .entry2 .ensures) (c .before .before .if6 .left) _ (c .before .exit2 .ensures) in let z = sized t k in (omega (arith, z .1, c .before .before .before .before .before .before .before .before .before .before .before .before .before .before .before .before .loop-test .taken), goes t k _ (m .0) (m .1))
+
+loop-less-8 : tie.Need-loop-less-8 Inv-loop μ-loop
+loop-less-8 c = let t = turned (c .before .before .before .before .before .before .before .before .before .before .before .before .before .before .before .before .before .loop-test .taken) (c .before .before .before .before .before .before .before .before .before .before .before .before .before .before .before .before .before .before .loop .inv .1) (c .before .before .before .before .before .before .before .before .before .before .before .before .before .before .before .decode .ensures) in let k = c .before .before .before .before .before .before .before .before .before .before .before .before .before .if1 .left in let s = c .before .before .before .before .before .before .before .before .before .before .before .before .before .before .before .before .before .before .loop .st in let x = c .before .before .before .before .before .before .before .before .before .before .before .before .before .before .before .decode .result .what in
+    let z = sized t k in omega (arith, z .0, z .1, c .before .before .before .before .before .before .before .before .before .before .before .before .before .before .before .before .before .loop-test .taken)
+
+loop-again-8 : tie.Need-loop-again-8 Inv-loop μ-loop
+loop-again-8 c = let t = turned (c .before .before .before .before .before .before .before .before .before .before .before .before .before .before .before .before .before .loop-test .taken) (c .before .before .before .before .before .before .before .before .before .before .before .before .before .before .before .before .before .before .loop .inv .1) (c .before .before .before .before .before .before .before .before .before .before .before .before .before .before .before .decode .ensures) in let k = c .before .before .before .before .before .before .before .before .before .before .before .before .before .if1 .left in let s = c .before .before .before .before .before .before .before .before .before .before .before .before .before .before .before .before .before .before .loop .st in let x = c .before .before .before .before .before .before .before .before .before .before .before .before .before .before .before .decode .result .what in
+    let m = tuck-made-at s x _ (c .before .before .before .before .before .ready .ensures) (c .before .before .before .before .if7 .left) _ (c .attach .ensures) _ (c .before .before .before .before .before .before .before .before .match .keys7) (c .before .before .tuck .ensures .0) (c .before .if8 .left) _ (c .before .before .tuck .ensures .1) in let z = sized t k in (omega (arith, z .1, c .before .before .before .before .before .before .before .before .before .before .before .before .before .before .before .before .before .loop-test .taken), goes t k _ (m .0) (m .1))
+
+loop-less-9 : tie.Need-loop-less-9 Inv-loop μ-loop
+loop-less-9 c = let t = turned (c .before .before .before .before .before .before .before .before .before .before .before .before .before .before .before .before .loop-test .taken) (c .before .before .before .before .before .before .before .before .before .before .before .before .before .before .before .before .before .loop .inv .1) (c .before .before .before .before .before .before .before .before .before .before .before .before .before .before .decode .ensures) in let k = c .before .before .before .before .before .before .before .before .before .before .before .before .if1 .left in let s = c .before .before .before .before .before .before .before .before .before .before .before .before .before .before .before .before .before .loop .st in let x = c .before .before .before .before .before .before .before .before .before .before .before .before .before .before .decode .result .what in
+    let z = sized t k in omega (arith, z .0, z .1, c .before .before .before .before .before .before .before .before .before .before .before .before .before .before .before .before .loop-test .taken)
+
+loop-again-9 : tie.Need-loop-again-9 Inv-loop μ-loop
+loop-again-9 c = let t = turned (c .before .before .before .before .before .before .before .before .before .before .before .before .before .before .before .before .loop-test .taken) (c .before .before .before .before .before .before .before .before .before .before .before .before .before .before .before .before .before .loop .inv .1) (c .before .before .before .before .before .before .before .before .before .before .before .before .before .before .decode .ensures) in let k = c .before .before .before .before .before .before .before .before .before .before .before .before .if1 .left in let s = c .before .before .before .before .before .before .before .before .before .before .before .before .before .before .before .before .before .loop .st in let x = c .before .before .before .before .before .before .before .before .before .before .before .before .before .before .decode .result .what in
+    let m = knit-made s x _ (c .before .before .before .before .ready2 .ensures) (c .before .before .before .if9 .left) _ (c .attach2 .ensures) (c .before .before .before .before .before .before .before .match .keys8) _ (c .before .put2 .ensures) in let z = sized t k in (omega (arith, z .1, c .before .before .before .before .before .before .before .before .before .before .before .before .before .before .before .before .loop-test .taken), goes t k _ (m .0) (m .1))
+
+loop-less-10 : tie.Need-loop-less-10 Inv-loop μ-loop
+loop-less-10 c = let no = c .before .before .before .before .before .before .before .before .before .before .before .before .before .match .rest in let t = turned (c .before .before .before .before .before .before .before .before .before .before .before .before .before .before .before .before .before .before .before .before .before .before .loop-test .taken) (c .before .before .before .before .before .before .before .before .before .before .before .before .before .before .before .before .before .before .before .before .before .before .before .loop .inv .1) (c .before .before .before .before .before .before .before .before .before .before .before .before .before .before .before .before .before .before .before .before .decode .ensures) in let k = c .before .before .before .before .before .before .before .before .before .before .before .before .before .before .before .before .before .before .if1 .left in let s = c .before .before .before .before .before .before .before .before .before .before .before .before .before .before .before .before .before .before .before .before .before .before .before .loop .st in let x = c .before .before .before .before .before .before .before .before .before .before .before .before .before .before .before .before .before .before .before .before .decode .result .what in
+    let z = sized t k in omega (arith, z .0, z .1, c .before .before .before .before .before .before .before .before .before .before .before .before .before .before .before .before .before .before .before .before .before .before .loop-test .taken)
+
+loop-again-10 : tie.Need-loop-again-10 Inv-loop μ-loop
+loop-again-10 c = let no = c .before .before .before .before .before .before .before .before .before .before .before .before .before .match .rest in let t = turned (c .before .before .before .before .before .before .before .before .before .before .before .before .before .before .before .before .before .before .before .before .before .before .loop-test .taken) (c .before .before .before .before .before .before .before .before .before .before .before .before .before .before .before .before .before .before .before .before .before .before .before .loop .inv .1) (c .before .before .before .before .before .before .before .before .before .before .before .before .before .before .before .before .before .before .before .before .decode .ensures) in let k = c .before .before .before .before .before .before .before .before .before .before .before .before .before .before .before .before .before .before .if1 .left in let s = c .before .before .before .before .before .before .before .before .before .before .before .before .before .before .before .before .before .before .before .before .before .before .before .loop .st in let x = c .before .before .before .before .before .before .before .before .before .before .before .before .before .before .before .before .before .before .before .before .decode .result .what in let i = in-range t k in
+    let m = split-made s x _ (c .before .before .before .before .before .before .before .before .before .ready3 .ensures) (c .before .before .before .before .before .before .before .before .if10 .left) _ (c .before .before .before .before .attach3 .ensures) _ (nine i (no .0 .0 .0 .0 .0 .0 .0 .1) (no .0 .0 .0 .0 .0 .0 .1) (no .0 .0 .0 .0 .0 .1) (no .0 .0 .0 .0 .1) (no .0 .0 .0 .1) (no .0 .0 .1) (no .0 .1) (no .1)) (c .before .before .before .before .before .before .transfer2 .ensures .0) (c .before .before .before .before .before .if11 .left) _ _ (c .before .before .before .before .before .before .transfer2 .ensures .1) (c .attachments-moved2 .ensures) in let z = sized t k in (omega (arith, z .1, c .before .before .before .before .before .before .before .before .before .before .before .before .before .before .before .before .before .before .before .before .before .before .loop-test .taken), goes t k _ (m .0) (m .1))
+
+loop-less-11 : tie.Need-loop-less-11 Inv-loop μ-loop
+loop-less-11 c = let no = c .before .before .before .before .before .before .before .before .before .before .before .before .match .rest in let t = turned (c .before .before .before .before .before .before .before .before .before .before .before .before .before .before .before .before .before .before .before .before .before .loop-test .taken) (c .before .before .before .before .before .before .before .before .before .before .before .before .before .before .before .before .before .before .before .before .before .before .loop .inv .1) (c .before .before .before .before .before .before .before .before .before .before .before .before .before .before .before .before .before .before .before .decode .ensures) in let k = c .before .before .before .before .before .before .before .before .before .before .before .before .before .before .before .before .before .if1 .left in let s = c .before .before .before .before .before .before .before .before .before .before .before .before .before .before .before .before .before .before .before .before .before .before .loop .st in let x = c .before .before .before .before .before .before .before .before .before .before .before .before .before .before .before .before .before .before .before .decode .result .what in
+    let z = sized t k in omega (arith, z .0, z .1, c .before .before .before .before .before .before .before .before .before .before .before .before .before .before .before .before .before .before .before .before .before .loop-test .taken)
+
+loop-again-11 : tie.Need-loop-again-11 Inv-loop μ-loop
+loop-again-11 c = let no = c .before .before .before .before .before .before .before .before .before .before .before .before .match .rest in let t = turned (c .before .before .before .before .before .before .before .before .before .before .before .before .before .before .before .before .before .before .before .before .before .loop-test .taken) (c .before .before .before .before .before .before .before .before .before .before .before .before .before .before .before .before .before .before .before .before .before .before .loop .inv .1) (c .before .before .before .before .before .before .before .before .before .before .before .before .before .before .before .before .before .before .before .decode .ensures) in let k = c .before .before .before .before .before .before .before .before .before .before .before .before .before .before .before .before .before .if1 .left in let s = c .before .before .before .before .before .before .before .before .before .before .before .before .before .before .before .before .before .before .before .before .before .before .loop .st in let x = c .before .before .before .before .before .before .before .before .before .before .before .before .before .before .before .before .before .before .before .decode .result .what in let i = in-range t k in
+    let m = split-made s x _ (c .before .before .before .before .before .before .before .before .ready3 .ensures) (c .before .before .before .before .before .before .before .if10 .left) _ (c .before .before .before .attach3 .ensures) _ (nine i (no .0 .0 .0 .0 .0 .0 .0 .1) (no .0 .0 .0 .0 .0 .0 .1) (no .0 .0 .0 .0 .0 .1) (no .0 .0 .0 .0 .1) (no .0 .0 .0 .1) (no .0 .0 .1) (no .0 .1) (no .1)) (c .before .before .before .before .before .transfer2 .ensures .0) (c .before .before .before .before .if11 .left) _ _ (c .before .before .before .before .before .transfer2 .ensures .1) (unmoved (x .at) (x .to) (s .carriers) (sym (c .before .any-attached2 .ensures) ∙ c .if12 .left)) in let z = sized t k in (omega (arith, z .1, c .before .before .before .before .before .before .before .before .before .before .before .before .before .before .before .before .before .before .before .before .before .loop-test .taken), goes t k _ (m .0) (m .1))
+
+returns-11 : tie.Need-returns-11 Inv-loop μ-loop
+returns-11 c = ended (c .before .before .before .args .state) (c .before .before .before .args .program .now) (c .before .loop .at) (c .before .loop .st) (omega arith) (c .before .loop .inv .1)
+
+pub run-from-spec : {M : Type 1} → statement M
+run-from-spec =
+    tie.close
+    (tie.spec
+    Inv-loop
+    μ-loop
+    loop-holds
+    sub-decode
+    part-decode-start
+    part-decode-end
+    decode-requires
+    returns
+    add-next
+    put-requires
+    transfer-requires
+    returns-2
+    any-attached-requires
+    attachments-moved-requires
+    cast-k
+    sub-k
+    mul-c
+    element-copy-out-c
+    returns-3
+    entry-requires
+    mul-t57
+    element-set-from-st
+    cast-k-2
+    sub-k-2
+    mul-c-2
+    element-copy-out-c-2
+    exit-requires
+    parked-requires
+    returns-4
+    inactive-requires
+    mul-then
+    element-set-from-then
+    cast-k-3
+    sub-k-3
+    mul-c-3
+    element-copy-out-c-3
+    entry-requires-2
+    parked-requires-2
+    returns-5
+    exit-requires-2
+    mul-t75
+    element-set-from-st-2
+    cast-k-4
+    sub-k-4
+    mul-c-4
+    element-copy-out-c-4
+    ready-requires
+    returns-6
+    tuck-requires
+    returns-7
+    attach-requires
+    mul-then-2
+    element-set-from-then-2
+    cast-k-5
+    sub-k-5
+    mul-c-5
+    element-copy-out-c-5
+    ready-requires-2
+    returns-8
+    put-requires-2
+    attach-requires-2
+    mul-then-3
+    element-set-from-then-3
+    cast-k-6
+    sub-k-6
+    mul-c-6
+    element-copy-out-c-6
+    ready-requires-3
+    returns-9
+    transfer-requires-2
+    returns-10
+    attach-requires-3
+    any-attached-requires-2
+    attachments-moved-requires-2
+    mul-ds
+    array-set-from-ds
+    mul-then-4
+    element-set-from-then-4
+    loop-less
+    loop-again
+    loop-less-2
+    loop-again-2
+    loop-less-3
+    loop-again-3
+    loop-less-4
+    loop-again-4
+    loop-less-5
+    loop-again-5
+    loop-less-6
+    loop-again-6
+    loop-less-7
+    loop-again-7
+    loop-less-8
+    loop-again-8
+    loop-less-9
+    loop-again-9
+    loop-less-10
+    loop-again-10
+    loop-less-11
+    loop-again-11
+    returns-11)
