@@ -47,6 +47,7 @@ impl State {
     pub const LOOPS_LIMIT: u8 = 8;
     pub const RACKING_LIMIT: i8 = 8;
     pub const FLOAT_LIMIT: i64 = 20;
+    pub const PROGRAM_LIMIT: usize = 32768;
 
     // The empty state, where every run starts.
     pub fn empty() -> State

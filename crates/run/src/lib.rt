@@ -9,7 +9,7 @@ ghost use Rattle.machine.specs.Geometry.{columnOf, entryOf, exitOf};
 ghost use Rattle.run.specs.Relation.{attached};
 ghost use Rattle.run.specs.Step.{lookOf, parkedNo, floatNo, orNumber};
 ghost use Rattle.run.specs.Leaves.{tuckNo, tucked, transferNo, transferredLoops};
-ghost use Rattle.run.specs.Run.{runFrom, runOf, stepOf};
+ghost use Rattle.run.specs.Run.{runFrom, answerOf, runOf, stepOf};
 use machine::Carrier;
 use machine::Needle;
 use machine::Racking;
@@ -248,4 +248,41 @@ pub fn run_from(state: State, program: &[u8]) -> Reached
         at = next;
     }
     Reached { number: 0, place: 0, state: st }
+}
+
+// An answer: whether the state is the empty one is looked at last.
+fn answered(r: Reached) -> Answer
+    ensures { λ a. ⌜ a ≡ answerOf r ⌝ }
+{
+    let state = r.state;
+    let complete = state.complete();
+    Answer { number: r.number, place: r.place, complete, state }
+}
+
+// The run of a program from the empty state.
+pub fn run(program: &[u8]) -> Answer
+    ensures { λ a. ⌜ a ≡ runOf (now (program .entry)) ⌝ }
+{
+    let state = State::empty();
+    if State::PROGRAM_LIMIT < program.len() {
+        return answered(Reached { number: TOO_LONG, place: 0, state });
+    }
+    answered(run_from(state, program))
+}
+
+// The step of the first record of a slice of any length: the run of that record alone.
+pub fn step(state: State, bytes: &[u8]) -> Stepped
+    ensures { λ t. ⌜ t ≡ stepOf state (now (bytes .entry)) ⌝ }
+{
+    let d = record::decode(bytes);
+    if d.number != 0 {
+        return Stepped { number: d.number, length: 0, state };
+    }
+    let size = d.size;
+    let a = run_from(state, &bytes[..size]);
+    if a.number != 0 {
+        return Stepped { number: a.number, length: 0, state };
+    }
+    let after = a.state;
+    Stepped { number: 0, length: size, state: after }
 }
