@@ -1,0 +1,91 @@
+-- The pieces hold: one test over all rows, computed, and that the test says so. Assumes nothing.
+use Prim.Native.Nat.{ℕ, _-_}
+use mathlib.Core.Path.{_≡_, refl, sym}
+use mathlib.Core.Bool.{Bool, true, false, _&&_, not}
+use mathlib.Core.List.{List, [], _∷_}
+use lib.IntN.{ℤ}
+use lib.Dec.{eqb}
+use lib.ListN.{getD}
+use borrow.Author.Tests.{eqb-true, not-true}
+use Rattle.machine.proofs.Signed.{eqZ-true}
+use Rattle.machine.proofs.Laws.{and-two}
+use Rattle.machine.specs.declared.Carrier.{Carrier}
+use Rattle.machine.specs.declared.State.{State}
+use Rattle.machine.specs.Machine.{inactive, emptyState, completeOf, all, inactiveCarrier, movedTo, attachedAt, sameNeedle}
+use Rattle.machine.specs.Geometry.{eqZ, columnOf, entryOf, exitOf, sameColumn, withinFloat}
+use Rattle.record.specs.Format.{decodeOf, whole, ranged, refusedAs, rackOk, needleOk, workOk, signedOf}
+use Rattle.record.specs.Names.{needlesIn, carriersIn, needlesOf, carriersOf}
+use Rattle.run.specs.Step.{lookOf, seeOf, parkedNo, floatNo, carrierNo, oppositeNo, firstAfter, secondAfter, roomNo, numberOf, edit, actOf, acted, moveAttachments, rackingAfter, numberAt, applyOf}
+use Rattle.run.specs.Run.{runOf, runFrom, turn, answerOf}
+use Rattle.pieces.specs.Rows.{Row, rows}
+use Rattle.pieces.specs.Pieces.{Each, Holds, PiecesHold}
+
+-- the test that is computed, and that it says so
+sameBool : Bool → Bool → Bool
+sameBool true b = b
+sameBool false b = not b
+
+same-bool : (a b : Bool) → sameBool a b ≡ true → a ≡ b
+unfolding sameBool
+same-bool true b e = sym e
+same-bool false b e = sym (not-true b e)
+
+sameCarrier : Carrier → Carrier → Bool
+sameCarrier c d =
+    eqb (c .active) (d .active) && (eqb (c .side) (d .side) && (eqZ (c .slot .0) (d .slot .0) && (eqb (c .needle .0) (d .needle .0) && eqb (c .needle .1) (d .needle .1))))
+
+fields : (a b x y a' b' x' y' : ℕ) (z z' : ℤ) → a ≡ a' → b ≡ b' → z ≡ z' → x ≡ x' → y ≡ y'
+    → _≡_ {A = Carrier} (record { active = a; side = b; slot = record { 0 = z }; needle = record { 0 = x; 1 = y } })
+      (record { active = a'; side = b'; slot = record { 0 = z' }; needle = record { 0 = x'; 1 = y' } })
+fields a b x y a' b' x' y' z z' p q r t u = cc
+
+same-carrier : (c d : Carrier) → sameCarrier c d ≡ true → c ≡ d
+unfolding sameCarrier
+same-carrier c d e =
+    let (p, e1) = and-two (eqb (c .active) (d .active)) _ e in
+    let (q, e2) = and-two (eqb (c .side) (d .side)) _ e1 in
+    let (r, e3) = and-two (eqZ (c .slot .0) (d .slot .0)) _ e2 in
+    let (t, u) = and-two (eqb (c .needle .0) (d .needle .0)) (eqb (c .needle .1) (d .needle .1)) e3 in
+    fields (c .active) (c .side) (c .needle .0) (c .needle .1) (d .active) (d .side) (d .needle .0) (d .needle .1) (c .slot .0) (d .slot .0)
+    (eqb-true _ _ p) (eqb-true _ _ q) (eqZ-true _ _ r) (eqb-true _ _ t) (eqb-true _ _ u)
+
+abbrev every : {A : Type 0} → (A → Bool) → List A → Bool
+every f [] = true
+every f (x ∷ l) = f x && every f l
+
+each : {A : Type 0} (P : A → Type 0) (f : A → Bool) → ((x : A) → f x ≡ true → P x) → (l : List A) → every f l ≡ true → Each P l
+each P f g [] e = tt
+each P f g (x ∷ l) e = let (p, q) = and-two (f x) (every f l) e in (g x p, each P f g l q)
+
+hooksTest : State → List (ℕ × ℕ) → Bool
+hooksTest s l = every (λ (h : ℕ × ℕ). eqb (getD (s .loops) (h .0) 0) (h .1)) l
+
+carriersTest : State → List (ℕ × Carrier) → Bool
+carriersTest s l = every (λ (k : ℕ × Carrier). sameCarrier (getD (s .carriers) (k .0 - 1) inactive) (k .1)) l
+
+test : Row → Bool
+test r =
+    eqb (runOf (r .program) .number) (r .number) && (eqb (runOf (r .program) .place) (r .place) && (sameBool (runOf (r .program) .complete) (r .complete)
+    && (hooksTest (runOf (r .program) .state) (r .hooks) && carriersTest (runOf (r .program) .state) (r .carriers))))
+
+test-says : (r : Row) → test r ≡ true → Holds r
+unfolding test hooksTest carriersTest
+test-says r e =
+    let (p, e1) = and-two (eqb (runOf (r .program) .number) (r .number)) _ e in
+    let (q, e2) = and-two (eqb (runOf (r .program) .place) (r .place)) _ e1 in
+    let (t, e3) = and-two (sameBool (runOf (r .program) .complete) (r .complete)) _ e2 in
+    let (u, v) = and-two (hooksTest (runOf (r .program) .state) (r .hooks)) (carriersTest (runOf (r .program) .state) (r .carriers)) e3 in
+    record {
+      number = eqb-true _ _ p;
+      place = eqb-true _ _ q;
+      complete = same-bool _ _ t;
+      hooks = each _ _ (λ h f. eqb-true _ _ f) (r .hooks) u;
+      carriers = each _ _ (λ k f. same-carrier _ _ f) (r .carriers) v }
+
+computed : every test rows ≡ true
+unfolding test hooksTest carriersTest sameBool sameCarrier runOf runFrom turn answerOf emptyState completeOf all inactiveCarrier movedTo attachedAt sameNeedle eqZ columnOf entryOf exitOf sameColumn withinFloat decodeOf whole ranged refusedAs rackOk needleOk workOk signedOf needlesIn carriersIn needlesOf carriersOf lookOf seeOf parkedNo floatNo carrierNo oppositeNo firstAfter secondAfter roomNo numberOf edit actOf acted moveAttachments rackingAfter numberAt applyOf
+computed = refl
+
+-- the pieces
+pub pieces : PiecesHold
+pieces = each Holds test test-says rows computed
