@@ -167,6 +167,7 @@ module _ (w : Width) where
     where
       same : ofZ w a ≡ ofZ w b → a ≡ b
       same e = sym (toZ-ofZ f) ∙ ap (toZ w) e ∙ toZ-ofZ g
+
       go : (t : Bool) → eqb (ofZ w a) (ofZ w b) ≡ t → t ≡ eqZ a b
       go true e = sym (eqZ-yes a b (same (eqb-true (ofZ w a) (ofZ w b) e)))
       go false e = sym (eqZ-no a b (λ q. eqb-false (ofZ w a) (ofZ w b) e (ap (ofZ w) q)))

@@ -41,20 +41,35 @@ pub struct State {
 }
 
 impl State {
-    pub const NEEDLES: u8 = 250;
+    // needles on a bed, hooks on both, carriers
+    pub const NEEDLES: usize = 250;
+
     pub const HOOKS: usize = 500;
+
     pub const CARRIERS: usize = 10;
-    pub const LOOPS_LIMIT: u8 = 8;
-    pub const RACKING_LIMIT: i8 = 8;
-    pub const FLOAT_LIMIT: i64 = 20;
-    pub const PROGRAM_LIMIT: usize = 32768;
+    // the furthest racking to the left and to the right
+    pub const RACKING_LEAST: i8 = -8;
+
+    pub const RACKING_MOST: i8 = 8;
+    // a float's columns, counted to the left and to the right
+    pub const FLOAT_LEAST: i64 = -20;
+
+    pub const FLOAT_MOST: i64 = 20;
+    // loops on a hook and bytes of a program, at most
+    pub const LOOPS_MOST: u8 = 8;
+
+    pub const PROGRAM_MOST: usize = 32768;
 
     // The empty state, where every run starts.
     pub fn empty() -> State
         ensures { λ s. ⌜ s ≡ emptyState ⌝ }
     {
         let c = Carrier::inactive();
-        State { racking: Racking(0), loops: [0u8; 500], carriers: [c; 10] }
+        State {
+            racking: Racking(0),
+            loops: [0u8; State::HOOKS],
+            carriers: [c; State::CARRIERS],
+        }
     }
 
     // Whether the state is the empty one.
@@ -79,7 +94,7 @@ impl Needle {
         requires { ⌜ OnBed self ⌝ }
         ensures { λ i. ⌜ i ≡ hookOf self ⌝ }
     {
-        (self.0 as usize) * 250 + (self.1 as usize)
+        (self.0 as usize) * State::NEEDLES + (self.1 as usize)
     }
 
     // The one conversion of a needle to a column.
@@ -87,7 +102,11 @@ impl Needle {
         ensures { λ z. ⌜ z ≡ columnOf self r ⌝ }
     {
         let n = self.1 as i32;
-        if self.0 == 0 { Column(n) } else { Column(n + (r.0 as i32)) }
+        if self.0 == 0 {
+            Column(n)
+        } else {
+            Column(n + (r.0 as i32))
+        }
     }
 
     // Where a carrier stands before it moves over the needle.
@@ -125,7 +144,7 @@ impl Column {
         ensures { λ b. ⌜ b ≡ withinFloat self other ⌝ }
     {
         let d = (self.0 as i64) - (other.0 as i64);
-        -20 <= d && d <= 20
+        State::FLOAT_LEAST <= d && d <= State::FLOAT_MOST
     }
 }
 
@@ -133,7 +152,12 @@ impl Carrier {
     pub fn inactive() -> Carrier
         ensures { λ c. ⌜ c ≡ inactive ⌝ }
     {
-        Carrier { active: 0, side: 0, slot: Slot(0), needle: Needle(0, 0) }
+        Carrier {
+            active: 0,
+            side: 0,
+            slot: Slot(0),
+            needle: Needle(0, 0),
+        }
     }
 
     // Whether every field is an inactive carrier's.
@@ -174,7 +198,12 @@ impl Carrier {
     {
         if self.attached_at(from) {
             let z = self.slot;
-            return Carrier { active: self.active, side: self.side, slot: z, needle: to };
+            return Carrier {
+                active: self.active,
+                side: self.side,
+                slot: z,
+                needle: to,
+            };
         }
         self
     }
@@ -195,11 +224,11 @@ pub fn no_loops(loops: &[u8]) -> bool
 }
 
 // Whether no carrier is active.
-pub fn none_active(carriers: [Carrier; 10]) -> bool
+pub fn none_active(carriers: [Carrier; State::CARRIERS]) -> bool
     ensures { λ b. ⌜ b ≡ noneActive carriers ⌝ }
 {
     let mut k = 0;
-    while k < 10 {
+    while k < State::CARRIERS {
         let c = carriers[k];
         if !c.is_inactive() {
             return false;
@@ -210,11 +239,11 @@ pub fn none_active(carriers: [Carrier; 10]) -> bool
 }
 
 // Whether a carrier is attached at the needle.
-pub fn any_attached(carriers: [Carrier; 10], n: Needle) -> bool
+pub fn any_attached(carriers: [Carrier; State::CARRIERS], n: Needle) -> bool
     ensures { λ b. ⌜ b ≡ anyAttached n carriers ⌝ }
 {
     let mut k = 0;
-    while k < 10 {
+    while k < State::CARRIERS {
         let c = carriers[k];
         if c.attached_at(n) {
             return true;
@@ -225,12 +254,16 @@ pub fn any_attached(carriers: [Carrier; 10], n: Needle) -> bool
 }
 
 // The carriers after the loops at `from` went to `to`.
-pub fn attachments_moved(carriers: [Carrier; 10], from: Needle, to: Needle) -> [Carrier; 10]
+pub fn attachments_moved(
+    carriers: [Carrier; State::CARRIERS],
+    from: Needle,
+    to: Needle,
+) -> [Carrier; State::CARRIERS]
     ensures { λ cs. ⌜ cs ≡ map (movedTo from to) carriers ⌝ }
 {
     let mut cs = carriers;
     let mut k = 0;
-    while k < 10 {
+    while k < State::CARRIERS {
         let c = cs[k];
         let d = c.moved(from, to);
         cs[k] = d;

@@ -36,7 +36,7 @@ sameCarrier c d =
 
 fields : (a b x y a' b' x' y' : ℕ) (z z' : ℤ) → a ≡ a' → b ≡ b' → z ≡ z' → x ≡ x' → y ≡ y'
     → _≡_ {A = Carrier} (record { active = a; side = b; slot = record { 0 = z }; needle = record { 0 = x; 1 = y } })
-      (record { active = a'; side = b'; slot = record { 0 = z' }; needle = record { 0 = x'; 1 = y' } })
+    (record { active = a'; side = b'; slot = record { 0 = z' }; needle = record { 0 = x'; 1 = y' } })
 fields a b x y a' b' x' y' z z' p q r t u = cc
 
 same-carrier : (c d : Carrier) → sameCarrier c d ≡ true → c ≡ d
@@ -80,7 +80,8 @@ test-says r e =
       place = eqb-true _ _ q;
       complete = same-bool _ _ t;
       hooks = each _ _ (λ h f. eqb-true _ _ f) (r .hooks) u;
-      carriers = each _ _ (λ k f. same-carrier _ _ f) (r .carriers) v }
+      carriers = each _ _ (λ k f. same-carrier _ _ f) (r .carriers) v;
+    }
 
 computed : every test rows ≡ true
 unfolding test hooksTest carriersTest sameBool sameCarrier runOf runFrom turn answerOf emptyState completeOf all inactiveCarrier movedTo attachedAt sameNeedle eqZ columnOf entryOf exitOf sameColumn withinFloat decodeOf whole ranged refusedAs rackOk needleOk workOk signedOf needlesIn carriersIn needlesOf carriersOf lookOf seeOf parkedNo floatNo carrierNo oppositeNo firstAfter secondAfter roomNo numberOf edit actOf acted moveAttachments rackingAfter numberAt applyOf

@@ -9,11 +9,12 @@ use lib.ListN.{length, take, drop, length-append}
 use lib.Seq.{drop-cons}
 use lib.Dec.{eqb, leb, ltb}
 use borrow.Author.Tests.{ne-eqb, eqb-true, eqb-false, leb-true, le-leb, lt-leb, ltb-true, ltb-false, le-ltb}
-use Rattle.machine.specs.Machine.{OnBed}
+use Rattle.machine.specs.Machine.{OnBed, hookOf}
 use Rattle.machine.proofs.Laws.{and-two}
 use Rattle.record.specs.declared.Record.{Record}
 use Rattle.record.specs.declared.Decoded.{Decoded}
-use Rattle.record.specs.Format.{Form, sizeOf, signedOf, rackOk, numberOk, needleOk, workOk, needle, rackRecord, dropRecord, xferRecord, workRecord, splitRecord, byte, refusedAs, ranged, whole, decodeOf}
+use Rattle.record.specs.Format.{Form, sizeOf, signedOf, rackOk, numberOk, needleOk, workOk, needle, rackRecord, dropRecord, xferRecord, workRecord, splitRecord}
+use Rattle.record.specs.Format.{byte, refusedAs, ranged, whole, decodeOf}
 use Rattle.record.specs.Names.{needlesIn, InRange}
 use Rattle.record.proofs.Ranges.{needle-bed, needle-number, work-right, work-bed, work-number, work-low, work-high}
 
@@ -23,11 +24,11 @@ cond-cases P true f g = f refl
 cond-cases P false f g = g refl
 
 -- ---- a form decodes to its record, whatever follows it
-pub needle-in : (bed n : ℕ) → bed ≤ 1 → n ≤ 249 → needleOk bed n ≡ true
+needle-in : (bed n : ℕ) → bed ≤ 1 → n ≤ 249 → needleOk bed n ≡ true
 unfolding needleOk
 needle-in bed n a b = simp (le-leb bed 1 a, le-leb n 249 b)
 
-pub work-in : (right bed n k : ℕ) → right ≤ 1 → bed ≤ 1 → n ≤ 249 → 1 ≤ k → k ≤ 10 → workOk right bed n k ≡ true
+work-in : (right bed n k : ℕ) → right ≤ 1 → bed ≤ 1 → n ≤ 249 → 1 ≤ k → k ≤ 10 → workOk right bed n k ≡ true
 unfolding workOk
 work-in right bed n k a b c d e = simp (le-leb right 1 a, needle-in bed n b c, le-leb 1 k d, le-leb k 10 e)
 
@@ -83,13 +84,13 @@ unfolding decodeOf
 reads l =
     cond-cases (Reads l) (eqb (length l) 0) (λ h. Reads.none (eqb-true (length l) 0 h))
     (λ h. let some : 0 < length l = omega (arith, eqb-false (length l) 0 h) in
-      cond-cases (Reads l) (eqb (byte l 0) 1) (λ a. known some (Fields.one (eqb-true (byte l 0) 1 a)))
-      (λ a. cond-cases (Reads l) (eqb (byte l 0) 2) (λ b. known some (Fields.two (eqb-true (byte l 0) 2 b)))
-      (λ b. cond-cases (Reads l) (eqb (byte l 0) 3) (λ c. known some (Fields.three (eqb-true (byte l 0) 3 c)))
-      (λ c. cond-cases (Reads l) (leb 4 (byte l 0) && leb (byte l 0) 8)
-      (λ d. let (low, high) = and-two (leb 4 (byte l 0)) (leb (byte l 0) 8) d in known some (Fields.middle (leb-true 4 (byte l 0) low) (leb-true (byte l 0) 8 high)))
-      (λ d. cond-cases (Reads l) (eqb (byte l 0) 9) (λ e. known some (Fields.nine (eqb-true (byte l 0) 9 e)))
-      (λ e. Reads.strange some (no-size (byte l 0) a b c d e)))))))
+    cond-cases (Reads l) (eqb (byte l 0) 1) (λ a. known some (Fields.one (eqb-true (byte l 0) 1 a)))
+    (λ a. cond-cases (Reads l) (eqb (byte l 0) 2) (λ b. known some (Fields.two (eqb-true (byte l 0) 2 b)))
+    (λ b. cond-cases (Reads l) (eqb (byte l 0) 3) (λ c. known some (Fields.three (eqb-true (byte l 0) 3 c)))
+    (λ c. cond-cases (Reads l) (leb 4 (byte l 0) && leb (byte l 0) 8)
+    (λ d. let (low, high) = and-two (leb 4 (byte l 0)) (leb (byte l 0) 8) d in known some (Fields.middle (leb-true 4 (byte l 0) low) (leb-true (byte l 0) 8 high)))
+    (λ d. cond-cases (Reads l) (eqb (byte l 0) 9) (λ e. known some (Fields.nine (eqb-true (byte l 0) 9 e)))
+    (λ e. Reads.strange some (no-size (byte l 0) a b c d e)))))))
 
 pub fields-size : {l : List ℕ} {size : ℕ} {ok : Bool} {x : Record} → Fields l size ok x → sizeOf (byte l 0) ≡ size
 unfolding sizeOf
@@ -134,7 +135,7 @@ fields-form {l} (Fields.nine e) t =
     (leb-true (byte l 5) 249 q))
 
 -- what was decoded: its length and its form
-pub read-done : {l : List ℕ} {d : Decoded} → Reads l d → d .number ≡ 0 → (0 < d .size) × (d .size ≤ length l) × Form (take (d .size) l) (d .what)
+read-done : {l : List ℕ} {d : Decoded} → Reads l d → d .number ≡ 0 → (0 < d .size) × (d .size ≤ length l) × Form (take (d .size) l) (d .what)
 unfolding refusedAs
 read-done (Reads.none a) e = absurd (omega arith)
 read-done (Reads.strange a b) e = absurd (omega arith)
@@ -159,23 +160,21 @@ work-needles k a b =
     simp (lt-leb k 1 (omega arith), ne-eqb k 2 (λ q. omega arith), ne-eqb k 3 (λ q. omega arith), le-leb k 8 b)
     (cond-cases (λ (n : ℕ). n ≡ 2 → ⊥) (leb k 6) (λ t e. omega arith) (λ t e. omega arith))
 
+no-needle : OnBed (needle 0 0)
+no-needle = on-bed 0 0 (omega arith) (omega arith)
+
+in-range : {x : Record} → 1 ≤ x .kind → x .kind ≤ 9 → OnBed (x .at) → OnBed (x .to) → (4 ≤ x .kind → 1 ≤ x .carrier) → x .carrier ≤ 10
+    → (needlesIn (x .kind) ≡ 2 → hookOf (x .at) ≡ hookOf (x .to) → ⊥) → InRange x
+in-range a b c d e f g = record { low = a; high = b; at-bed = c; to-bed = d; carrier-low = e; carrier-high = f; beds-differ = g }
+
 pub form-in : {bytes : List ℕ} {x : Record} → Form bytes x → InRange x
 unfolding needlesIn
-form-in (Form.rack h) = record {
-    low = omega arith; high = omega arith; at-bed = on-bed 0 0 (omega arith) (omega arith); to-bed = on-bed 0 0 (omega arith) (omega arith);
-    carrier-low = λ q. omega arith; carrier-high = omega arith; beds-differ = λ p q. omega arith }
-form-in (Form.drop {bed = bed} {n = n} h i) = record {
-    low = omega arith; high = omega arith; at-bed = on-bed bed n h i; to-bed = on-bed 0 0 (omega arith) (omega arith);
-    carrier-low = λ q. omega arith; carrier-high = omega arith; beds-differ = λ p q. omega arith }
-form-in (Form.xfer {bed = bed} {n = n} {m = m} h i j) = record {
-    low = omega arith; high = omega arith; at-bed = on-bed bed n h i; to-bed = on-bed (1 - bed) m (omega arith) j;
-    carrier-low = λ q. omega arith; carrier-high = omega arith; beds-differ = λ p q. omega arith }
-form-in (Form.work {kind = kind} {bed = bed} {n = n} a b c d e f g) = record {
-    low = omega arith; high = omega arith; at-bed = on-bed bed n d e; to-bed = on-bed 0 0 (omega arith) (omega arith);
-    carrier-low = λ q. f; carrier-high = g; beds-differ = λ p q. work-needles kind a b p }
-form-in (Form.split {bed = bed} {n = n} {m = m} c d e f g h) = record {
-    low = omega arith; high = omega arith; at-bed = on-bed bed n d e; to-bed = on-bed (1 - bed) m (omega arith) h;
-    carrier-low = λ q. f; carrier-high = g; beds-differ = λ p q. omega arith }
+form-in (Form.rack h) = in-range (omega arith) (omega arith) no-needle no-needle (λ q. omega arith) (omega arith) (λ p q. omega arith)
+form-in (Form.drop {bed = bed} {n = n} h i) = in-range (omega arith) (omega arith) (on-bed bed n h i) no-needle (λ q. omega arith) (omega arith) (λ p q. omega arith)
+form-in (Form.xfer {bed = bed} {n = n} {m = m} h i j) =
+    in-range (omega arith) (omega arith) (on-bed bed n h i) (on-bed (1 - bed) m (omega arith) j) (λ q. omega arith) (omega arith) (λ p q. omega arith)
+form-in (Form.work {kind = kind} {bed = bed} {n = n} a b c d e f g) = in-range (omega arith) (omega arith) (on-bed bed n d e) no-needle (λ q. f) g (λ p q. work-needles kind a b p)
+form-in (Form.split {bed = bed} {n = n} {m = m} c d e f g h) = in-range (omega arith) (omega arith) (on-bed bed n d e) (on-bed (1 - bed) m (omega arith) h) (λ q. f) g (λ p q. omega arith)
 
 pub decode-in : (l : List ℕ) → decodeOf l .number ≡ 0 → InRange (decodeOf l .what)
 decode-in l e = form-in (decode-form l e)

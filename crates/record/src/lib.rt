@@ -5,6 +5,7 @@ ghost use lib.ListN.{length, getD};
 ghost use Rattle.record.specs.Format.{signedOf, needleOk, workOk, refusedAs, whole, rackAt, dropAt, xferAt, workAt, splitAt, decodeOf};
 use machine::Needle;
 use machine::Racking;
+use machine::State;
 
 // A record by its fields; 0 where its kind has no such field.
 pub struct Record {
@@ -24,15 +25,26 @@ pub struct Decoded {
     pub what: Record,
 }
 
+// The greatest needle and carrier that a byte names, and the refusals.
+const NEEDLE_MOST: u8 = 249;
+
+const CARRIER_MOST: u8 = 10;
+
 pub const UNKNOWN_KIND: u8 = 3;
+
 pub const CUT_SHORT: u8 = 4;
+
 pub const FIELD_RANGE: u8 = 5;
 
 // A byte in two's complement.
 fn signed(b: u8) -> i8
     ensures { λ z. ⌜ z ≡ signedOf b ⌝ }
 {
-    if b < 128 { b as i8 } else { ((b as i16) - 256) as i8 }
+    if b < 128 {
+        b as i8
+    } else {
+        ((b as i16) - 256) as i8
+    }
 }
 
 // A byte of a slice that is long enough.
@@ -47,8 +59,19 @@ fn refused(number: u8) -> Decoded
     ensures { λ d. ⌜ d ≡ refusedAs number ⌝ }
 {
     let none = Needle(0, 0);
-    let what = Record { kind: 0, racking: Racking(0), right: false, at: none, carrier: 0, to: none };
-    Decoded { number, size: 0, what }
+    let what = Record {
+        kind: 0,
+        racking: Racking(0),
+        right: false,
+        at: none,
+        carrier: 0,
+        to: none,
+    };
+    Decoded {
+        number,
+        size: 0,
+        what,
+    }
 }
 
 // Rack: the new racking.
@@ -56,19 +79,30 @@ fn rack(l: &[u8]) -> Decoded
     ensures { λ d. ⌜ d ≡ whole (now (l .entry)) 2 (rackAt (now (l .entry))) ⌝ }
 {
     if l.len() < 2 {
-        return refused(4);
+        return refused(CUT_SHORT);
     }
     let z = signed(byte(l, 1));
-    if z < -8 {
-        return refused(5);
+    if z < State::RACKING_LEAST {
+        return refused(FIELD_RANGE);
     }
-    if 8 < z {
-        return refused(5);
+    if State::RACKING_MOST < z {
+        return refused(FIELD_RANGE);
     }
     let none = Needle(0, 0);
     let racking = Racking(z);
-    let what = Record { kind: 1, racking, right: false, at: none, carrier: 0, to: none };
-    Decoded { number: 0, size: 2, what }
+    let what = Record {
+        kind: 1,
+        racking,
+        right: false,
+        at: none,
+        carrier: 0,
+        to: none,
+    };
+    Decoded {
+        number: 0,
+        size: 2,
+        what,
+    }
 }
 
 fn needle_ok(bed: u8, n: u8) -> bool
@@ -77,7 +111,7 @@ fn needle_ok(bed: u8, n: u8) -> bool
     if 1 < bed {
         return false;
     }
-    n <= 249
+    n <= NEEDLE_MOST
 }
 
 fn work_ok(right: u8, bed: u8, n: u8, k: u8) -> bool
@@ -92,7 +126,7 @@ fn work_ok(right: u8, bed: u8, n: u8, k: u8) -> bool
     if k < 1 {
         return false;
     }
-    k <= 10
+    k <= CARRIER_MOST
 }
 
 // Drop: bed, needle.
@@ -100,16 +134,27 @@ fn drop(l: &[u8]) -> Decoded
     ensures { λ d. ⌜ d ≡ whole (now (l .entry)) 3 (dropAt (now (l .entry))) ⌝ }
 {
     if l.len() < 3 {
-        return refused(4);
+        return refused(CUT_SHORT);
     }
     let bed = byte(l, 1);
     let n = byte(l, 2);
     if !needle_ok(bed, n) {
-        return refused(5);
+        return refused(FIELD_RANGE);
     }
     let at = Needle(bed, n as u16);
-    let what = Record { kind: 2, racking: Racking(0), right: false, at, carrier: 0, to: Needle(0, 0) };
-    Decoded { number: 0, size: 3, what }
+    let what = Record {
+        kind: 2,
+        racking: Racking(0),
+        right: false,
+        at,
+        carrier: 0,
+        to: Needle(0, 0),
+    };
+    Decoded {
+        number: 0,
+        size: 3,
+        what,
+    }
 }
 
 // Xfer: bed, needle, needle on the other bed.
@@ -117,21 +162,32 @@ fn xfer(l: &[u8]) -> Decoded
     ensures { λ d. ⌜ d ≡ whole (now (l .entry)) 4 (xferAt (now (l .entry))) ⌝ }
 {
     if l.len() < 4 {
-        return refused(4);
+        return refused(CUT_SHORT);
     }
     let bed = byte(l, 1);
     let n = byte(l, 2);
     let m = byte(l, 3);
     if !needle_ok(bed, n) {
-        return refused(5);
+        return refused(FIELD_RANGE);
     }
-    if 249 < m {
-        return refused(5);
+    if NEEDLE_MOST < m {
+        return refused(FIELD_RANGE);
     }
     let at = Needle(bed, n as u16);
     let to = Needle(1 - bed, m as u16);
-    let what = Record { kind: 3, racking: Racking(0), right: false, at, carrier: 0, to };
-    Decoded { number: 0, size: 4, what }
+    let what = Record {
+        kind: 3,
+        racking: Racking(0),
+        right: false,
+        at,
+        carrier: 0,
+        to,
+    };
+    Decoded {
+        number: 0,
+        size: 4,
+        what,
+    }
 }
 
 // In, out, miss, tuck and knit: direction, bed, needle, carrier.
@@ -139,18 +195,29 @@ fn work(kind: u8, l: &[u8]) -> Decoded
     ensures { λ d. ⌜ d ≡ whole (now (l .entry)) 5 (workAt kind (now (l .entry))) ⌝ }
 {
     if l.len() < 5 {
-        return refused(4);
+        return refused(CUT_SHORT);
     }
     let right = byte(l, 1);
     let bed = byte(l, 2);
     let n = byte(l, 3);
     let k = byte(l, 4);
     if !work_ok(right, bed, n, k) {
-        return refused(5);
+        return refused(FIELD_RANGE);
     }
     let at = Needle(bed, n as u16);
-    let what = Record { kind, racking: Racking(0), right: right == 1, at, carrier: k, to: Needle(0, 0) };
-    Decoded { number: 0, size: 5, what }
+    let what = Record {
+        kind,
+        racking: Racking(0),
+        right: right == 1,
+        at,
+        carrier: k,
+        to: Needle(0, 0),
+    };
+    Decoded {
+        number: 0,
+        size: 5,
+        what,
+    }
 }
 
 // Split: direction, bed, needle, carrier, needle on the other bed.
@@ -158,7 +225,7 @@ fn split(l: &[u8]) -> Decoded
     ensures { λ d. ⌜ d ≡ whole (now (l .entry)) 6 (splitAt (now (l .entry))) ⌝ }
 {
     if l.len() < 6 {
-        return refused(4);
+        return refused(CUT_SHORT);
     }
     let right = byte(l, 1);
     let bed = byte(l, 2);
@@ -166,15 +233,26 @@ fn split(l: &[u8]) -> Decoded
     let k = byte(l, 4);
     let m = byte(l, 5);
     if !work_ok(right, bed, n, k) {
-        return refused(5);
+        return refused(FIELD_RANGE);
     }
-    if 249 < m {
-        return refused(5);
+    if NEEDLE_MOST < m {
+        return refused(FIELD_RANGE);
     }
     let at = Needle(bed, n as u16);
     let to = Needle(1 - bed, m as u16);
-    let what = Record { kind: 9, racking: Racking(0), right: right == 1, at, carrier: k, to };
-    Decoded { number: 0, size: 6, what }
+    let what = Record {
+        kind: 9,
+        racking: Racking(0),
+        right: right == 1,
+        at,
+        carrier: k,
+        to,
+    };
+    Decoded {
+        number: 0,
+        size: 6,
+        what,
+    }
 }
 
 // The first record of the slice.
@@ -182,7 +260,7 @@ pub fn decode(l: &[u8]) -> Decoded
     ensures { λ d. ⌜ d ≡ decodeOf (now (l .entry)) ⌝ }
 {
     if l.len() == 0 {
-        return refused(4);
+        return refused(CUT_SHORT);
     }
     let kind = byte(l, 0);
     match kind {
@@ -191,6 +269,6 @@ pub fn decode(l: &[u8]) -> Decoded
         3 => xfer(l),
         4..=8 => work(kind, l),
         9 => split(l),
-        _ => refused(3),
+        _ => refused(UNKNOWN_KIND),
     }
 }

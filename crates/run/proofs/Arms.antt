@@ -29,6 +29,7 @@ nine {x} i n1 n2 n3 n4 n5 n6 n7 n8 = high (x .kind) (low (x .kind) (i .low) n1 n
   where
     low : (k : ℕ) → 1 ≤ k → (k ≡ 1 → ⊥) → (k ≡ 2 → ⊥) → (k ≡ 3 → ⊥) → (k ≡ 4 → ⊥) → 5 ≤ k
     low k h a b c d = omega arith
+
     high : (k : ℕ) → 5 ≤ k → k ≤ 9 → (k ≡ 5 → ⊥) → (k ≡ 6 → ⊥) → (k ≡ 7 → ⊥) → (k ≡ 8 → ⊥) → k ≡ 9
     high k h j a b c d = omega arith
 
@@ -130,16 +131,18 @@ module _ (s : State) (x : Record) where
       module _ (m : ℕ) where
         pub tuck-made-at : x .kind ≡ 7 → m ≡ tuckNo (loopsOn s (x .at)) → m ≡ 0 → (l : List ℕ) → l ≡ tucked (s .loops) (x .at)
             → Made (parts l (set (s .carriers) (x .carrier - 1) c))
-        tuck-made-at e f g l p =
-            (tuck-number s x e ∙ sym (after (readyNo s x) (tuckNo (loopsOn s (x .at))) m (sym is ∙ h) f) ∙ g,
-              tuck-state s x e ∙ simp (p ∙ tuck-made (s .loops) (x .at) m f g, q))
+        tuck-made-at e f g l p = (
+          tuck-number s x e ∙ sym (after (readyNo s x) (tuckNo (loopsOn s (x .at))) m (sym is ∙ h) f) ∙ g,
+          tuck-state s x e ∙ simp (p ∙ tuck-made (s .loops) (x .at) m f g, q),
+        )
 
         pub split-made : x .kind ≡ 9 → m ≡ transferNo (s .loops) (x .at) (x .to) (s .racking) → m ≡ 0 → (l : List ℕ) (cs : List Carrier)
             → l ≡ transferredLoops (s .loops) (x .at) (x .to) (s .racking) 1 → cs ≡ map (movedTo (x .at) (x .to)) (s .carriers)
             → Made (parts l (set cs (x .carrier - 1) c))
-        split-made e f g l cs p t =
-            (split-number s x e ∙ sym (after (readyNo s x) _ m (sym is ∙ h) f) ∙ g,
-              split-state s x e ∙ simp (p ∙ transfer-made (s .loops) (x .at) (x .to) (s .racking) 1 m f g, q, t))
+        split-made e f g l cs p t = (
+          split-number s x e ∙ sym (after (readyNo s x) _ m (sym is ∙ h) f) ∙ g,
+          split-state s x e ∙ simp (p ∙ transfer-made (s .loops) (x .at) (x .to) (s .racking) 1 m f g, q, t),
+        )
 
     module _ (h : n ≡ 0) (m : ℕ) where
       pub tuck-stopped : x .kind ≡ 7 → m ≡ tuckNo (loopsOn s (x .at)) → m ≡ numberAt s x

@@ -116,7 +116,8 @@ module _ (s : State) (x : Record) where
       record {
         racking = s .racking;
         loops = set (set (s .loops) (hookOf (x .at)) 1) (hookOf (x .to)) (loopsOn s (x .at) + loopsOn s (x .to));
-        carriers = set (map (movedTo (x .at) (x .to)) (s .carriers)) (x .carrier - 1) (attached (exitSlot s x) (x .at) (x .right)) }
+        carriers = set (map (movedTo (x .at) (x .to)) (s .carriers)) (x .carrier - 1) (attached (exitSlot s x) (x .at) (x .right));
+      }
 
   pub split-state : x .kind ≡ 9 → applyOf s x ≡ splitState
   unfolding applyOf rackingAfter edit needlesOf needlesIn carriersOf carriersIn moveAttachments actOf acted firstAfter secondAfter
@@ -127,5 +128,5 @@ module _ (s : State) (x : Record) where
   split-said h =
       let i = hookOf (x .at) in let j = hookOf (x .to) in let v = loopsOn s (x .at) + loopsOn s (x .to) in
       let p : set (set (s .loops) i 1) j v ≡ set (set (set (s .loops) i 0) j v) i 1 =
-          ap (λ (l : List ℕ). set l j v) (sym (set-set (s .loops) i 0 1)) ∙ set-comm (set (s .loops) i 0) i j 1 v h in
+      ap (λ (l : List ℕ). set l j v) (sym (set-set (s .loops) i 0 1)) ∙ set-comm (set (s .loops) i 0) i j 1 v h in
       simp p

@@ -3,3 +3,10 @@ pub mod ByKind
 pub mod Arms
 pub mod Turns
 pub mod Alone
+pub mod Premises
+pub mod Sound
+pub mod Least
+pub mod Bytes
+pub mod Runs
+pub mod Answers
+pub mod Demand

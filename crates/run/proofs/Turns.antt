@@ -103,7 +103,7 @@ module _ {s₀ : State} {p : List ℕ} {at : ℕ} {s : State} {d : Decoded} wher
       pub sized : (0 < d .size) × (d .size ≤ length p - at)
       sized =
           let z : (0 < d .size) × (d .size ≤ length (drop at p)) =
-              subst (λ (x : Decoded). (0 < x .size) × (x .size ≤ length (drop at p))) (sym (t .is)) (decode-size (drop at p) k') in
+          subst (λ (x : Decoded). (0 < x .size) × (x .size ≤ length (drop at p))) (sym (t .is)) (decode-size (drop at p) k') in
           (z .0, omega (arith, z .1, length-drop at p))
 
       pub stopped : (n : ℕ) → n ≡ numberAt s (d .what) → (n ≡ 0 → ⊥) → reached n at s ≡ runFrom 0 p 0 s₀

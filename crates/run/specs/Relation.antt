@@ -31,7 +31,8 @@ transferred s a b =
     record {
       racking = s .racking;
       loops = set (set (s .loops) (hookOf a) 0) (hookOf b) (loopsOn s a + loopsOn s b);
-      carriers = map (movedTo a b) (s .carriers) }
+      carriers = map (movedTo a b) (s .carriers);
+    }
 
 -- where a record's carrier stands before it passes the needle, and after
 abbrev pub entrySlot : State → Record → Slot

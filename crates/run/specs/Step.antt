@@ -122,4 +122,5 @@ applyOf s x =
     record {
       racking = rackingAfter x (s .racking);
       loops = edit stored 0 (map hookOf (needlesOf x)) (firstAfter (x .kind) (loopsOn s (x .at)) ∷ secondAfter (x .kind) (loopsOn s (x .at)) (loopsOn s (x .to)) ∷ []) (s .loops);
-      carriers = edit acted inactive (map (λ (k : ℕ). k - 1) (carriersOf x)) (actOf x (s .racking) ∷ []) (moveAttachments x (s .carriers)) }
+      carriers = edit acted inactive (map (λ (k : ℕ). k - 1) (carriersOf x)) (actOf x (s .racking) ∷ []) (moveAttachments x (s .carriers));
+    }

@@ -39,11 +39,17 @@ pub struct Stepped {
 }
 
 pub const TOO_LONG: u8 = 1;
+
 pub const ALREADY_IN: u8 = 6;
+
 pub const NOT_IN: u8 = 7;
+
 pub const WRONG_SLOT: u8 = 8;
+
 pub const FLOAT_TOO_LONG: u8 = 9;
+
 pub const NOT_OPPOSITE: u8 = 10;
+
 pub const HOOK_FULL: u8 = 11;
 
 // Whether the carrier is parked at the slot: 0, or 7 or 8.
@@ -51,10 +57,10 @@ fn parked(c: Carrier, z: Slot, r: Racking) -> u8
     ensures { λ n. ⌜ n ≡ parkedNo (lookOf r c) z ⌝ }
 {
     if c.active == 0 {
-        return 7;
+        return NOT_IN;
     }
     let here = c.slot;
-    if here.0 == z.0 { 0 } else { 8 }
+    if here.0 == z.0 { 0 } else { WRONG_SLOT }
 }
 
 // Whether the carrier can form a loop at the needle: 0, or 7 to 9.
@@ -70,7 +76,11 @@ fn ready(c: Carrier, n: Needle, r: Racking, right: bool) -> u8
     }
     let last = c.needle;
     let z = last.column(r);
-    if z.near(n.column(r)) { 0 } else { 9 }
+    if z.near(n.column(r)) {
+        0
+    } else {
+        FLOAT_TOO_LONG
+    }
 }
 
 // The carrier after it formed a loop at the needle.
@@ -79,11 +89,16 @@ fn attach(n: Needle, r: Racking, right: bool) -> Carrier
 {
     let slot = n.exit(r, right);
     let side = if right { 2 } else { 1 };
-    Carrier { active: 1, side, slot, needle: n }
+    Carrier {
+        active: 1,
+        side,
+        slot,
+        needle: n,
+    }
 }
 
 // Leaves v loops on the needle's hook.
-fn put(loops: &mut [u8; 500], n: Needle, v: u8)
+fn put(loops: &mut [u8; State::HOOKS], n: Needle, v: u8)
     requires { ⌜ OnBed n ⌝ }
     ensures { λ _. ⌜ now (loops .exit) ≡ set (now (loops .entry)) (hookOf n) v ⌝ }
 {
@@ -92,34 +107,34 @@ fn put(loops: &mut [u8; 500], n: Needle, v: u8)
 }
 
 // One loop more on the needle's hook: 0, or 11 and no store.
-fn tuck(loops: &mut [u8; 500], n: Needle) -> u8
+fn tuck(loops: &mut [u8; State::HOOKS], n: Needle) -> u8
     requires { ⌜ OnBed n ⌝ }
     ensures { λ k. ⌜ (k ≡ tuckNo (getD (now (loops .entry)) (hookOf n) 0)) × (now (loops .exit) ≡ tucked (now (loops .entry)) n) ⌝ }
 {
     let i = n.hook();
     let here = loops[i];
-    if 8 <= here {
-        return 11;
+    if State::LOOPS_MOST <= here {
+        return HOOK_FULL;
     }
     loops[i] = here + 1;
     0
 }
 
 // The loops at a go to b, and v are left at a: 0, or 10 or 11 and no store.
-fn transfer(loops: &mut [u8; 500], a: Needle, b: Needle, r: Racking, v: u8) -> u8
+fn transfer(loops: &mut [u8; State::HOOKS], a: Needle, b: Needle, r: Racking, v: u8) -> u8
     requires { ⌜ (OnBed a) × (OnBed b) ⌝ }
     ensures { λ k. ⌜ (k ≡ transferNo (now (loops .entry)) a b r) × (now (loops .exit) ≡ transferredLoops (now (loops .entry)) a b r v) ⌝ }
 {
     let z = a.column(r);
     if !z.equals(b.column(r)) {
-        return 10;
+        return NOT_OPPOSITE;
     }
     let i = a.hook();
     let j = b.hook();
     let here = loops[i];
     let there = loops[j];
-    if 8 < wide(here) + wide(there) {
-        return 11;
+    if (State::LOOPS_MOST as u16) < wide(here) + wide(there) {
+        return HOOK_FULL;
     }
     loops[i] = v;
     loops[j] = here + there;
@@ -142,7 +157,11 @@ pub fn run_from(state: State, program: &[u8]) -> Reached
     while at < program.len() {
         let d = record::decode(&program[at..]);
         if d.number != 0 {
-            return Reached { number: d.number, place: at, state: st };
+            return Reached {
+                number: d.number,
+                place: at,
+                state: st,
+            };
         }
         let next = at + d.size;
         let x = d.what;
@@ -159,7 +178,11 @@ pub fn run_from(state: State, program: &[u8]) -> Reached
                 let m = x.to;
                 let number = transfer(&mut st.loops, n, m, r, 0);
                 if number != 0 {
-                    return Reached { number, place: at, state: st };
+                    return Reached {
+                        number,
+                        place: at,
+                        state: st,
+                    };
                 }
                 let cs = st.carriers;
                 if machine::any_attached(cs, n) {
@@ -171,17 +194,30 @@ pub fn run_from(state: State, program: &[u8]) -> Reached
                 let k = (x.carrier as usize) - 1;
                 let c = st.carriers[k];
                 if c.active != 0 {
-                    return Reached { number: 6, place: at, state: st };
+                    return Reached {
+                        number: ALREADY_IN,
+                        place: at,
+                        state: st,
+                    };
                 }
                 let slot = n.entry(r, x.right);
-                st.carriers[k] = Carrier { active: 1, side: 0, slot, needle: Needle(0, 0) };
+                st.carriers[k] = Carrier {
+                    active: 1,
+                    side: 0,
+                    slot,
+                    needle: Needle(0, 0),
+                };
             }
             5 => {
                 let k = (x.carrier as usize) - 1;
                 let c = st.carriers[k];
                 let number = parked(c, n.exit(r, x.right), r);
                 if number != 0 {
-                    return Reached { number, place: at, state: st };
+                    return Reached {
+                        number,
+                        place: at,
+                        state: st,
+                    };
                 }
                 let then = Carrier::inactive();
                 st.carriers[k] = then;
@@ -191,22 +227,39 @@ pub fn run_from(state: State, program: &[u8]) -> Reached
                 let c = st.carriers[k];
                 let number = parked(c, n.entry(r, x.right), r);
                 if number != 0 {
-                    return Reached { number, place: at, state: st };
+                    return Reached {
+                        number,
+                        place: at,
+                        state: st,
+                    };
                 }
                 let slot = n.exit(r, x.right);
                 let last = c.needle;
-                st.carriers[k] = Carrier { active: 1, side: c.side, slot, needle: last };
+                st.carriers[k] = Carrier {
+                    active: 1,
+                    side: c.side,
+                    slot,
+                    needle: last,
+                };
             }
             7 => {
                 let k = (x.carrier as usize) - 1;
                 let c = st.carriers[k];
                 let number = ready(c, n, r, x.right);
                 if number != 0 {
-                    return Reached { number, place: at, state: st };
+                    return Reached {
+                        number,
+                        place: at,
+                        state: st,
+                    };
                 }
                 let number = tuck(&mut st.loops, n);
                 if number != 0 {
-                    return Reached { number, place: at, state: st };
+                    return Reached {
+                        number,
+                        place: at,
+                        state: st,
+                    };
                 }
                 let then = attach(n, r, x.right);
                 st.carriers[k] = then;
@@ -216,7 +269,11 @@ pub fn run_from(state: State, program: &[u8]) -> Reached
                 let c = st.carriers[k];
                 let number = ready(c, n, r, x.right);
                 if number != 0 {
-                    return Reached { number, place: at, state: st };
+                    return Reached {
+                        number,
+                        place: at,
+                        state: st,
+                    };
                 }
                 put(&mut st.loops, n, 1);
                 let then = attach(n, r, x.right);
@@ -228,11 +285,19 @@ pub fn run_from(state: State, program: &[u8]) -> Reached
                 let c = st.carriers[k];
                 let number = ready(c, n, r, x.right);
                 if number != 0 {
-                    return Reached { number, place: at, state: st };
+                    return Reached {
+                        number,
+                        place: at,
+                        state: st,
+                    };
                 }
                 let number = transfer(&mut st.loops, n, m, r, 1);
                 if number != 0 {
-                    return Reached { number, place: at, state: st };
+                    return Reached {
+                        number,
+                        place: at,
+                        state: st,
+                    };
                 }
                 let then = attach(n, r, x.right);
                 let cs = st.carriers;
@@ -247,7 +312,11 @@ pub fn run_from(state: State, program: &[u8]) -> Reached
         }
         at = next;
     }
-    Reached { number: 0, place: 0, state: st }
+    Reached {
+        number: 0,
+        place: 0,
+        state: st,
+    }
 }
 
 // An answer: whether the state is the empty one is looked at last.
@@ -256,7 +325,12 @@ fn answered(r: Reached) -> Answer
 {
     let state = r.state;
     let complete = state.complete();
-    Answer { number: r.number, place: r.place, complete, state }
+    Answer {
+        number: r.number,
+        place: r.place,
+        complete,
+        state,
+    }
 }
 
 // The run of a program from the empty state.
@@ -264,8 +338,12 @@ pub fn run(program: &[u8]) -> Answer
     ensures { λ a. ⌜ a ≡ runOf (now (program .entry)) ⌝ }
 {
     let state = State::empty();
-    if State::PROGRAM_LIMIT < program.len() {
-        return answered(Reached { number: TOO_LONG, place: 0, state });
+    if State::PROGRAM_MOST < program.len() {
+        return answered(Reached {
+            number: TOO_LONG,
+            place: 0,
+            state,
+        });
     }
     answered(run_from(state, program))
 }
@@ -276,13 +354,25 @@ pub fn step(state: State, bytes: &[u8]) -> Stepped
 {
     let d = record::decode(bytes);
     if d.number != 0 {
-        return Stepped { number: d.number, length: 0, state };
+        return Stepped {
+            number: d.number,
+            length: 0,
+            state,
+        };
     }
     let size = d.size;
     let a = run_from(state, &bytes[..size]);
     if a.number != 0 {
-        return Stepped { number: a.number, length: 0, state };
+        return Stepped {
+            number: a.number,
+            length: 0,
+            state,
+        };
     }
     let after = a.state;
-    Stepped { number: 0, length: size, state: after }
+    Stepped {
+        number: 0,
+        length: size,
+        state: after,
+    }
 }

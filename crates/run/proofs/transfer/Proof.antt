@@ -55,6 +55,9 @@ element-copy-out-here c = search needs
 element-copy-out-there : tie.Need-element-copy-out-there
 element-copy-out-there c = search needs
 
+cast-if2 : tie.Need-cast-if2
+cast-if2 c = search needs
+
 wide-requires : tie.Need-wide-requires
 wide-requires c κs = search needs
 
@@ -95,6 +98,7 @@ transfer-spec =
     hook-requires-2
     element-copy-out-here
     element-copy-out-there
+    cast-if2
     wide-requires
     wide-requires-2
     add-if2

@@ -1,0 +1,111 @@
+-- A record refused by its bytes, and one refused by its step: the reason at the front of a list, and that none comes before it. Assumes nothing.
+use Prim.Native.Nat.{ℕ, _≤_, _<_}
+use mathlib.Core.Path.{_≡_, refl, sym, ap, subst, _∙_}
+use mathlib.Core.Bool.{Bool, true≢false}
+use mathlib.Core.List.{List, _++_}
+use native.Mathlib.Omega.{arith}
+use lib.ListN.{length, take, drop, take-append-drop}
+use borrow.Author.Tests.{ne-eqb}
+use Rattle.machine.specs.declared.State.{State}
+use Rattle.record.specs.declared.Record.{Record}
+use Rattle.record.specs.declared.Decoded.{Decoded}
+use Rattle.record.specs.Format.{Form, sizeOf, byte, refusedAs, decodeOf}
+use Rattle.record.proofs.Forms.{Fields, Reads, reads, fields-size, fields-positive, form-decode, form-in, decode-form, decode-in}
+use Rattle.run.specs.Relation.{Step}
+use Rattle.run.specs.Reason.{Whole, CutShort, fieldsOk, RecordReason, Reason}
+use Rattle.run.specs.Step.{numberAt}
+use Rattle.run.proofs.Sound.{reason-above, step-only, number-reason}
+use Rattle.run.proofs.Least.{number-least}
+
+-- ---- the three reasons of bytes
+fields-ok : {l : List ℕ} {size : ℕ} {ok : Bool} {x : Record} → Fields l size ok x → fieldsOk l ≡ ok
+unfolding fieldsOk
+fields-ok (Fields.one e) = simp e
+fields-ok (Fields.two e) = simp e
+fields-ok (Fields.three e) = simp e
+fields-ok {l} (Fields.middle a b) =
+    simp (ne-eqb (byte l 0) 1 (λ q. omega arith), ne-eqb (byte l 0) 2 (λ q. omega arith), ne-eqb (byte l 0) 3 (λ q. omega arith), ne-eqb (byte l 0) 9 (λ q. omega arith))
+fields-ok (Fields.nine e) = simp e
+
+module _ {l : List ℕ} {size : ℕ} {ok : Bool} {x : Record} (f : Fields l size ok x) where
+  known : sizeOf (byte l 0) ≡ 0 → ⊥
+  known e = omega (arith, fields-size f, fields-positive f)
+
+  not-short : size ≤ length l → CutShort l → ⊥
+  not-short h (CutShort.no-byte e) = omega (arith, fields-positive f)
+  not-short h (CutShort.too-few k e) = omega (arith, fields-size f)
+
+  whole : size ≤ length l → Whole l
+  whole h = record { some = omega (arith, fields-positive f); known = known; long = omega (arith, fields-size f) }
+
+pub reason-positive : {n : ℕ} {s : State} {l : List ℕ} → Reason n s l → 3 ≤ n
+reason-positive (Reason.unknown-kind e a) = omega arith
+reason-positive (Reason.cut-short e a) = omega arith
+reason-positive (Reason.field-range e a) = omega arith
+reason-positive (Reason.of-record bytes rest x e form r) = omega (arith, reason-above r)
+
+bytes-reason : {l : List ℕ} {d : Decoded} (s : State) → Reads l d → (d .number ≡ 0 → ⊥) → Reason (d .number) s l
+unfolding refusedAs
+bytes-reason s (Reads.none e) h = Reason.cut-short refl (CutShort.no-byte e)
+bytes-reason s (Reads.strange a e) h = Reason.unknown-kind refl (record { some = a; unknown = e })
+bytes-reason s (Reads.short f a b) h = Reason.cut-short refl (CutShort.too-few (known f) (omega (arith, fields-size f)))
+bytes-reason s (Reads.outside f a e) h = Reason.field-range refl (record { whole = whole f a; outside = fields-ok f ∙ e })
+bytes-reason s (Reads.done f a e) h = absurd (h refl)
+
+-- no smaller one holds of bytes that are refused
+bytes-least : {l : List ℕ} {d : Decoded} {s : State} → Reads l d → (d .number ≡ 0 → ⊥) → {m : ℕ} → Reason m s l → d .number ≤ m
+unfolding refusedAs
+bytes-least (Reads.none e) h (Reason.unknown-kind q a) = absurd (omega (arith, a .some))
+bytes-least (Reads.none e) h (Reason.cut-short q a) = omega arith
+bytes-least (Reads.none e) h (Reason.field-range q a) = omega arith
+bytes-least (Reads.none e) h (Reason.of-record bytes rest x q form r) = omega (arith, reason-above r)
+bytes-least (Reads.strange b c) h r = omega (arith, reason-positive r)
+bytes-least (Reads.short f b c) h (Reason.unknown-kind q a) = absurd (known f (a .unknown))
+bytes-least (Reads.short f b c) h (Reason.cut-short q a) = omega arith
+bytes-least (Reads.short f b c) h (Reason.field-range q a) = omega arith
+bytes-least (Reads.short f b c) h (Reason.of-record bytes rest x q form r) = omega (arith, reason-above r)
+bytes-least (Reads.outside f b c) h (Reason.unknown-kind q a) = absurd (known f (a .unknown))
+bytes-least (Reads.outside f b c) h (Reason.cut-short q a) = absurd (not-short f b a)
+bytes-least (Reads.outside f b c) h (Reason.field-range q a) = omega arith
+bytes-least (Reads.outside f b c) h (Reason.of-record bytes rest x q form r) = omega (arith, reason-above r)
+bytes-least (Reads.done f b c) h r = absurd (h refl)
+
+-- a form at the front is what is decoded
+front-decode : {l bytes : List ℕ} {x : Record} (rest : List ℕ) → l ≡ bytes ++ rest → Form bytes x → decodeOf l ≡ record { number = 0; size = length bytes; what = x }
+front-decode rest e form = ap decodeOf e ∙ form-decode form rest
+
+-- where a record was decoded, every reason is one of that record
+record-reason : {l : List ℕ} {d : Decoded} {s : State} {m : ℕ} → Reads l d → decodeOf l ≡ d → d .number ≡ 0 → Reason m s l → RecordReason m s (d .what)
+unfolding refusedAs
+record-reason (Reads.none a) i e r = absurd (omega arith)
+record-reason (Reads.strange a b) i e r = absurd (omega arith)
+record-reason (Reads.short f a b) i e r = absurd (omega arith)
+record-reason (Reads.outside f a b) i e r = absurd (omega arith)
+record-reason (Reads.done f a b) i e (Reason.unknown-kind q u) = absurd (known f (u .unknown))
+record-reason (Reads.done f a b) i e (Reason.cut-short q u) = absurd (not-short f a u)
+record-reason (Reads.done f a b) i e (Reason.field-range q u) = absurd (true≢false (sym b ∙ sym (fields-ok f) ∙ u .outside))
+record-reason {s = s} {m = m} (Reads.done f a b) i e (Reason.of-record bytes rest x q form r) =
+    subst (λ (y : Record). RecordReason m s y) (ap (λ (d : Decoded). d .what) (sym (front-decode rest q form) ∙ i)) r
+
+-- ---- what is said of a refusal
+pub record Refusal (n : ℕ) (s : State) (l : List ℕ) : Type 0 where
+  pub no-step : (bytes rest : List ℕ) (x : Record) (t : State) → l ≡ bytes ++ rest → Form bytes x → Step s x t → ⊥
+  pub reason : Reason n s l
+  pub least : (m : ℕ) → m < n → Reason m s l → ⊥
+
+pub bytes-refusal : (s : State) (l : List ℕ) → (decodeOf l .number ≡ 0 → ⊥) → Refusal (decodeOf l .number) s l
+bytes-refusal s l h = record {
+  no-step = λ bytes rest x t e form step. h (ap (λ (d : Decoded). d .number) (front-decode rest e form));
+  reason = bytes-reason s (reads l) h;
+  least = λ m k r. omega (arith, bytes-least (reads l) h r);
+}
+
+pub step-refusal : (s : State) (l : List ℕ) → decodeOf l .number ≡ 0 → (numberAt s (decodeOf l .what) ≡ 0 → ⊥) → Refusal (numberAt s (decodeOf l .what)) s l
+step-refusal s l e h = record {
+  no-step = λ bytes rest x t q form step.
+      h (ap (λ (d : Decoded). numberAt s (d .what)) (front-decode rest q form) ∙ step-only s x (form-in form) step .0);
+  reason =
+      Reason.of-record (take (decodeOf l .size) l) (drop (decodeOf l .size) l) (decodeOf l .what)
+      (sym (take-append-drop (decodeOf l .size) l)) (decode-form l e) (number-reason s (decodeOf l .what) (decode-in l e) h);
+  least = λ m k r. omega (arith, number-least s (decodeOf l .what) (decode-in l e) (record-reason (reads l) refl e r));
+}

@@ -1,0 +1,82 @@
+-- The number of the step is the least of the reasons that hold. Assumes nothing.
+use Prim.Native.Nat.{ℕ, _≤_}
+use mathlib.Core.Path.{_≡_, refl, sym, ap, _∙_}
+use mathlib.Core.Bool.{Bool, true, false, cond}
+use native.Mathlib.Omega.{arith}
+use lib.Dec.{eqb}
+use borrow.Author.Tests.{eqb-false, ne-eqb}
+use Rattle.machine.specs.declared.Slot.{Slot}
+use Rattle.machine.specs.declared.State.{State}
+use Rattle.machine.specs.Machine.{loopsOn}
+use Rattle.machine.specs.Geometry.{columnOf}
+use Rattle.record.specs.declared.Record.{Record}
+use Rattle.record.specs.Names.{InRange}
+use Rattle.run.specs.Relation.{entrySlot, exitSlot}
+use Rattle.run.specs.Reason.{NotOpposite, HookFull, RecordReason}
+use Rattle.run.specs.Step.{orNumber, parkedNo, floatNo, numberAt}
+use Rattle.run.specs.Leaves.{tuckNo}
+use Rattle.run.proofs.ByKind.{or-zero, seen, readyNo, xfer-number, in-number, out-number, miss-number, tuck-number, knit-number, split-number}
+use Rattle.run.proofs.Premises.{up, or-first, or-le, or-some, parked-off, parked-elsewhere, parked-le, in-six, float-over, float-le, tuck-full, carrier, moveNo, move-apart, move-le}
+
+or-assoc : (a b n : ℕ) → orNumber (orNumber a b) n ≡ orNumber a (orNumber b n)
+or-assoc a b n = go (eqb a 0) (eqb-false a 0)
+  where
+    go : (t : Bool) → (t ≡ false → a ≡ 0 → ⊥) → orNumber (cond t b a) n ≡ cond t (orNumber b n) a
+    go true f = refl
+    go false f = or-first a n (f refl)
+
+module _ (s : State) (x : Record) where
+  -- the two numbers of which readyNo is the first
+  abbrev enterNo : ℕ
+  enterNo = parkedNo (seen s x) (entrySlot s x)
+
+  abbrev reachNo : ℕ
+  reachNo = floatNo (seen s x) (columnOf (x .at) (s .racking))
+
+  ready-le : readyNo s x ≤ 9
+  ready-le = or-le enterNo reachNo 9 (omega (arith, parked-le (s .racking) (carrier s x) (entrySlot s x))) (float-le (s .racking) (carrier s x) (columnOf (x .at) (s .racking)))
+
+  abbrev slot : Slot
+  slot = cond (eqb (x .kind) 5) (exitSlot s x) (entrySlot s x)
+
+module _ (s : State) (x : Record) (f : InRange x) where
+  -- what comes first for tuck, knit and split, and for every kind from out on
+  ready-first : 7 ≤ x .kind → (rest : ℕ) × (numberAt s x ≡ orNumber (readyNo s x) rest)
+  ready-first h =
+      up (x .kind) 7 h (λ e. (_, tuck-number s x e))
+      (λ h. up (x .kind) 8 h (λ e. (0, knit-number s x e ∙ sym (or-zero (readyNo s x))))
+      (λ h. (_, split-number s x (omega (arith, f .high)))))
+
+  parked-first : 5 ≤ x .kind → (rest : ℕ) × (numberAt s x ≡ orNumber (parkedNo (seen s x) (slot s x)) rest)
+  parked-first h =
+      up (x .kind) 5 h (λ e. (0, out-number s x e ∙ simp e (sym (or-zero (parkedNo (seen s x) (exitSlot s x))))))
+      (λ h. up (x .kind) 6 h (λ e. (0, miss-number s x e ∙ simp e (sym (or-zero (parkedNo (seen s x) (entrySlot s x))))))
+      (λ h. let (rest, e) = ready-first h in
+      (orNumber (reachNo s x) rest, e ∙ or-assoc (enterNo s x) (reachNo s x) rest ∙ simp (ne-eqb (x .kind) 5 (λ q. omega arith)))))
+
+  parked-bound : 5 ≤ x .kind → (n : ℕ) → parkedNo (seen s x) (slot s x) ≡ n → (n ≡ 0 → ⊥) → numberAt s x ≡ n
+  parked-bound h n e d = let (rest, q) = parked-first h in q ∙ ap (λ (m : ℕ). orNumber m rest) e ∙ or-first n rest d
+
+  float-bound : 7 ≤ x .kind → reachNo s x ≡ 9 → numberAt s x ≤ 9
+  float-bound h e =
+      let (rest, q) = ready-first h in
+      let z : numberAt s x ≡ readyNo s x = q ∙ or-first (readyNo s x) rest (or-some (enterNo s x) (reachNo s x) (λ w. omega arith)) in
+      omega (arith, ready-le s x)
+
+  -- a reason that holds has a number no less than the step's
+  pub number-least : {m : ℕ} → RecordReason m s x → numberAt s x ≤ m
+  number-least (RecordReason.already-in e a) = omega (arith, in-number s x (a .kind) ∙ in-six (s .racking) (carrier s x) (a .active))
+  number-least (RecordReason.not-in e a) =
+      omega (arith, parked-bound (a .kind) 7 (parked-off (s .racking) (carrier s x) (slot s x) (a .carrier-off)) (λ q. omega arith))
+  number-least (RecordReason.wrong-slot e a) =
+      omega (arith, parked-bound (a .kind) 8 (parked-elsewhere (s .racking) (carrier s x) (slot s x) (a .active) (a .elsewhere)) (λ q. omega arith))
+  number-least (RecordReason.float-too-long e a) =
+      omega (arith, float-bound (a .kind) (float-over (s .racking) (carrier s x) (columnOf (x .at) (s .racking)) (a .attached) (a .over)))
+  number-least (RecordReason.not-opposite e (NotOpposite.xfer k h)) = omega (arith, xfer-number s x k ∙ move-apart s x h)
+  number-least (RecordReason.not-opposite e (NotOpposite.split k h)) =
+      omega (arith, split-number s x k, or-le (readyNo s x) (moveNo s x) 10 (omega (arith, ready-le s x)) (omega (arith, move-apart s x h)))
+  number-least (RecordReason.hook-full e (HookFull.tuck k h)) =
+      omega (arith, tuck-number s x k, or-le (readyNo s x) (tuckNo (loopsOn s (x .at))) 11 (omega (arith, ready-le s x)) (omega (arith, tuck-full (loopsOn s (x .at)) h)))
+  number-least (RecordReason.hook-full e (HookFull.xfer k h)) = omega (arith, xfer-number s x k, move-le s x)
+  number-least (RecordReason.hook-full e (HookFull.split k h)) =
+      omega (arith, split-number s x k, or-le (readyNo s x) (moveNo s x) 11 (omega (arith, ready-le s x)) (move-le s x))

@@ -1,0 +1,179 @@
+-- Each test of the step: 0 where its premise holds, else the number of its reason. Assumes nothing.
+use Prim.Native.Nat.{ℕ, _+_, _≤_, _<_}
+use mathlib.Core.Path.{_≡_, refl, ap, _∙_}
+use mathlib.Core.Bool.{Bool, true, false, not, cond}
+use native.Mathlib.Omega.{arith}
+use lib.IntN.{ℤ, _-ℤ_, natAbs}
+use lib.Dec.{eqb, leb}
+use borrow.Author.Tests.{eq-eqb, ne-eqb, eqb-true, eqb-false, leb-true, leb-false, le-leb, lt-leb}
+use Rattle.machine.specs.declared.Column.{Column}
+use Rattle.machine.specs.declared.Racking.{Racking}
+use Rattle.machine.specs.declared.Slot.{Slot}
+use Rattle.machine.specs.declared.Carrier.{Carrier}
+use Rattle.machine.specs.declared.State.{State}
+use Rattle.machine.specs.Machine.{loopsOn, carrierOf}
+use Rattle.machine.specs.Geometry.{eqZ, columnOf, sameColumn, withinFloat}
+use Rattle.machine.proofs.Signed.{eqZ-yes, eqZ-no, eqZ-true, eqZ-false}
+use Rattle.record.specs.declared.Record.{Record}
+use Rattle.record.proofs.Forms.{cond-cases}
+use Rattle.run.specs.Relation.{Active, Inactive, Attached, ParkedAt, Opposite, Room}
+use Rattle.run.specs.Step.{lookOf, orNumber, parkedNo, floatNo}
+use Rattle.run.specs.Leaves.{tuckNo, transferNo}
+
+-- a case by a test, and by the kind
+pub by : {G : Type 0} (b : Bool) → (b ≡ true → G) → (b ≡ false → G) → G
+by true f g = f refl
+by false f g = g refl
+
+pub is : {G : Type 0} (k n : ℕ) → (k ≡ n → G) → ((k ≡ n → ⊥) → G) → G
+is k n f g = by (eqb k n) (λ t. f (eqb-true k n t)) (λ t. g (eqb-false k n t))
+
+pub up : {G : Type 0} (k n : ℕ) → n ≤ k → (k ≡ n → G) → (n < k → G) → G
+up k n h f g = is k n f (λ d. g (omega arith))
+
+-- ---- numbers in order
+pub or-next : (a b : ℕ) → a ≡ 0 → orNumber a b ≡ b
+or-next a b e = simp e
+
+pub or-first : (a b : ℕ) → (a ≡ 0 → ⊥) → orNumber a b ≡ a
+or-first a b h = simp (ne-eqb a 0 h)
+
+pub or-le : (a b m : ℕ) → a ≤ m → b ≤ m → orNumber a b ≤ m
+or-le a b m h i = cond-cases (λ (n : ℕ). n ≤ m) (eqb a 0) (λ t. i) (λ t. h)
+
+pub or-some : (a b : ℕ) → (b ≡ 0 → ⊥) → orNumber a b ≡ 0 → ⊥
+or-some a b h = cond-cases (λ (n : ℕ). n ≡ 0 → ⊥) (eqb a 0) (λ t. h) (λ t. eqb-false a 0 t)
+
+flip : (b : Bool) (m n : ℕ) → cond (not b) m n ≡ cond b n m
+flip true m n = refl
+flip false m n = refl
+
+-- ---- each test of the step, by its premise
+slot-same : (a b : Slot) → a .0 ≡ b .0 → a ≡ b
+slot-same a b e = ap slot e
+  where
+    slot : ℤ → Slot
+    slot z = record { 0 = z }
+
+column-same : (a b : Column) → a .0 ≡ b .0 → a ≡ b
+column-same a b e = ap column e
+  where
+    column : ℤ → Column
+    column z = record { 0 = z }
+
+-- what a carrier answers: 0 and its premise, or a number and why
+module _ (r : Racking) (c : Carrier) where
+  parked-is : (z : Slot) → parkedNo (lookOf r c) z ≡ cond (eqb (c .active) 0) 7 (cond (eqZ (c .slot .0) (z .0)) 0 8)
+  unfolding parkedNo lookOf
+  parked-is z = flip (eqb (c .active) 0) (cond (eqZ (c .slot .0) (z .0)) 0 8) 7
+
+  pub parked-zero : (z : Slot) → ParkedAt c z → parkedNo (lookOf r c) z ≡ 0
+  parked-zero z p = parked-is z ∙ simp (ne-eqb (c .active) 0 (p .active), eqZ-yes (c .slot .0) (z .0) (ap (λ (y : Slot). y .0) (p .here)))
+
+  pub parked-off : (z : Slot) → Inactive c → parkedNo (lookOf r c) z ≡ 7
+  parked-off z e = parked-is z ∙ simp (eq-eqb (c .active) 0 e)
+
+  pub parked-elsewhere : (z : Slot) → Active c → (c .slot ≡ z → ⊥) → parkedNo (lookOf r c) z ≡ 8
+  parked-elsewhere z a h = parked-is z ∙ simp (ne-eqb (c .active) 0 a, eqZ-no (c .slot .0) (z .0) (λ e. h (slot-same (c .slot) z e)))
+
+  pub parked-cases : (z : Slot) {G : Type 0} → (Inactive c → G) → (Active c → (c .slot ≡ z → ⊥) → G) → (ParkedAt c z → G) → G
+  parked-cases z f g k =
+      is (c .active) 0 f
+      (λ a. by (eqZ (c .slot .0) (z .0)) (λ t. k (record { active = a; here = slot-same (c .slot) z (eqZ-true (c .slot .0) (z .0) t) }))
+      (λ t. g a (λ e. eqZ-false (c .slot .0) (z .0) t (ap (λ (y : Slot). y .0) e))))
+
+  pub parked-le : (z : Slot) → parkedNo (lookOf r c) z ≤ 8
+  parked-le z =
+      rw (parked-is z) (cond-cases (λ (n : ℕ). n ≤ 8) (eqb (c .active) 0) (λ t. omega arith)
+      (λ t. cond-cases (λ (n : ℕ). n ≤ 8) (eqZ (c .slot .0) (z .0)) (λ u. omega arith) (λ u. omega arith)))
+
+  abbrev pub inNo : ℕ
+  inNo = cond (lookOf r c .active) 6 0
+
+  in-is : inNo ≡ cond (eqb (c .active) 0) 0 6
+  unfolding lookOf
+  in-is = flip (eqb (c .active) 0) 6 0
+
+  pub in-zero : Inactive c → inNo ≡ 0
+  in-zero e = in-is ∙ simp (eq-eqb (c .active) 0 e)
+
+  pub in-six : Active c → inNo ≡ 6
+  in-six a = in-is ∙ simp (ne-eqb (c .active) 0 a)
+
+  module _ (z : Column) where
+    abbrev pub far : ℕ
+    far = natAbs (columnOf (c .needle) r .0 -ℤ z .0)
+
+    float-is : floatNo (lookOf r c) z ≡ cond (eqb (c .side) 0) 0 (cond (leb far 20) 0 9)
+    unfolding floatNo lookOf withinFloat
+    float-is = flip (eqb (c .side) 0) (cond (leb far 20) 0 9) 0
+
+    pub float-zero : (Attached c → far ≤ 20) → floatNo (lookOf r c) z ≡ 0
+    float-zero h =
+        float-is ∙ cond-cases (λ (n : ℕ). n ≡ 0) (eqb (c .side) 0) (λ t. refl) (λ t. simp (le-leb far 20 (h (eqb-false (c .side) 0 t))))
+
+    pub float-over : Attached c → 20 < far → floatNo (lookOf r c) z ≡ 9
+    float-over a h = float-is ∙ simp (ne-eqb (c .side) 0 a, lt-leb far 20 h)
+
+    pub float-cases : {G : Type 0} → (Attached c → 20 < far → G) → ((Attached c → far ≤ 20) → G) → G
+    float-cases f g =
+        is (c .side) 0 (λ e. g (λ a. absurd (a e)))
+        (λ a. by (leb far 20) (λ t. g (λ b. leb-true far 20 t)) (λ t. f a (leb-false far 20 t)))
+
+    pub float-le : floatNo (lookOf r c) z ≤ 9
+    float-le =
+        rw float-is (cond-cases (λ (n : ℕ). n ≤ 9) (eqb (c .side) 0) (λ t. omega arith)
+        (λ t. cond-cases (λ (n : ℕ). n ≤ 9) (leb far 20) (λ u. omega arith) (λ u. omega arith)))
+
+-- 11 or 0, and 10 before it
+pub tuck-zero : (n : ℕ) → Room (n + 1) → tuckNo n ≡ 0
+unfolding tuckNo
+tuck-zero n h = simp (le-leb (n + 1) 8 h)
+
+pub tuck-full : (n : ℕ) → 8 < n + 1 → tuckNo n ≡ 11
+unfolding tuckNo
+tuck-full n h = simp (lt-leb (n + 1) 8 h)
+
+module _ (s : State) (x : Record) where
+  abbrev pub carrier : Carrier
+  carrier = carrierOf s (x .carrier)
+
+  abbrev pub sum : ℕ
+  sum = loopsOn s (x .at) + loopsOn s (x .to)
+
+  abbrev pub moveNo : ℕ
+  moveNo = transferNo (s .loops) (x .at) (x .to) (s .racking)
+
+  same-yes : Opposite s x → sameColumn (columnOf (x .at) (s .racking)) (columnOf (x .to) (s .racking)) ≡ true
+  unfolding sameColumn
+  same-yes e = eqZ-yes (columnOf (x .at) (s .racking) .0) (columnOf (x .to) (s .racking) .0) (ap (λ (z : Column). z .0) e)
+
+  same-no : (Opposite s x → ⊥) → sameColumn (columnOf (x .at) (s .racking)) (columnOf (x .to) (s .racking)) ≡ false
+  unfolding sameColumn
+  same-no h =
+      eqZ-no (columnOf (x .at) (s .racking) .0) (columnOf (x .to) (s .racking) .0)
+      (λ e. h (column-same (columnOf (x .at) (s .racking)) (columnOf (x .to) (s .racking)) e))
+
+  pub opposite-cases : {G : Type 0} → (Opposite s x → G) → ((Opposite s x → ⊥) → G) → G
+  opposite-cases f g =
+      by (eqZ (columnOf (x .at) (s .racking) .0) (columnOf (x .to) (s .racking) .0))
+      (λ t. f (column-same (columnOf (x .at) (s .racking)) (columnOf (x .to) (s .racking)) (eqZ-true _ _ t)))
+      (λ t. g (λ e. eqZ-false _ _ t (ap (λ (z : Column). z .0) e)))
+
+  pub move-zero : Opposite s x → Room sum → moveNo ≡ 0
+  unfolding transferNo
+  move-zero e h = simp (same-yes e, le-leb sum 8 h)
+
+  pub move-full : Opposite s x → 8 < sum → moveNo ≡ 11
+  unfolding transferNo
+  move-full e h = simp (same-yes e, lt-leb sum 8 h)
+
+  pub move-apart : (Opposite s x → ⊥) → moveNo ≡ 10
+  unfolding transferNo
+  move-apart h = simp (same-no h)
+
+  pub move-le : moveNo ≤ 11
+  unfolding transferNo
+  move-le =
+      cond-cases (λ (n : ℕ). n ≤ 11) (sameColumn (columnOf (x .at) (s .racking)) (columnOf (x .to) (s .racking)))
+      (λ t. cond-cases (λ (n : ℕ). n ≤ 11) (leb sum 8) (λ u. omega arith) (λ u. omega arith)) (λ t. omega arith)

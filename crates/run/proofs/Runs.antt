@@ -1,0 +1,135 @@
+-- The run against the relation: it goes through the records that have their steps, and stops at the first that has none. Assumes nothing.
+use Prim.Native.Nat.{ℕ, zero, suc, _+_, _-_, _≤_, _<_}
+use mathlib.Core.Path.{_≡_, refl, sym, ap, subst, _∙_}
+use mathlib.Core.List.{List, [], _∷_, _++_}
+use native.Mathlib.Omega.{arith}
+use lib.Dec.{eqb}
+use lib.ListN.{length, take, drop, length-drop, length-set, length-map, take-append-drop}
+use lib.Seq.{drop-append-seam, drop-drop, take-add}
+use borrow.Author.Tests.{eqb-true, eqb-false}
+use Rattle.machine.specs.declared.State.{State}
+use Rattle.record.specs.declared.Record.{Record}
+use Rattle.record.specs.declared.Decoded.{Decoded}
+use Rattle.record.specs.Format.{Form, decodeOf}
+use Rattle.record.proofs.Forms.{cond-cases, form-decode, form-in, decode-size, decode-form, decode-in}
+use Rattle.run.specs.declared.Reached.{Reached}
+use Rattle.run.specs.Relation.{Step, Steps}
+use Rattle.run.specs.Step.{numberAt, applyOf}
+use Rattle.run.specs.Run.{reached, turn, runFrom}
+use Rattle.run.proofs.Sound.{step-only, step-sound}
+use Rattle.run.proofs.Bytes.{Refusal, bytes-refusal, step-refusal}
+
+-- ---- one turn of the run
+run-skip : (k : ℕ) (l : List ℕ) (at : ℕ) (s : State) → runFrom k l at s ≡ runFrom 0 (drop k l) at s
+unfolding runFrom
+run-skip zero l at s = refl
+run-skip (suc k) [] at s = refl
+run-skip (suc k) (b ∷ l) at s = run-skip k l at s
+
+skip-first : (n b : ℕ) (l : List ℕ) (at : ℕ) (s : State) → 0 < n → runFrom (n - 1) l at s ≡ runFrom 0 (drop n (b ∷ l)) at s
+skip-first zero b l at s h = absurd (omega arith)
+skip-first (suc n) b l at s h = let e : suc n - 1 ≡ n = omega arith in ap (λ (k : ℕ). runFrom k l at s) e ∙ run-skip n l at s
+
+run-end : (at : ℕ) (s : State) → runFrom 0 [] at s ≡ reached 0 0 s
+unfolding runFrom
+run-end at s = refl
+
+-- what becomes of a list with a byte: refused by its bytes, refused by its step, or gone on with
+data Turns (l : List ℕ) (at : ℕ) (s : State) : Reached → Type 0 where
+  unread : (decodeOf l .number ≡ 0 → ⊥) → Turns l at s (reached (decodeOf l .number) at s)
+  stopped : decodeOf l .number ≡ 0 → (numberAt s (decodeOf l .what) ≡ 0 → ⊥) → Turns l at s (reached (numberAt s (decodeOf l .what)) at s)
+  passed : decodeOf l .number ≡ 0 → numberAt s (decodeOf l .what) ≡ 0
+      → Turns l at s (runFrom 0 (drop (decodeOf l .size) l) (at + decodeOf l .size) (applyOf s (decodeOf l .what)))
+
+turns : (b : ℕ) (l : List ℕ) (at : ℕ) (s : State) → Turns (b ∷ l) at s (runFrom 0 (b ∷ l) at s)
+unfolding runFrom turn
+turns b l at s =
+    cond-cases (Turns (b ∷ l) at s) (eqb (d .number) 0)
+    (λ t. let e = eqb-true (d .number) 0 t in
+    cond-cases (Turns (b ∷ l) at s) (eqb (numberAt s (d .what)) 0)
+    (λ u. rw (skip-first (d .size) b l (at + d .size) (applyOf s (d .what)) (decode-size (b ∷ l) e .0)) (Turns.passed e (eqb-true (numberAt s (d .what)) 0 u)))
+    (λ u. Turns.stopped e (eqb-false (numberAt s (d .what)) 0 u)))
+    (λ t. Turns.unread (eqb-false (d .number) 0 t))
+  where
+    d : Decoded
+    d = decodeOf (b ∷ l)
+
+-- ---- a list of records that have their steps is run to its end
+run-on : (l : List ℕ) (at : ℕ) (s : State) → decodeOf l .number ≡ 0 → numberAt s (decodeOf l .what) ≡ 0
+    → runFrom 0 l at s ≡ runFrom 0 (drop (decodeOf l .size) l) (at + decodeOf l .size) (applyOf s (decodeOf l .what))
+run-on [] at s e z = let (a, b) = decode-size [] e in absurd (omega arith)
+run-on (b ∷ l) at s e z = go (turns b l at s)
+  where
+    go : {r : Reached} → Turns (b ∷ l) at s r → r ≡ runFrom 0 (drop (decodeOf (b ∷ l) .size) (b ∷ l)) (at + decodeOf (b ∷ l) .size) (applyOf s (decodeOf (b ∷ l) .what))
+    go (Turns.unread h) = absurd (h e)
+    go (Turns.stopped e h) = absurd (h z)
+    go (Turns.passed e z) = refl
+
+on-form : {bytes : List ℕ} {x : Record} {s t : State} → Form bytes x → Step s x t → (rest : List ℕ) (at : ℕ) → runFrom 0 (bytes ++ rest) at s ≡ runFrom 0 rest (at + length bytes) t
+on-form {bytes} {x} {s} {t} form step rest at =
+    let e = form-decode form rest in
+    let (z, u) = step-only s x (form-in form) step in
+    run-on (bytes ++ rest) at s (ap (λ (d : Decoded). d .number) e) (ap (λ (d : Decoded). numberAt s (d .what)) e ∙ z)
+    ∙ ap (λ (d : Decoded). runFrom 0 (drop (d .size) (bytes ++ rest)) (at + d .size) (applyOf s (d .what))) e
+    ∙ ap (λ (l : List ℕ). runFrom 0 l (at + length bytes) (applyOf s x)) (drop-append-seam bytes rest) ∙ ap (runFrom 0 rest (at + length bytes)) u
+
+pub run-steps : {s t : State} {p : List ℕ} → Steps s p t → (at : ℕ) → runFrom 0 p at s ≡ reached 0 0 t
+run-steps {s} Steps.none at = run-end at s
+run-steps (Steps.next {bytes = bytes} {rest = rest} form step more) at = on-form form step rest at ∙ run-steps more (at + length bytes)
+
+-- ---- every run ends so or stops at a refusal
+pub data Ends (p : List ℕ) (at : ℕ) (s : State) : Reached → Type 0 where
+  through : {t : State} → Steps s p t → Ends p at s (reached 0 0 t)
+  refused : {n place k : ℕ} {t : State} → place ≡ at + k → k < length p → Steps s (take k p) t → Refusal n t (drop k p) → Ends p at s (reached n place t)
+
+module _ (p : List ℕ) (at : ℕ) (s : State) (e : decodeOf p .number ≡ 0) (z : numberAt s (decodeOf p .what) ≡ 0) where
+  abbrev size : ℕ
+  size = decodeOf p .size
+
+  go-on : {r : Reached} → Ends (drop size p) (at + size) (applyOf s (decodeOf p .what)) r → Ends p at s r
+  go-on (Ends.through {t = t} more) =
+      Ends.through (subst (λ (l : List ℕ). Steps s l t) (take-append-drop size p) (Steps.next (decode-form p e) (step-sound s (decodeOf p .what) (decode-in p e) z) more))
+  go-on (Ends.refused {n = n} {place = place} {k = k} {t = t} w h before r) =
+      let (a, b) = decode-size p e in
+      Ends.refused {place = place} {k = size + k} (omega arith) (omega (arith, length-drop size p))
+      (subst (λ (l : List ℕ). Steps s l t) (sym (take-add size k p)) (Steps.next (decode-form p e) (step-sound s (decodeOf p .what) (decode-in p e) z) before))
+      (subst (Refusal n t) (drop-drop k size p) r)
+
+next : (b : ℕ) (l : List ℕ) (at : ℕ) (s : State)
+    → ((q : List ℕ) → length q ≤ length l → (at : ℕ) (s : State) → Ends q at s (runFrom 0 q at s)) → Ends (b ∷ l) at s (runFrom 0 (b ∷ l) at s)
+next b l at s more = go (turns b l at s)
+  where
+    go : {r : Reached} → Turns (b ∷ l) at s r → Ends (b ∷ l) at s r
+    go (Turns.unread h) = Ends.refused {place = at} {k = 0} (omega arith) (omega arith) Steps.none (bytes-refusal s (b ∷ l) h)
+    go (Turns.stopped e h) = Ends.refused {place = at} {k = 0} (omega arith) (omega arith) Steps.none (step-refusal s (b ∷ l) e h)
+    go (Turns.passed e z) =
+        go-on (b ∷ l) at s e z
+        (more (drop (decodeOf (b ∷ l) .size) (b ∷ l)) (omega (arith, length-drop (decodeOf (b ∷ l) .size) (b ∷ l), decode-size (b ∷ l) e)) _ _)
+
+pub runs : (bound : ℕ) (p : List ℕ) → length p ≤ bound → (at : ℕ) (s : State) → Ends p at s (runFrom 0 p at s)
+runs zero [] h at s = rw (run-end at s) (Ends.through Steps.none)
+runs (suc bound) [] h at s = rw (run-end at s) (Ends.through Steps.none)
+runs zero (b ∷ l) h at s = absurd (omega arith)
+runs (suc bound) (b ∷ l) h at s = next b l at s (λ q w. runs bound q (omega arith))
+
+-- ---- a step keeps how many hooks and carriers there are
+pub record SameLengths (s t : State) : Type 0 where
+  pub loops : length (t .loops) ≡ length (s .loops)
+  pub carriers : length (t .carriers) ≡ length (s .carriers)
+
+step-lengths : {s t : State} {x : Record} → Step s x t → SameLengths s t
+step-lengths (Step.rack e) = record { loops = refl; carriers = refl }
+step-lengths (Step.drop e) = record { loops = simp length-set; carriers = refl }
+step-lengths (Step.xfer e o r) = record { loops = simp length-set; carriers = simp length-map }
+step-lengths (Step.carrier-in e c) = record { loops = refl; carriers = simp length-set }
+step-lengths (Step.carrier-out e p) = record { loops = refl; carriers = simp length-set }
+step-lengths (Step.miss e p) = record { loops = refl; carriers = simp length-set }
+step-lengths (Step.tuck e p h r) = record { loops = simp length-set; carriers = simp length-set }
+step-lengths (Step.knit e p h) = record { loops = simp length-set; carriers = simp length-set }
+step-lengths (Step.split e p h o r) = record { loops = simp length-set; carriers = simp (length-set, length-map) }
+
+pub steps-lengths : {s t : State} {p : List ℕ} → Steps s p t → SameLengths s t
+steps-lengths Steps.none = record { loops = refl; carriers = refl }
+steps-lengths (Steps.next form step more) =
+    let a = step-lengths step in let b = steps-lengths more in
+    record { loops = b .loops ∙ a .loops; carriers = b .carriers ∙ a .carriers }

@@ -1,0 +1,138 @@
+-- The step as code makes it against the relation: 0 exactly where the relation has a step, else the number of a reason that holds. Assumes nothing.
+use Prim.Native.Nat.{ℕ, _+_, _≤_, _<_}
+use mathlib.Core.Path.{_≡_, _∙_}
+use mathlib.Core.Bool.{cond}
+use native.Mathlib.Omega.{arith}
+use lib.Dec.{eqb, leb}
+use borrow.Author.Tests.{ne-eqb, leb-true, leb-false}
+use Rattle.machine.specs.declared.Column.{Column}
+use Rattle.machine.specs.declared.Slot.{Slot}
+use Rattle.machine.specs.declared.State.{State}
+use Rattle.machine.specs.Machine.{hookOf, loopsOn}
+use Rattle.machine.specs.Geometry.{columnOf}
+use Rattle.record.specs.declared.Record.{Record}
+use Rattle.record.specs.Names.{needlesIn, InRange}
+use Rattle.run.specs.Relation.{Inactive, ParkedAt, Floats, Opposite, Room, Step, entrySlot, exitSlot}
+use Rattle.run.specs.Reason.{NotOpposite, HookFull, RecordReason}
+use Rattle.run.specs.Step.{orNumber, parkedNo, floatNo, numberAt, applyOf}
+use Rattle.run.specs.Leaves.{tuckNo}
+use Rattle.run.proofs.ByKind.{seen, readyNo, rack-number, rack-state, drop-number, drop-state, xfer-number, xfer-state, in-number, in-state, out-number, out-state}
+use Rattle.run.proofs.ByKind.{miss-number, miss-state, tuck-number, tuck-state, knit-number, knit-state, split-number, split-state, split-said}
+use Rattle.run.proofs.Premises.{by, is, up, or-next, or-first, parked-zero, parked-off, parked-elsewhere, parked-cases, in-zero, in-six}
+use Rattle.run.proofs.Premises.{float-zero, float-over, float-cases, tuck-zero, tuck-full, carrier, sum, moveNo, opposite-cases, move-zero, move-full, move-apart}
+
+-- ---- a step of the relation is the code's
+module _ (s : State) (x : Record) where
+  parked-here : (z : Slot) → ParkedAt (carrier s x) z → parkedNo (seen s x) z ≡ 0
+  parked-here z p = parked-zero (s .racking) (carrier s x) z p
+
+  ready-zero : ParkedAt (carrier s x) (entrySlot s x) → Floats s x → readyNo s x ≡ 0
+  ready-zero p h = or-next _ _ (parked-here (entrySlot s x) p) ∙ float-zero (s .racking) (carrier s x) (columnOf (x .at) (s .racking)) h
+
+  split-hooks : InRange x → x .kind ≡ 9 → hookOf (x .at) ≡ hookOf (x .to) → ⊥
+  unfolding needlesIn
+  split-hooks f e = f .beds-differ (simp e)
+
+  pub step-only : InRange x → {t : State} → Step s x t → (numberAt s x ≡ 0) × (applyOf s x ≡ t)
+  step-only f (Step.rack e) = (rack-number s x e, rack-state s x e)
+  step-only f (Step.drop e) = (drop-number s x e, drop-state s x e)
+  step-only f (Step.xfer e o h) = (xfer-number s x e ∙ move-zero s x o h, xfer-state s x e)
+  step-only f (Step.carrier-in e c) = (in-number s x e ∙ in-zero (s .racking) (carrier s x) c, in-state s x e)
+  step-only f (Step.carrier-out e p) = (out-number s x e ∙ parked-here (exitSlot s x) p, out-state s x e)
+  step-only f (Step.miss e p) = (miss-number s x e ∙ parked-here (entrySlot s x) p, miss-state s x e)
+  step-only f (Step.tuck e p h r) = (tuck-number s x e ∙ or-next _ _ (ready-zero p h) ∙ tuck-zero (loopsOn s (x .at)) r, tuck-state s x e)
+  step-only f (Step.knit e p h) = (knit-number s x e ∙ ready-zero p h, knit-state s x e)
+  step-only f (Step.split e p h o r) =
+      (split-number s x e ∙ or-next _ _ (ready-zero p h) ∙ move-zero s x o r, split-state s x e ∙ split-said s x (split-hooks f e))
+
+-- ---- the code's number is 0 where the premises hold, or the number of a reason
+data Judged (s : State) (x : Record) (P : Type 0) (n : ℕ) : Type 0 where
+  fine : n ≡ 0 → P → Judged s x P n
+  refused : RecordReason n s x → Judged s x P n
+
+pub reason-above : {n : ℕ} {s : State} {x : Record} → RecordReason n s x → 6 ≤ n
+reason-above (RecordReason.already-in e a) = omega arith
+reason-above (RecordReason.not-in e a) = omega arith
+reason-above (RecordReason.wrong-slot e a) = omega arith
+reason-above (RecordReason.float-too-long e a) = omega arith
+reason-above (RecordReason.not-opposite e a) = omega arith
+reason-above (RecordReason.hook-full e a) = omega arith
+
+module _ {s : State} {x : Record} where
+  both : {P Q : Type 0} {a b : ℕ} → Judged s x P a → Judged s x Q b → Judged s x (P × Q) (orNumber a b)
+  both {a = a} {b = b} (Judged.fine e p) (Judged.fine d q) = Judged.fine (or-next a b e ∙ d) (p, q)
+  both {a = a} {b = b} (Judged.fine e p) (Judged.refused q) = Judged.refused (rw (or-next a b e) q)
+  both {a = a} {b = b} (Judged.refused p) q = Judged.refused (rw (or-first a b (λ e. omega (arith, reason-above p))) p)
+
+  -- a number that is the same, and the step of its premises
+  stepped : {P : Type 0} {n m : ℕ} {t u : State} → m ≡ n → u ≡ t → (P → Step s x t) → Judged s x P n → Judged s x (Step s x u) m
+  stepped e d f (Judged.fine z p) = Judged.fine (e ∙ z) (rw d (f p))
+  stepped e d f (Judged.refused r) = Judged.refused (rw e r)
+
+module _ (s : State) (x : Record) where
+  in-judged : x .kind ≡ 4 → Judged s x (Inactive (carrier s x)) (cond (seen s x .active) 6 0)
+  in-judged e =
+      is (carrier s x .active) 0 (λ c. Judged.fine (in-zero (s .racking) (carrier s x) c) c)
+      (λ a. Judged.refused (RecordReason.already-in (in-six (s .racking) (carrier s x) a) (record { kind = e; active = a })))
+
+  parked-judged : (z : Slot) → 5 ≤ x .kind → cond (eqb (x .kind) 5) (exitSlot s x) (entrySlot s x) ≡ z → Judged s x (ParkedAt (carrier s x) z) (parkedNo (seen s x) z)
+  parked-judged z k e =
+      parked-cases (s .racking) (carrier s x) z
+      (λ c. Judged.refused (RecordReason.not-in (parked-off (s .racking) (carrier s x) z c) (record { kind = k; carrier-off = c })))
+      (λ a h. Judged.refused (RecordReason.wrong-slot (parked-elsewhere (s .racking) (carrier s x) z a h) (record { kind = k; active = a; elsewhere = λ q. h (q ∙ e) })))
+      (λ p. Judged.fine (parked-here s x z p) p)
+
+  float-judged : 7 ≤ x .kind → Judged s x (Floats s x) (floatNo (seen s x) (columnOf (x .at) (s .racking)))
+  float-judged k =
+      float-cases (s .racking) (carrier s x) z
+      (λ a h. Judged.refused (RecordReason.float-too-long (float-over (s .racking) (carrier s x) z a h) (record { kind = k; attached = a; over = h })))
+      (λ h. Judged.fine (float-zero (s .racking) (carrier s x) z h) h)
+    where
+      z : Column
+      z = columnOf (x .at) (s .racking)
+
+  ready-judged : 7 ≤ x .kind → Judged s x (ParkedAt (carrier s x) (entrySlot s x) × Floats s x) (readyNo s x)
+  ready-judged k = both (parked-judged (entrySlot s x) (omega arith) (simp (ne-eqb (x .kind) 5 (λ e. omega arith)))) (float-judged k)
+
+  tuck-judged : x .kind ≡ 7 → Judged s x (Room (loopsOn s (x .at) + 1)) (tuckNo (loopsOn s (x .at)))
+  tuck-judged e =
+      by (leb n 8) (λ t. let h = leb-true n 8 t in Judged.fine (tuck-zero (loopsOn s (x .at)) h) h)
+      (λ t. let h = leb-false n 8 t in Judged.refused (RecordReason.hook-full (tuck-full (loopsOn s (x .at)) h) (HookFull.tuck e h)))
+    where
+      n : ℕ
+      n = loopsOn s (x .at) + 1
+
+  move-judged : ((Opposite s x → ⊥) → NotOpposite s x) → (8 < sum s x → HookFull s x) → Judged s x (Opposite s x × Room (sum s x)) (moveNo s x)
+  move-judged f g =
+      opposite-cases s x
+      (λ o. by (leb (sum s x) 8) (λ t. let h = leb-true (sum s x) 8 t in Judged.fine (move-zero s x o h) (o, h))
+      (λ t. let h = leb-false (sum s x) 8 t in Judged.refused (RecordReason.hook-full (move-full s x o h) (g h))))
+      (λ h. Judged.refused (RecordReason.not-opposite (move-apart s x h) (f h)))
+
+  judged : InRange x → Judged s x (Step s x (applyOf s x)) (numberAt s x)
+  judged f =
+      up (x .kind) 1 (f .low) (λ e. Judged.fine (rack-number s x e) (rw (rack-state s x e) (Step.rack e)))
+      (λ h. up (x .kind) 2 h (λ e. Judged.fine (drop-number s x e) (rw (drop-state s x e) (Step.drop e)))
+      (λ h. up (x .kind) 3 h (λ e. stepped (xfer-number s x e) (xfer-state s x e) (λ (o, h). Step.xfer e o h) (move-judged (NotOpposite.xfer e) (HookFull.xfer e)))
+      (λ h. up (x .kind) 4 h (λ e. stepped (in-number s x e) (in-state s x e) (Step.carrier-in e) (in-judged e))
+      (λ h. up (x .kind) 5 h (λ e. stepped (out-number s x e) (out-state s x e) (Step.carrier-out e) (parked-judged (exitSlot s x) (omega arith) (simp e)))
+      (λ h. up (x .kind) 6 h (λ e. stepped (miss-number s x e) (miss-state s x e) (Step.miss e) (parked-judged (entrySlot s x) (omega arith) (simp e)))
+      (λ h. up (x .kind) 7 h (λ e. stepped (tuck-number s x e) (tuck-state s x e) (λ ((p, h), r). Step.tuck e p h r) (both (ready-judged (omega arith)) (tuck-judged e)))
+      (λ h. up (x .kind) 8 h (λ e. stepped (knit-number s x e) (knit-state s x e) (λ (p, h). Step.knit e p h) (ready-judged (omega arith)))
+      (λ h. let e : x .kind ≡ 9 = omega (arith, f .high) in
+      stepped (split-number s x e) (split-state s x e ∙ split-said s x (split-hooks s x f e)) (λ ((p, h), (o, r)). Step.split e p h o r)
+      (both (ready-judged (omega arith)) (move-judged (NotOpposite.split e) (HookFull.split e)))))))))))
+
+  pub step-sound : InRange x → numberAt s x ≡ 0 → Step s x (applyOf s x)
+  step-sound f z = go (judged f)
+    where
+      go : Judged s x (Step s x (applyOf s x)) (numberAt s x) → Step s x (applyOf s x)
+      go (Judged.fine e p) = p
+      go (Judged.refused r) = absurd (omega (arith, reason-above r))
+
+  pub number-reason : InRange x → (numberAt s x ≡ 0 → ⊥) → RecordReason (numberAt s x) s x
+  number-reason f h = go (judged f)
+    where
+      go : Judged s x (Step s x (applyOf s x)) (numberAt s x) → RecordReason (numberAt s x) s x
+      go (Judged.fine e p) = absurd (h e)
+      go (Judged.refused r) = r
