@@ -67,6 +67,12 @@ first-refusal (Answered.through h steps) i d = absurd (d refl)
 first-refusal (Answered.refused h k before r) i d = record { within = k; before = before; no-step = r .no-step; reason = r .reason; least = r .least }
 first-refusal (Answered.too-long h) i d = absurd (omega arith)
 
+pub place-small : {p : List ℕ} {a : Answer} → Answered p a → a .place < 32768
+unfolding answerOf
+place-small (Answered.through h steps) = omega arith
+place-small (Answered.refused h k before r) = omega arith
+place-small (Answered.too-long h) = omega arith
+
 -- a state that steps lead to is the empty one exactly where it is complete
 complete-at : {q : List ℕ} {t : State} → Steps emptyState q t → (completeOf t ≡ true) ↔ (t ≡ emptyState)
 unfolding emptyState

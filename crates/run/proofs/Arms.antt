@@ -1,12 +1,12 @@
 -- The arms of the run's loop: from what the small functions promise, the number of a record and the state after it. Assumes nothing.
 use Prim.Native.Nat.{ℕ, _+_, _-_, _≤_, _<_}
 use mathlib.Core.Path.{_≡_, refl, sym, ap, _∙_}
-use mathlib.Core.Bool.{Bool, true, false, not, cond}
+use mathlib.Core.Bool.{false}
 use mathlib.Core.List.{List, map}
 use native.Mathlib.Omega.{arith}
 use lib.ListN.{getD, set}
 use lib.Dec.{eqb}
-use borrow.Author.Tests.{eq-eqb, ne-eqb, not-true, not-false}
+use borrow.Author.Tests.{eq-eqb, ne-eqb, not-false}
 use Rattle.machine.specs.declared.Needle.{Needle}
 use Rattle.machine.specs.declared.Racking.{Racking}
 use Rattle.machine.specs.declared.Carrier.{Carrier}
@@ -18,8 +18,9 @@ use Rattle.machine.proofs.Laws.{none-moved}
 use Rattle.record.specs.declared.Record.{Record}
 use Rattle.record.specs.Names.{InRange}
 use Rattle.run.specs.Relation.{racked, entrySlot, exitSlot, unattached, parkedOn, attached}
-use Rattle.run.specs.Step.{lookOf, orNumber, parkedNo, numberAt, applyOf}
+use Rattle.run.specs.Step.{orNumber, parkedNo, numberAt, applyOf}
 use Rattle.run.specs.Leaves.{tuckNo, tucked, transferNo, transferredLoops}
+use Rattle.run.proofs.Premises.{in-zero, in-six}
 use Rattle.run.proofs.ByKind.{seen, readyNo, rack-number, rack-state, drop-number, drop-state, xfer-number, xfer-state, in-number, in-state, out-number, out-state, miss-number, miss-state, tuck-number, tuck-state, knit-number, knit-state, split-number, split-state}
 
 -- the last arm is split's
@@ -93,12 +94,10 @@ module _ (s : State) (x : Record) where
 
   module _ (e : x .kind ≡ 4) where
     pub in-stopped : (carrierOf s (x .carrier) .active ≡ 0 → ⊥) → 6 ≡ numberAt s x
-    unfolding lookOf
-    in-stopped h = sym (in-number s x e ∙ simp (ne-eqb _ _ h))
+    in-stopped h = sym (in-number s x e ∙ in-six (s .racking) (carrierOf s (x .carrier)) h)
 
-    pub in-made : carrierOf s (x .carrier) .active ≡ 0 → (z : Slot) → z ≡ entrySlot s x → Made (parts (s .loops) (set (s .carriers) (x .carrier - 1) (unattached z)))
-    unfolding lookOf
-    in-made h z p = (in-number s x e ∙ simp (eq-eqb _ _ h), in-state s x e ∙ simp p)
+    pub in-made : carrierOf s (x .carrier) .active ≡ 0 → (c : Carrier) → c ≡ unattached (entrySlot s x) → Made (parts (s .loops) (set (s .carriers) (x .carrier - 1) c))
+    in-made h c q = (in-number s x e ∙ in-zero (s .racking) (carrierOf s (x .carrier)) h, in-state s x e ∙ simp q)
 
   module _ (n : ℕ) (z : Slot) (is : n ≡ parkedNo (seen s x) z) where
     pub out-stopped : x .kind ≡ 5 → z ≡ exitSlot s x → n ≡ numberAt s x
@@ -110,9 +109,9 @@ module _ (s : State) (x : Record) where
     pub miss-stopped : x .kind ≡ 6 → z ≡ entrySlot s x → n ≡ numberAt s x
     miss-stopped e p = is ∙ ap (parkedNo (seen s x)) p ∙ sym (miss-number s x e)
 
-    pub miss-made : x .kind ≡ 6 → z ≡ entrySlot s x → n ≡ 0 → (y : Slot) → y ≡ exitSlot s x
-        → Made (parts (s .loops) (set (s .carriers) (x .carrier - 1) (parkedOn (carrierOf s (x .carrier)) y)))
-    miss-made e p h y q = (sym (miss-stopped e p) ∙ h, miss-state s x e ∙ simp q)
+    pub miss-made : x .kind ≡ 6 → z ≡ entrySlot s x → n ≡ 0 → (c : Carrier) → c ≡ parkedOn (carrierOf s (x .carrier)) (exitSlot s x)
+        → Made (parts (s .loops) (set (s .carriers) (x .carrier - 1) c))
+    miss-made e p h c q = (sym (miss-stopped e p) ∙ h, miss-state s x e ∙ simp q)
 
   module _ (n : ℕ) (is : n ≡ readyNo s x) where
     pub tuck-unready : x .kind ≡ 7 → (n ≡ 0 → ⊥) → n ≡ numberAt s x

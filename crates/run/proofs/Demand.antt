@@ -2,8 +2,8 @@
 use mathlib.Core.Path.{ap}
 use Rattle.run.specs.declared.Answer.{Answer}
 use Rattle.run.specs.Run.{answerOf}
-use Rattle.run.specs.Claims.{AcceptsExactlyValid, GivesFinalState, TooLongExactly, TooLongAnswer, RefusesFirst, CompleteIsEmpty}
-use Rattle.run.proofs.Answers.{long-run, valid-run, answered, accepted, one-long, first-refusal, complete-empty}
+use Rattle.run.specs.Claims.{AcceptsExactlyValid, GivesFinalState, TooLongExactly, TooLongAnswer, RefusesFirst, PlaceIsSmall, CompleteIsEmpty}
+use Rattle.run.proofs.Answers.{long-run, valid-run, answered, accepted, one-long, first-refusal, place-small, complete-empty}
 
 pub final : GivesFinalState
 unfolding answerOf
@@ -23,3 +23,6 @@ refuses p = first-refusal (answered p)
 
 pub complete : CompleteIsEmpty
 complete p = complete-empty (answered p)
+
+pub place-bound : PlaceIsSmall
+place-bound p = place-small (answered p)

@@ -1,7 +1,7 @@
 -- What a look at a carrier comes to, in the carrier's own fields. Assumes nothing.
 use Prim.Native.Nat.{ℕ}
 use mathlib.Core.Path.{_≡_, refl}
-use mathlib.Core.Bool.{not, cond}
+use mathlib.Core.Bool.{Bool, true, false, not, cond}
 use lib.Dec.{eqb}
 use Rattle.machine.specs.declared.Carrier.{Carrier}
 use Rattle.machine.specs.declared.Column.{Column}
@@ -10,10 +10,19 @@ use Rattle.machine.specs.declared.Slot.{Slot}
 use Rattle.machine.specs.Geometry.{eqZ, columnOf, withinFloat}
 use Rattle.run.specs.Step.{lookOf, parkedNo, floatNo}
 
-pub parked-is : (c : Carrier) (r : Racking) (z : Slot) → parkedNo (lookOf r c) z ≡ cond (not (eqb (c .active) 0)) (cond (eqZ (c .slot .0) (z .0)) 0 8) 7
-unfolding parkedNo lookOf
-parked-is c r z = refl
+flip : (b : Bool) (m n : ℕ) → cond (not b) m n ≡ cond b n m
+flip true m n = refl
+flip false m n = refl
 
-pub float-is : (c : Carrier) (r : Racking) (z : Column) → floatNo (lookOf r c) z ≡ cond (not (eqb (c .side) 0)) (cond (withinFloat (columnOf (c .needle) r) z) 0 9) 0
-unfolding floatNo lookOf
-float-is c r z = refl
+module _ (r : Racking) (c : Carrier) where
+  pub parked-is : (z : Slot) → parkedNo (lookOf r c) z ≡ cond (eqb (c .active) 0) 7 (cond (eqZ (c .slot .0) (z .0)) 0 8)
+  unfolding parkedNo lookOf
+  parked-is z = flip (eqb (c .active) 0) (cond (eqZ (c .slot .0) (z .0)) 0 8) 7
+
+  pub float-is : (z : Column) → floatNo (lookOf r c) z ≡ cond (eqb (c .side) 0) 0 (cond (withinFloat (columnOf (c .needle) r) z) 0 9)
+  unfolding floatNo lookOf
+  float-is z = flip (eqb (c .side) 0) (cond (withinFloat (columnOf (c .needle) r) z) 0 9) 0
+
+  pub in-is : _≡_ {A = ℕ} (cond (lookOf r c .active) 6 0) (cond (eqb (c .active) 0) 0 6)
+  unfolding lookOf
+  in-is = flip (eqb (c .active) 0) 6 0

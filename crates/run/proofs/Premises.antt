@@ -1,7 +1,7 @@
 -- Each test of the step: 0 where its premise holds, else the number of its reason. Assumes nothing.
 use Prim.Native.Nat.{ℕ, _+_, _≤_, _<_}
 use mathlib.Core.Path.{_≡_, refl, ap, _∙_}
-use mathlib.Core.Bool.{Bool, true, false, not, cond}
+use mathlib.Core.Bool.{Bool, true, false, cond}
 use native.Mathlib.Omega.{arith}
 use lib.IntN.{ℤ, _-ℤ_, natAbs}
 use lib.Dec.{eqb, leb}
@@ -19,6 +19,7 @@ use Rattle.record.proofs.Forms.{cond-cases}
 use Rattle.run.specs.Relation.{Active, Inactive, Attached, ParkedAt, Opposite, Room}
 use Rattle.run.specs.Step.{lookOf, orNumber, parkedNo, floatNo}
 use Rattle.run.specs.Leaves.{tuckNo, transferNo}
+use Rattle.run.proofs.Looks.{parked-is, in-is, float-is}
 
 -- a case by a test, and by the kind
 pub by : {G : Type 0} (b : Bool) → (b ≡ true → G) → (b ≡ false → G) → G
@@ -44,10 +45,6 @@ or-le a b m h i = cond-cases (λ (n : ℕ). n ≤ m) (eqb a 0) (λ t. i) (λ t. 
 pub or-some : (a b : ℕ) → (b ≡ 0 → ⊥) → orNumber a b ≡ 0 → ⊥
 or-some a b h = cond-cases (λ (n : ℕ). n ≡ 0 → ⊥) (eqb a 0) (λ t. h) (λ t. eqb-false a 0 t)
 
-flip : (b : Bool) (m n : ℕ) → cond (not b) m n ≡ cond b n m
-flip true m n = refl
-flip false m n = refl
-
 -- ---- each test of the step, by its premise
 slot-same : (a b : Slot) → a .0 ≡ b .0 → a ≡ b
 slot-same a b e = ap slot e
@@ -63,18 +60,14 @@ column-same a b e = ap column e
 
 -- what a carrier answers: 0 and its premise, or a number and why
 module _ (r : Racking) (c : Carrier) where
-  parked-is : (z : Slot) → parkedNo (lookOf r c) z ≡ cond (eqb (c .active) 0) 7 (cond (eqZ (c .slot .0) (z .0)) 0 8)
-  unfolding parkedNo lookOf
-  parked-is z = flip (eqb (c .active) 0) (cond (eqZ (c .slot .0) (z .0)) 0 8) 7
-
   pub parked-zero : (z : Slot) → ParkedAt c z → parkedNo (lookOf r c) z ≡ 0
-  parked-zero z p = parked-is z ∙ simp (ne-eqb (c .active) 0 (p .active), eqZ-yes (c .slot .0) (z .0) (ap (λ (y : Slot). y .0) (p .here)))
+  parked-zero z p = parked-is r c z ∙ simp (ne-eqb (c .active) 0 (p .active), eqZ-yes (c .slot .0) (z .0) (ap (λ (y : Slot). y .0) (p .here)))
 
   pub parked-off : (z : Slot) → Inactive c → parkedNo (lookOf r c) z ≡ 7
-  parked-off z e = parked-is z ∙ simp (eq-eqb (c .active) 0 e)
+  parked-off z e = parked-is r c z ∙ simp (eq-eqb (c .active) 0 e)
 
   pub parked-elsewhere : (z : Slot) → Active c → (c .slot ≡ z → ⊥) → parkedNo (lookOf r c) z ≡ 8
-  parked-elsewhere z a h = parked-is z ∙ simp (ne-eqb (c .active) 0 a, eqZ-no (c .slot .0) (z .0) (λ e. h (slot-same (c .slot) z e)))
+  parked-elsewhere z a h = parked-is r c z ∙ simp (ne-eqb (c .active) 0 a, eqZ-no (c .slot .0) (z .0) (λ e. h (slot-same (c .slot) z e)))
 
   pub parked-cases : (z : Slot) {G : Type 0} → (Inactive c → G) → (Active c → (c .slot ≡ z → ⊥) → G) → (ParkedAt c z → G) → G
   parked-cases z f g k =
@@ -84,36 +77,32 @@ module _ (r : Racking) (c : Carrier) where
 
   pub parked-le : (z : Slot) → parkedNo (lookOf r c) z ≤ 8
   parked-le z =
-      rw (parked-is z) (cond-cases (λ (n : ℕ). n ≤ 8) (eqb (c .active) 0) (λ t. omega arith)
+      rw (parked-is r c z) (cond-cases (λ (n : ℕ). n ≤ 8) (eqb (c .active) 0) (λ t. omega arith)
       (λ t. cond-cases (λ (n : ℕ). n ≤ 8) (eqZ (c .slot .0) (z .0)) (λ u. omega arith) (λ u. omega arith)))
 
   abbrev pub inNo : ℕ
   inNo = cond (lookOf r c .active) 6 0
 
-  in-is : inNo ≡ cond (eqb (c .active) 0) 0 6
-  unfolding lookOf
-  in-is = flip (eqb (c .active) 0) 6 0
-
   pub in-zero : Inactive c → inNo ≡ 0
-  in-zero e = in-is ∙ simp (eq-eqb (c .active) 0 e)
+  in-zero e = in-is r c ∙ simp (eq-eqb (c .active) 0 e)
 
   pub in-six : Active c → inNo ≡ 6
-  in-six a = in-is ∙ simp (ne-eqb (c .active) 0 a)
+  in-six a = in-is r c ∙ simp (ne-eqb (c .active) 0 a)
 
   module _ (z : Column) where
     abbrev pub far : ℕ
     far = natAbs (columnOf (c .needle) r .0 -ℤ z .0)
 
-    float-is : floatNo (lookOf r c) z ≡ cond (eqb (c .side) 0) 0 (cond (leb far 20) 0 9)
-    unfolding floatNo lookOf withinFloat
-    float-is = flip (eqb (c .side) 0) (cond (leb far 20) 0 9) 0
+    float-at : floatNo (lookOf r c) z ≡ cond (eqb (c .side) 0) 0 (cond (leb far 20) 0 9)
+    unfolding withinFloat
+    float-at = float-is r c z
 
     pub float-zero : (Attached c → far ≤ 20) → floatNo (lookOf r c) z ≡ 0
     float-zero h =
-        float-is ∙ cond-cases (λ (n : ℕ). n ≡ 0) (eqb (c .side) 0) (λ t. refl) (λ t. simp (le-leb far 20 (h (eqb-false (c .side) 0 t))))
+        float-at ∙ cond-cases (λ (n : ℕ). n ≡ 0) (eqb (c .side) 0) (λ t. refl) (λ t. simp (le-leb far 20 (h (eqb-false (c .side) 0 t))))
 
     pub float-over : Attached c → 20 < far → floatNo (lookOf r c) z ≡ 9
-    float-over a h = float-is ∙ simp (ne-eqb (c .side) 0 a, lt-leb far 20 h)
+    float-over a h = float-at ∙ simp (ne-eqb (c .side) 0 a, lt-leb far 20 h)
 
     pub float-cases : {G : Type 0} → (Attached c → 20 < far → G) → ((Attached c → far ≤ 20) → G) → G
     float-cases f g =
@@ -122,7 +111,7 @@ module _ (r : Racking) (c : Carrier) where
 
     pub float-le : floatNo (lookOf r c) z ≤ 9
     float-le =
-        rw float-is (cond-cases (λ (n : ℕ). n ≤ 9) (eqb (c .side) 0) (λ t. omega arith)
+        rw float-at (cond-cases (λ (n : ℕ). n ≤ 9) (eqb (c .side) 0) (λ t. omega arith)
         (λ t. cond-cases (λ (n : ℕ). n ≤ 9) (leb far 20) (λ u. omega arith) (λ u. omega arith)))
 
 -- 11 or 0, and 10 before it

@@ -3,36 +3,21 @@ use Prim.Native.Nat.{ℕ, zero, suc, _+_, _-_, _≤_, _<_}
 use mathlib.Core.Path.{_≡_, refl, sym, ap, subst, _∙_}
 use mathlib.Core.List.{List, [], _∷_, _++_}
 use native.Mathlib.Omega.{arith}
-use lib.Dec.{eqb}
 use lib.ListN.{length, take, drop, length-drop, length-set, length-map, take-append-drop}
 use lib.Seq.{drop-append-seam, drop-drop, take-add}
-use borrow.Author.Tests.{eqb-true, eqb-false}
 use Rattle.machine.specs.declared.State.{State}
 use Rattle.record.specs.declared.Record.{Record}
 use Rattle.record.specs.declared.Decoded.{Decoded}
 use Rattle.record.specs.Format.{Form, decodeOf}
-use Rattle.record.proofs.Forms.{cond-cases, form-decode, form-in, decode-size, decode-form, decode-in}
+use Rattle.record.proofs.Forms.{form-decode, form-in, decode-size, decode-form, decode-in}
 use Rattle.run.specs.declared.Reached.{Reached}
 use Rattle.run.specs.Relation.{Step, Steps}
 use Rattle.run.specs.Step.{numberAt, applyOf}
-use Rattle.run.specs.Run.{reached, turn, runFrom}
+use Rattle.run.specs.Run.{reached, runFrom}
+use Rattle.run.proofs.Turns.{run-end, run-refused, run-stopped, run-next}
+use Rattle.run.proofs.Premises.{is}
 use Rattle.run.proofs.Sound.{step-only, step-sound}
 use Rattle.run.proofs.Bytes.{Refusal, bytes-refusal, step-refusal}
-
--- ---- one turn of the run
-run-skip : (k : ℕ) (l : List ℕ) (at : ℕ) (s : State) → runFrom k l at s ≡ runFrom 0 (drop k l) at s
-unfolding runFrom
-run-skip zero l at s = refl
-run-skip (suc k) [] at s = refl
-run-skip (suc k) (b ∷ l) at s = run-skip k l at s
-
-skip-first : (n b : ℕ) (l : List ℕ) (at : ℕ) (s : State) → 0 < n → runFrom (n - 1) l at s ≡ runFrom 0 (drop n (b ∷ l)) at s
-skip-first zero b l at s h = absurd (omega arith)
-skip-first (suc n) b l at s h = let e : suc n - 1 ≡ n = omega arith in ap (λ (k : ℕ). runFrom k l at s) e ∙ run-skip n l at s
-
-run-end : (at : ℕ) (s : State) → runFrom 0 [] at s ≡ reached 0 0 s
-unfolding runFrom
-run-end at s = refl
 
 -- what becomes of a list with a byte: refused by its bytes, refused by its step, or gone on with
 data Turns (l : List ℕ) (at : ℕ) (s : State) : Reached → Type 0 where
@@ -42,34 +27,19 @@ data Turns (l : List ℕ) (at : ℕ) (s : State) : Reached → Type 0 where
       → Turns l at s (runFrom 0 (drop (decodeOf l .size) l) (at + decodeOf l .size) (applyOf s (decodeOf l .what)))
 
 turns : (b : ℕ) (l : List ℕ) (at : ℕ) (s : State) → Turns (b ∷ l) at s (runFrom 0 (b ∷ l) at s)
-unfolding runFrom turn
 turns b l at s =
-    cond-cases (Turns (b ∷ l) at s) (eqb (d .number) 0)
-    (λ t. let e = eqb-true (d .number) 0 t in
-    cond-cases (Turns (b ∷ l) at s) (eqb (numberAt s (d .what)) 0)
-    (λ u. rw (skip-first (d .size) b l (at + d .size) (applyOf s (d .what)) (decode-size (b ∷ l) e .0)) (Turns.passed e (eqb-true (numberAt s (d .what)) 0 u)))
-    (λ u. Turns.stopped e (eqb-false (numberAt s (d .what)) 0 u)))
-    (λ t. Turns.unread (eqb-false (d .number) 0 t))
-  where
-    d : Decoded
-    d = decodeOf (b ∷ l)
+    is (decodeOf (b ∷ l) .number) 0
+    (λ e. is (numberAt s (decodeOf (b ∷ l) .what)) 0 (λ z. rw (run-next (b ∷ l) at s (omega arith) e z) (Turns.passed e z))
+    (λ h. rw (run-stopped (b ∷ l) at s (omega arith) e h) (Turns.stopped e h)))
+    (λ h. rw (run-refused (b ∷ l) at s (omega arith) h) (Turns.unread h))
 
 -- ---- a list of records that have their steps is run to its end
-run-on : (l : List ℕ) (at : ℕ) (s : State) → decodeOf l .number ≡ 0 → numberAt s (decodeOf l .what) ≡ 0
-    → runFrom 0 l at s ≡ runFrom 0 (drop (decodeOf l .size) l) (at + decodeOf l .size) (applyOf s (decodeOf l .what))
-run-on [] at s e z = let (a, b) = decode-size [] e in absurd (omega arith)
-run-on (b ∷ l) at s e z = go (turns b l at s)
-  where
-    go : {r : Reached} → Turns (b ∷ l) at s r → r ≡ runFrom 0 (drop (decodeOf (b ∷ l) .size) (b ∷ l)) (at + decodeOf (b ∷ l) .size) (applyOf s (decodeOf (b ∷ l) .what))
-    go (Turns.unread h) = absurd (h e)
-    go (Turns.stopped e h) = absurd (h z)
-    go (Turns.passed e z) = refl
-
 on-form : {bytes : List ℕ} {x : Record} {s t : State} → Form bytes x → Step s x t → (rest : List ℕ) (at : ℕ) → runFrom 0 (bytes ++ rest) at s ≡ runFrom 0 rest (at + length bytes) t
 on-form {bytes} {x} {s} {t} form step rest at =
     let e = form-decode form rest in
     let (z, u) = step-only s x (form-in form) step in
-    run-on (bytes ++ rest) at s (ap (λ (d : Decoded). d .number) e) (ap (λ (d : Decoded). numberAt s (d .what)) e ∙ z)
+    let k : decodeOf (bytes ++ rest) .number ≡ 0 = ap (λ (d : Decoded). d .number) e in
+    run-next (bytes ++ rest) at s (omega (arith, decode-size (bytes ++ rest) k)) k (ap (λ (d : Decoded). numberAt s (d .what)) e ∙ z)
     ∙ ap (λ (d : Decoded). runFrom 0 (drop (d .size) (bytes ++ rest)) (at + d .size) (applyOf s (d .what))) e
     ∙ ap (λ (l : List ℕ). runFrom 0 l (at + length bytes) (applyOf s x)) (drop-append-seam bytes rest) ∙ ap (runFrom 0 rest (at + length bytes)) u
 

@@ -49,6 +49,10 @@ pub record FirstRefusal (p : List ℕ) (a : Answer) : Type 0 where
 abbrev pub RefusesFirst : Type 0
 RefusesFirst = (p : List ℕ) → length p ≤ 32768 → (runOf p .number ≡ 0 → ⊥) → FirstRefusal p (runOf p)
 
+-- a place lies within the longest program, so that number and place go into one word
+abbrev pub PlaceIsSmall : Type 0
+PlaceIsSmall = (p : List ℕ) → runOf p .place < 32768
+
 -- complete says whether the state is the empty one, whatever the number
 abbrev pub CompleteIsEmpty : Type 0
 CompleteIsEmpty = (p : List ℕ) → (runOf p .complete ≡ true) ↔ (runOf p .state ≡ emptyState)

@@ -6,10 +6,10 @@ ghost use lib.Dec.{eqb};
 ghost use lib.ListN.{getD, set};
 ghost use Rattle.machine.specs.Machine.{OnBed, hookOf};
 ghost use Rattle.machine.specs.Geometry.{columnOf, entryOf, exitOf};
-ghost use Rattle.run.specs.Relation.{attached};
+ghost use Rattle.run.specs.Relation.{unattached, parkedOn, attached};
 ghost use Rattle.run.specs.Step.{lookOf, parkedNo, floatNo, orNumber};
 ghost use Rattle.run.specs.Leaves.{tuckNo, tucked, transferNo, transferredLoops};
-ghost use Rattle.run.specs.Run.{runFrom, answerOf, runOf, stepOf};
+ghost use Rattle.run.specs.Run.{reached, runFrom, answerOf, runOf, stepOf};
 use machine::Carrier;
 use machine::Needle;
 use machine::Racking;
@@ -83,7 +83,32 @@ fn ready(c: Carrier, n: Needle, r: Racking, right: bool) -> u8
     }
 }
 
-// The carrier after it formed a loop at the needle.
+// The carrier after in, after a miss, and after it formed a loop at the needle.
+fn enter(n: Needle, r: Racking, right: bool) -> Carrier
+    ensures { λ c. ⌜ c ≡ unattached (entryOf (columnOf n r) right) ⌝ }
+{
+    let slot = n.entry(r, right);
+    Carrier {
+        active: 1,
+        side: 0,
+        slot,
+        needle: Needle(0, 0),
+    }
+}
+
+fn pass(c: Carrier, n: Needle, r: Racking, right: bool) -> Carrier
+    ensures { λ d. ⌜ d ≡ parkedOn c (exitOf (columnOf n r) right) ⌝ }
+{
+    let slot = n.exit(r, right);
+    let needle = c.needle;
+    Carrier {
+        active: 1,
+        side: c.side,
+        slot,
+        needle,
+    }
+}
+
 fn attach(n: Needle, r: Racking, right: bool) -> Carrier
     ensures { λ c. ⌜ c ≡ attached (exitOf (columnOf n r) right) n right ⌝ }
 {
@@ -148,6 +173,17 @@ fn wide(n: u8) -> u16
     n as u16
 }
 
+// A run that stops with a number at a place.
+fn stop(number: u8, place: usize, state: State) -> Reached
+    ensures { λ a. ⌜ a ≡ reached number place state ⌝ }
+{
+    Reached {
+        number,
+        place,
+        state,
+    }
+}
+
 // The run from a state over bytes of any length. Stores are made in its own state, one arm for each kind.
 pub fn run_from(state: State, program: &[u8]) -> Reached
     ensures { λ a. ⌜ a ≡ runFrom 0 (now (program .entry)) 0 state ⌝ }
@@ -157,11 +193,7 @@ pub fn run_from(state: State, program: &[u8]) -> Reached
     while at < program.len() {
         let d = record::decode(&program[at..]);
         if d.number != 0 {
-            return Reached {
-                number: d.number,
-                place: at,
-                state: st,
-            };
+            return stop(d.number, at, st);
         }
         let next = at + d.size;
         let x = d.what;
@@ -178,11 +210,7 @@ pub fn run_from(state: State, program: &[u8]) -> Reached
                 let m = x.to;
                 let number = transfer(&mut st.loops, n, m, r, 0);
                 if number != 0 {
-                    return Reached {
-                        number,
-                        place: at,
-                        state: st,
-                    };
+                    return stop(number, at, st);
                 }
                 let cs = st.carriers;
                 if machine::any_attached(cs, n) {
@@ -194,30 +222,17 @@ pub fn run_from(state: State, program: &[u8]) -> Reached
                 let k = (x.carrier as usize) - 1;
                 let c = st.carriers[k];
                 if c.active != 0 {
-                    return Reached {
-                        number: ALREADY_IN,
-                        place: at,
-                        state: st,
-                    };
+                    return stop(ALREADY_IN, at, st);
                 }
-                let slot = n.entry(r, x.right);
-                st.carriers[k] = Carrier {
-                    active: 1,
-                    side: 0,
-                    slot,
-                    needle: Needle(0, 0),
-                };
+                let then = enter(n, r, x.right);
+                st.carriers[k] = then;
             }
             5 => {
                 let k = (x.carrier as usize) - 1;
                 let c = st.carriers[k];
                 let number = parked(c, n.exit(r, x.right), r);
                 if number != 0 {
-                    return Reached {
-                        number,
-                        place: at,
-                        state: st,
-                    };
+                    return stop(number, at, st);
                 }
                 let then = Carrier::inactive();
                 st.carriers[k] = then;
@@ -227,39 +242,21 @@ pub fn run_from(state: State, program: &[u8]) -> Reached
                 let c = st.carriers[k];
                 let number = parked(c, n.entry(r, x.right), r);
                 if number != 0 {
-                    return Reached {
-                        number,
-                        place: at,
-                        state: st,
-                    };
+                    return stop(number, at, st);
                 }
-                let slot = n.exit(r, x.right);
-                let last = c.needle;
-                st.carriers[k] = Carrier {
-                    active: 1,
-                    side: c.side,
-                    slot,
-                    needle: last,
-                };
+                let then = pass(c, n, r, x.right);
+                st.carriers[k] = then;
             }
             7 => {
                 let k = (x.carrier as usize) - 1;
                 let c = st.carriers[k];
                 let number = ready(c, n, r, x.right);
                 if number != 0 {
-                    return Reached {
-                        number,
-                        place: at,
-                        state: st,
-                    };
+                    return stop(number, at, st);
                 }
                 let number = tuck(&mut st.loops, n);
                 if number != 0 {
-                    return Reached {
-                        number,
-                        place: at,
-                        state: st,
-                    };
+                    return stop(number, at, st);
                 }
                 let then = attach(n, r, x.right);
                 st.carriers[k] = then;
@@ -269,11 +266,7 @@ pub fn run_from(state: State, program: &[u8]) -> Reached
                 let c = st.carriers[k];
                 let number = ready(c, n, r, x.right);
                 if number != 0 {
-                    return Reached {
-                        number,
-                        place: at,
-                        state: st,
-                    };
+                    return stop(number, at, st);
                 }
                 put(&mut st.loops, n, 1);
                 let then = attach(n, r, x.right);
@@ -285,19 +278,11 @@ pub fn run_from(state: State, program: &[u8]) -> Reached
                 let c = st.carriers[k];
                 let number = ready(c, n, r, x.right);
                 if number != 0 {
-                    return Reached {
-                        number,
-                        place: at,
-                        state: st,
-                    };
+                    return stop(number, at, st);
                 }
                 let number = transfer(&mut st.loops, n, m, r, 1);
                 if number != 0 {
-                    return Reached {
-                        number,
-                        place: at,
-                        state: st,
-                    };
+                    return stop(number, at, st);
                 }
                 let then = attach(n, r, x.right);
                 let cs = st.carriers;
@@ -312,11 +297,7 @@ pub fn run_from(state: State, program: &[u8]) -> Reached
         }
         at = next;
     }
-    Reached {
-        number: 0,
-        place: 0,
-        state: st,
-    }
+    stop(0, 0, st)
 }
 
 // An answer: whether the state is the empty one is looked at last.
@@ -339,11 +320,7 @@ pub fn run(program: &[u8]) -> Answer
 {
     let state = State::empty();
     if State::PROGRAM_MOST < program.len() {
-        return answered(Reached {
-            number: TOO_LONG,
-            place: 0,
-            state,
-        });
+        return answered(stop(TOO_LONG, 0, state));
     }
     answered(run_from(state, program))
 }

@@ -15,14 +15,14 @@ use Rattle.run.proofs.parked.Tie as tie
 
 module _ (d : Carrier) (z : Slot) (r : Racking) where
   off : d .active ≡ 0 → 7 ≡ parkedNo (lookOf r d) z
-  off e = sym (parked-is d r z ∙ simp (eq-eqb _ _ e))
+  off e = sym (parked-is r d z ∙ simp (eq-eqb _ _ e))
 
   module _ (a : d .active ≡ 0 → ⊥) where
     here : eqZ (d .slot .0) (z .0) ≡ true → 0 ≡ parkedNo (lookOf r d) z
-    here e = sym (parked-is d r z ∙ simp (ne-eqb _ _ a, e))
+    here e = sym (parked-is r d z ∙ simp (ne-eqb _ _ a, e))
 
     elsewhere : eqZ (d .slot .0) (z .0) ≡ false → 8 ≡ parkedNo (lookOf r d) z
-    elsewhere e = sym (parked-is d r z ∙ simp (ne-eqb _ _ a, e))
+    elsewhere e = sym (parked-is r d z ∙ simp (ne-eqb _ _ a, e))
 
 returns : tie.Need-returns
 returns c = let a = c .before .before .args in off (a .c) (a .z) (a .r) (c .if1 .taken)

@@ -23,14 +23,14 @@ module _ (d : Carrier) (s : Slot) (r : Racking) (z : Column) (k : ℕ) (is : k �
     past n e = sym (simp (← is, eq-eqb k 0 h) e)
 
     free : d .side ≡ 0 → 0 ≡ orNumber (parkedNo (lookOf r d) s) (floatNo (lookOf r d) z)
-    free e = past 0 (float-is d r z ∙ simp (eq-eqb _ _ e))
+    free e = past 0 (float-is r d z ∙ simp (eq-eqb _ _ e))
 
     module _ (e : d .side ≡ 0 → ⊥) where
       near : withinFloat (columnOf (d .needle) r) z ≡ true → 0 ≡ orNumber (parkedNo (lookOf r d) s) (floatNo (lookOf r d) z)
-      near f = past 0 (float-is d r z ∙ simp (ne-eqb _ _ e, f))
+      near f = past 0 (float-is r d z ∙ simp (ne-eqb _ _ e, f))
 
       far : withinFloat (columnOf (d .needle) r) z ≡ false → 9 ≡ orNumber (parkedNo (lookOf r d) s) (floatNo (lookOf r d) z)
-      far f = past 9 (float-is d r z ∙ simp (ne-eqb _ _ e, f))
+      far f = past 9 (float-is r d z ∙ simp (ne-eqb _ _ e, f))
 
 entry-requires : tie.Need-entry-requires
 entry-requires c κs = search needs

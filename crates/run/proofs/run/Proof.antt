@@ -10,12 +10,15 @@ use Rattle.run.proofs.run.Tie as tie
 empty-requires : tie.Need-empty-requires
 empty-requires c κs = search needs
 
+stop-requires : tie.Need-stop-requires
+stop-requires c κs = search needs
+
 answered-requires : tie.Need-answered-requires
 answered-requires c κs = search needs
 
 returns : tie.Need-returns
 unfolding runOf
-returns c = c .answered .ensures ∙ simp (lt-leb _ _ (c .before .if1 .taken), c .before .before .empty .ensures)
+returns c = c .answered .ensures ∙ simp (lt-leb _ _ (c .before .before .if1 .taken), c .before .stop .ensures, c .before .before .before .empty .ensures)
 
 run-from-requires : tie.Need-run-from-requires
 run-from-requires c κs = search needs
@@ -32,6 +35,7 @@ run-spec =
     tie.close
     (tie.spec
     empty-requires
+    stop-requires
     answered-requires
     returns
     run-from-requires

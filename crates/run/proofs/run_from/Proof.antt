@@ -31,8 +31,11 @@ part-decode-end c = search needs
 decode-requires : tie.Need-decode-requires Inv-loop μ-loop
 decode-requires c κs = search needs
 
+stop-requires : tie.Need-stop-requires Inv-loop μ-loop
+stop-requires c κs = search needs
+
 returns : tie.Need-returns Inv-loop μ-loop
-returns c = refused (turned (c .before .before .before .before .loop-test .taken) (c .before .before .before .before .before .loop .inv .1) (c .before .before .decode .ensures)) (c .if1 .taken)
+returns c = c .stop .ensures ∙ refused (turned (c .before .before .before .before .before .loop-test .taken) (c .before .before .before .before .before .before .loop .inv .1) (c .before .before .before .decode .ensures)) (c .before .if1 .taken)
 
 add-next : tie.Need-add-next Inv-loop μ-loop
 add-next c = let t = turned (c .before .before .before .before .before .loop-test .taken) (c .before .before .before .before .before .before .loop .inv .1) (c .before .before .before .decode .ensures) in let k = c .before .if1 .left in let s = c .before .before .before .before .before .before .loop .st in let x = c .before .before .before .decode .result .what in
@@ -46,9 +49,12 @@ transfer-requires : tie.Need-transfer-requires Inv-loop μ-loop
 transfer-requires c κs = let t = turned (c .before .before .before .before .before .before .before .before .before .before .before .loop-test .taken) (c .before .before .before .before .before .before .before .before .before .before .before .before .loop .inv .1) (c .before .before .before .before .before .before .before .before .before .decode .ensures) in let k = c .before .before .before .before .before .before .before .if1 .left in let s = c .before .before .before .before .before .before .before .before .before .before .before .before .loop .st in let x = c .before .before .before .before .before .before .before .before .before .decode .result .what in
     let i = in-range t k in (i .at-bed, i .to-bed)
 
+stop-requires-2 : tie.Need-stop-requires-2 Inv-loop μ-loop
+stop-requires-2 c κs = search needs
+
 returns-2 : tie.Need-returns-2 Inv-loop μ-loop
-returns-2 c = let t = turned (c .before .before .before .before .before .before .before .before .before .before .before .before .before .loop-test .taken) (c .before .before .before .before .before .before .before .before .before .before .before .before .before .before .loop .inv .1) (c .before .before .before .before .before .before .before .before .before .before .before .decode .ensures) in let k = c .before .before .before .before .before .before .before .before .before .if1 .left in let s = c .before .before .before .before .before .before .before .before .before .before .before .before .before .before .loop .st in let x = c .before .before .before .before .before .before .before .before .before .before .before .decode .result .what in
-    simp (c .before .transfer .ensures .1, transfer-kept (s .loops) (x .at) (x .to) (s .racking) 0 _ (c .before .transfer .ensures .0) (c .if2 .taken)) (stopped t k _ (xfer-stopped s x (c .before .before .before .before .match .keys3) _ (c .before .transfer .ensures .0)) (c .if2 .taken))
+returns-2 c = let t = turned (c .before .before .before .before .before .before .before .before .before .before .before .before .before .before .loop-test .taken) (c .before .before .before .before .before .before .before .before .before .before .before .before .before .before .before .loop .inv .1) (c .before .before .before .before .before .before .before .before .before .before .before .before .decode .ensures) in let k = c .before .before .before .before .before .before .before .before .before .before .if1 .left in let s = c .before .before .before .before .before .before .before .before .before .before .before .before .before .before .before .loop .st in let x = c .before .before .before .before .before .before .before .before .before .before .before .before .decode .result .what in
+    c .stop2 .ensures ∙ simp (c .before .before .transfer .ensures .1, transfer-kept (s .loops) (x .at) (x .to) (s .racking) 0 _ (c .before .before .transfer .ensures .0) (c .before .if2 .taken)) (stopped t k _ (xfer-stopped s x (c .before .before .before .before .before .match .keys3) _ (c .before .before .transfer .ensures .0)) (c .before .if2 .taken))
 
 any-attached-requires : tie.Need-any-attached-requires Inv-loop μ-loop
 any-attached-requires c κs = search needs
@@ -71,19 +77,22 @@ element-copy-out-c : tie.Need-element-copy-out-c Inv-loop μ-loop
 element-copy-out-c c = let t = turned (c .before .before .before .before .before .before .before .before .before .before .loop-test .taken) (c .before .before .before .before .before .before .before .before .before .before .before .loop .inv .1) (c .before .before .before .before .before .before .before .before .decode .ensures) in let k = c .before .before .before .before .before .before .if1 .left in let s = c .before .before .before .before .before .before .before .before .before .before .before .loop .st in let x = c .before .before .before .before .before .before .before .before .decode .result .what in
     let i = in-range t k in let w = carrier-at i (c .before .match .keys4) (omega arith) in omega (arith, w .0, w .1)
 
+stop-requires-3 : tie.Need-stop-requires-3 Inv-loop μ-loop
+stop-requires-3 c κs = search needs
+
 returns-3 : tie.Need-returns-3 Inv-loop μ-loop
-returns-3 c = let t = turned (c .before .before .before .before .before .before .before .before .before .before .before .before .before .loop-test .taken) (c .before .before .before .before .before .before .before .before .before .before .before .before .before .before .loop .inv .1) (c .before .before .before .before .before .before .before .before .before .before .before .decode .ensures) in let k = c .before .before .before .before .before .before .before .before .before .if1 .left in let s = c .before .before .before .before .before .before .before .before .before .before .before .before .before .before .loop .st in let x = c .before .before .before .before .before .before .before .before .before .before .before .decode .result .what in
-    stopped t k _ (in-stopped s x (c .before .before .before .before .match .keys4) (c .if4 .taken)) (λ e. omega arith)
+returns-3 c = let t = turned (c .before .before .before .before .before .before .before .before .before .before .before .before .before .before .loop-test .taken) (c .before .before .before .before .before .before .before .before .before .before .before .before .before .before .before .loop .inv .1) (c .before .before .before .before .before .before .before .before .before .before .before .before .decode .ensures) in let k = c .before .before .before .before .before .before .before .before .before .before .if1 .left in let s = c .before .before .before .before .before .before .before .before .before .before .before .before .before .before .before .loop .st in let x = c .before .before .before .before .before .before .before .before .before .before .before .before .decode .result .what in
+    c .stop3 .ensures ∙ stopped t k _ (in-stopped s x (c .before .before .before .before .before .match .keys4) (c .before .if4 .taken)) (λ e. omega arith)
 
-entry-requires : tie.Need-entry-requires Inv-loop μ-loop
-entry-requires c κs = search needs
+enter-requires : tie.Need-enter-requires Inv-loop μ-loop
+enter-requires c κs = search needs
 
-mul-t57 : tie.Need-mul-t57 Inv-loop μ-loop
-mul-t57 c = let t = turned (c .before .before .before .before .before .before .before .before .before .before .before .before .before .before .loop-test .taken) (c .before .before .before .before .before .before .before .before .before .before .before .before .before .before .before .loop .inv .1) (c .before .before .before .before .before .before .before .before .before .before .before .before .decode .ensures) in let k = c .before .before .before .before .before .before .before .before .before .before .if1 .left in let s = c .before .before .before .before .before .before .before .before .before .before .before .before .before .before .before .loop .st in let x = c .before .before .before .before .before .before .before .before .before .before .before .before .decode .result .what in
+mul-then : tie.Need-mul-then Inv-loop μ-loop
+mul-then c = let t = turned (c .before .before .before .before .before .before .before .before .before .before .before .before .before .before .loop-test .taken) (c .before .before .before .before .before .before .before .before .before .before .before .before .before .before .before .loop .inv .1) (c .before .before .before .before .before .before .before .before .before .before .before .before .decode .ensures) in let k = c .before .before .before .before .before .before .before .before .before .before .if1 .left in let s = c .before .before .before .before .before .before .before .before .before .before .before .before .before .before .before .loop .st in let x = c .before .before .before .before .before .before .before .before .before .before .before .before .decode .result .what in
     let i = in-range t k in let w = carrier-at i (c .before .before .before .before .before .match .keys4) (omega arith) in omega (arith, w .0, w .1)
 
-element-set-from-st : tie.Need-element-set-from-st Inv-loop μ-loop
-element-set-from-st c = let t = turned (c .before .before .before .before .before .before .before .before .before .before .before .before .before .before .loop-test .taken) (c .before .before .before .before .before .before .before .before .before .before .before .before .before .before .before .loop .inv .1) (c .before .before .before .before .before .before .before .before .before .before .before .before .decode .ensures) in let k = c .before .before .before .before .before .before .before .before .before .before .if1 .left in let s = c .before .before .before .before .before .before .before .before .before .before .before .before .before .before .before .loop .st in let x = c .before .before .before .before .before .before .before .before .before .before .before .before .decode .result .what in
+element-set-from-then : tie.Need-element-set-from-then Inv-loop μ-loop
+element-set-from-then c = let t = turned (c .before .before .before .before .before .before .before .before .before .before .before .before .before .before .loop-test .taken) (c .before .before .before .before .before .before .before .before .before .before .before .before .before .before .before .loop .inv .1) (c .before .before .before .before .before .before .before .before .before .before .before .before .decode .ensures) in let k = c .before .before .before .before .before .before .before .before .before .before .if1 .left in let s = c .before .before .before .before .before .before .before .before .before .before .before .before .before .before .before .loop .st in let x = c .before .before .before .before .before .before .before .before .before .before .before .before .decode .result .what in
     let i = in-range t k in let w = carrier-at i (c .before .before .before .before .before .match .keys4) (omega arith) in omega (arith, w .0, w .1)
 
 cast-k-2 : tie.Need-cast-k-2 Inv-loop μ-loop
@@ -107,19 +116,22 @@ exit-requires c κs = search needs
 parked-requires : tie.Need-parked-requires Inv-loop μ-loop
 parked-requires c κs = search needs
 
+stop-requires-4 : tie.Need-stop-requires-4 Inv-loop μ-loop
+stop-requires-4 c κs = search needs
+
 returns-4 : tie.Need-returns-4 Inv-loop μ-loop
-returns-4 c = let t = turned (c .before .before .before .before .before .before .before .before .before .before .before .before .before .before .loop-test .taken) (c .before .before .before .before .before .before .before .before .before .before .before .before .before .before .before .loop .inv .1) (c .before .before .before .before .before .before .before .before .before .before .before .before .decode .ensures) in let k = c .before .before .before .before .before .before .before .before .before .before .if1 .left in let s = c .before .before .before .before .before .before .before .before .before .before .before .before .before .before .before .loop .st in let x = c .before .before .before .before .before .before .before .before .before .before .before .before .decode .result .what in
-    stopped t k _ (out-stopped s x _ _ (c .before .parked .ensures) (c .before .before .before .before .before .match .keys5) (c .before .before .exit .ensures)) (c .if5 .taken)
+returns-4 c = let t = turned (c .before .before .before .before .before .before .before .before .before .before .before .before .before .before .before .loop-test .taken) (c .before .before .before .before .before .before .before .before .before .before .before .before .before .before .before .before .loop .inv .1) (c .before .before .before .before .before .before .before .before .before .before .before .before .before .decode .ensures) in let k = c .before .before .before .before .before .before .before .before .before .before .before .if1 .left in let s = c .before .before .before .before .before .before .before .before .before .before .before .before .before .before .before .before .loop .st in let x = c .before .before .before .before .before .before .before .before .before .before .before .before .before .decode .result .what in
+    c .stop4 .ensures ∙ stopped t k _ (out-stopped s x _ _ (c .before .before .parked .ensures) (c .before .before .before .before .before .before .match .keys5) (c .before .before .before .exit .ensures)) (c .before .if5 .taken)
 
 inactive-requires : tie.Need-inactive-requires Inv-loop μ-loop
 inactive-requires c κs = search needs
 
-mul-then : tie.Need-mul-then Inv-loop μ-loop
-mul-then c = let t = turned (c .before .before .before .before .before .before .before .before .before .before .before .before .before .before .before .loop-test .taken) (c .before .before .before .before .before .before .before .before .before .before .before .before .before .before .before .before .loop .inv .1) (c .before .before .before .before .before .before .before .before .before .before .before .before .before .decode .ensures) in let k = c .before .before .before .before .before .before .before .before .before .before .before .if1 .left in let s = c .before .before .before .before .before .before .before .before .before .before .before .before .before .before .before .before .loop .st in let x = c .before .before .before .before .before .before .before .before .before .before .before .before .before .decode .result .what in
+mul-then-2 : tie.Need-mul-then-2 Inv-loop μ-loop
+mul-then-2 c = let t = turned (c .before .before .before .before .before .before .before .before .before .before .before .before .before .before .before .loop-test .taken) (c .before .before .before .before .before .before .before .before .before .before .before .before .before .before .before .before .loop .inv .1) (c .before .before .before .before .before .before .before .before .before .before .before .before .before .decode .ensures) in let k = c .before .before .before .before .before .before .before .before .before .before .before .if1 .left in let s = c .before .before .before .before .before .before .before .before .before .before .before .before .before .before .before .before .loop .st in let x = c .before .before .before .before .before .before .before .before .before .before .before .before .before .decode .result .what in
     let i = in-range t k in let w = carrier-at i (c .before .before .before .before .before .before .match .keys5) (omega arith) in omega (arith, w .0, w .1)
 
-element-set-from-then : tie.Need-element-set-from-then Inv-loop μ-loop
-element-set-from-then c = let t = turned (c .before .before .before .before .before .before .before .before .before .before .before .before .before .before .before .loop-test .taken) (c .before .before .before .before .before .before .before .before .before .before .before .before .before .before .before .before .loop .inv .1) (c .before .before .before .before .before .before .before .before .before .before .before .before .before .decode .ensures) in let k = c .before .before .before .before .before .before .before .before .before .before .before .if1 .left in let s = c .before .before .before .before .before .before .before .before .before .before .before .before .before .before .before .before .loop .st in let x = c .before .before .before .before .before .before .before .before .before .before .before .before .before .decode .result .what in
+element-set-from-then-2 : tie.Need-element-set-from-then-2 Inv-loop μ-loop
+element-set-from-then-2 c = let t = turned (c .before .before .before .before .before .before .before .before .before .before .before .before .before .before .before .loop-test .taken) (c .before .before .before .before .before .before .before .before .before .before .before .before .before .before .before .before .loop .inv .1) (c .before .before .before .before .before .before .before .before .before .before .before .before .before .decode .ensures) in let k = c .before .before .before .before .before .before .before .before .before .before .before .if1 .left in let s = c .before .before .before .before .before .before .before .before .before .before .before .before .before .before .before .before .loop .st in let x = c .before .before .before .before .before .before .before .before .before .before .before .before .before .decode .result .what in
     let i = in-range t k in let w = carrier-at i (c .before .before .before .before .before .before .match .keys5) (omega arith) in omega (arith, w .0, w .1)
 
 cast-k-3 : tie.Need-cast-k-3 Inv-loop μ-loop
@@ -137,26 +149,29 @@ element-copy-out-c-3 : tie.Need-element-copy-out-c-3 Inv-loop μ-loop
 element-copy-out-c-3 c = let t = turned (c .before .before .before .before .before .before .before .before .before .before .loop-test .taken) (c .before .before .before .before .before .before .before .before .before .before .before .loop .inv .1) (c .before .before .before .before .before .before .before .before .decode .ensures) in let k = c .before .before .before .before .before .before .if1 .left in let s = c .before .before .before .before .before .before .before .before .before .before .before .loop .st in let x = c .before .before .before .before .before .before .before .before .decode .result .what in
     let i = in-range t k in let w = carrier-at i (c .before .match .keys6) (omega arith) in omega (arith, w .0, w .1)
 
-entry-requires-2 : tie.Need-entry-requires-2 Inv-loop μ-loop
-entry-requires-2 c κs = search needs
+entry-requires : tie.Need-entry-requires Inv-loop μ-loop
+entry-requires c κs = search needs
 
 parked-requires-2 : tie.Need-parked-requires-2 Inv-loop μ-loop
 parked-requires-2 c κs = search needs
 
+stop-requires-5 : tie.Need-stop-requires-5 Inv-loop μ-loop
+stop-requires-5 c κs = search needs
+
 returns-5 : tie.Need-returns-5 Inv-loop μ-loop
-returns-5 c = let t = turned (c .before .before .before .before .before .before .before .before .before .before .before .before .before .before .loop-test .taken) (c .before .before .before .before .before .before .before .before .before .before .before .before .before .before .before .loop .inv .1) (c .before .before .before .before .before .before .before .before .before .before .before .before .decode .ensures) in let k = c .before .before .before .before .before .before .before .before .before .before .if1 .left in let s = c .before .before .before .before .before .before .before .before .before .before .before .before .before .before .before .loop .st in let x = c .before .before .before .before .before .before .before .before .before .before .before .before .decode .result .what in
-    stopped t k _ (miss-stopped s x _ _ (c .before .parked2 .ensures) (c .before .before .before .before .before .match .keys6) (c .before .before .entry2 .ensures)) (c .if6 .taken)
+returns-5 c = let t = turned (c .before .before .before .before .before .before .before .before .before .before .before .before .before .before .before .loop-test .taken) (c .before .before .before .before .before .before .before .before .before .before .before .before .before .before .before .before .loop .inv .1) (c .before .before .before .before .before .before .before .before .before .before .before .before .before .decode .ensures) in let k = c .before .before .before .before .before .before .before .before .before .before .before .if1 .left in let s = c .before .before .before .before .before .before .before .before .before .before .before .before .before .before .before .before .loop .st in let x = c .before .before .before .before .before .before .before .before .before .before .before .before .before .decode .result .what in
+    c .stop5 .ensures ∙ stopped t k _ (miss-stopped s x _ _ (c .before .before .parked2 .ensures) (c .before .before .before .before .before .before .match .keys6) (c .before .before .before .entry .ensures)) (c .before .if6 .taken)
 
-exit-requires-2 : tie.Need-exit-requires-2 Inv-loop μ-loop
-exit-requires-2 c κs = search needs
+pass-requires : tie.Need-pass-requires Inv-loop μ-loop
+pass-requires c κs = search needs
 
-mul-t75 : tie.Need-mul-t75 Inv-loop μ-loop
-mul-t75 c = let t = turned (c .before .before .before .before .before .before .before .before .before .before .before .before .before .before .before .before .loop-test .taken) (c .before .before .before .before .before .before .before .before .before .before .before .before .before .before .before .before .before .loop .inv .1) (c .before .before .before .before .before .before .before .before .before .before .before .before .before .before .decode .ensures) in let k = c .before .before .before .before .before .before .before .before .before .before .before .before .if1 .left in let s = c .before .before .before .before .before .before .before .before .before .before .before .before .before .before .before .before .before .loop .st in let x = c .before .before .before .before .before .before .before .before .before .before .before .before .before .before .decode .result .what in
-    let i = in-range t k in let w = carrier-at i (c .before .before .before .before .before .before .before .match .keys6) (omega arith) in omega (arith, w .0, w .1)
+mul-then-3 : tie.Need-mul-then-3 Inv-loop μ-loop
+mul-then-3 c = let t = turned (c .before .before .before .before .before .before .before .before .before .before .before .before .before .before .before .loop-test .taken) (c .before .before .before .before .before .before .before .before .before .before .before .before .before .before .before .before .loop .inv .1) (c .before .before .before .before .before .before .before .before .before .before .before .before .before .decode .ensures) in let k = c .before .before .before .before .before .before .before .before .before .before .before .if1 .left in let s = c .before .before .before .before .before .before .before .before .before .before .before .before .before .before .before .before .loop .st in let x = c .before .before .before .before .before .before .before .before .before .before .before .before .before .decode .result .what in
+    let i = in-range t k in let w = carrier-at i (c .before .before .before .before .before .before .match .keys6) (omega arith) in omega (arith, w .0, w .1)
 
-element-set-from-st-2 : tie.Need-element-set-from-st-2 Inv-loop μ-loop
-element-set-from-st-2 c = let t = turned (c .before .before .before .before .before .before .before .before .before .before .before .before .before .before .before .before .loop-test .taken) (c .before .before .before .before .before .before .before .before .before .before .before .before .before .before .before .before .before .loop .inv .1) (c .before .before .before .before .before .before .before .before .before .before .before .before .before .before .decode .ensures) in let k = c .before .before .before .before .before .before .before .before .before .before .before .before .if1 .left in let s = c .before .before .before .before .before .before .before .before .before .before .before .before .before .before .before .before .before .loop .st in let x = c .before .before .before .before .before .before .before .before .before .before .before .before .before .before .decode .result .what in
-    let i = in-range t k in let w = carrier-at i (c .before .before .before .before .before .before .before .match .keys6) (omega arith) in omega (arith, w .0, w .1)
+element-set-from-then-3 : tie.Need-element-set-from-then-3 Inv-loop μ-loop
+element-set-from-then-3 c = let t = turned (c .before .before .before .before .before .before .before .before .before .before .before .before .before .before .before .loop-test .taken) (c .before .before .before .before .before .before .before .before .before .before .before .before .before .before .before .before .loop .inv .1) (c .before .before .before .before .before .before .before .before .before .before .before .before .before .decode .ensures) in let k = c .before .before .before .before .before .before .before .before .before .before .before .if1 .left in let s = c .before .before .before .before .before .before .before .before .before .before .before .before .before .before .before .before .loop .st in let x = c .before .before .before .before .before .before .before .before .before .before .before .before .before .decode .result .what in
+    let i = in-range t k in let w = carrier-at i (c .before .before .before .before .before .before .match .keys6) (omega arith) in omega (arith, w .0, w .1)
 
 cast-k-4 : tie.Need-cast-k-4 Inv-loop μ-loop
 cast-k-4 c = search needs
@@ -176,27 +191,33 @@ element-copy-out-c-4 c = let t = turned (c .before .before .before .before .befo
 ready-requires : tie.Need-ready-requires Inv-loop μ-loop
 ready-requires c κs = search needs
 
+stop-requires-6 : tie.Need-stop-requires-6 Inv-loop μ-loop
+stop-requires-6 c κs = search needs
+
 returns-6 : tie.Need-returns-6 Inv-loop μ-loop
-returns-6 c = let t = turned (c .before .before .before .before .before .before .before .before .before .before .before .before .before .loop-test .taken) (c .before .before .before .before .before .before .before .before .before .before .before .before .before .before .loop .inv .1) (c .before .before .before .before .before .before .before .before .before .before .before .decode .ensures) in let k = c .before .before .before .before .before .before .before .before .before .if1 .left in let s = c .before .before .before .before .before .before .before .before .before .before .before .before .before .before .loop .st in let x = c .before .before .before .before .before .before .before .before .before .before .before .decode .result .what in
-    stopped t k _ (tuck-unready s x _ (c .before .ready .ensures) (c .before .before .before .before .match .keys7) (c .if7 .taken)) (c .if7 .taken)
+returns-6 c = let t = turned (c .before .before .before .before .before .before .before .before .before .before .before .before .before .before .loop-test .taken) (c .before .before .before .before .before .before .before .before .before .before .before .before .before .before .before .loop .inv .1) (c .before .before .before .before .before .before .before .before .before .before .before .before .decode .ensures) in let k = c .before .before .before .before .before .before .before .before .before .before .if1 .left in let s = c .before .before .before .before .before .before .before .before .before .before .before .before .before .before .before .loop .st in let x = c .before .before .before .before .before .before .before .before .before .before .before .before .decode .result .what in
+    c .stop6 .ensures ∙ stopped t k _ (tuck-unready s x _ (c .before .before .ready .ensures) (c .before .before .before .before .before .match .keys7) (c .before .if7 .taken)) (c .before .if7 .taken)
 
 tuck-requires : tie.Need-tuck-requires Inv-loop μ-loop
 tuck-requires c κs = let t = turned (c .before .before .before .before .before .before .before .before .before .before .before .before .before .before .loop-test .taken) (c .before .before .before .before .before .before .before .before .before .before .before .before .before .before .before .loop .inv .1) (c .before .before .before .before .before .before .before .before .before .before .before .before .decode .ensures) in let k = c .before .before .before .before .before .before .before .before .before .before .if1 .left in let s = c .before .before .before .before .before .before .before .before .before .before .before .before .before .before .before .loop .st in let x = c .before .before .before .before .before .before .before .before .before .before .before .before .decode .result .what in
     let i = in-range t k in i .at-bed
 
+stop-requires-7 : tie.Need-stop-requires-7 Inv-loop μ-loop
+stop-requires-7 c κs = search needs
+
 returns-7 : tie.Need-returns-7 Inv-loop μ-loop
-returns-7 c = let t = turned (c .before .before .before .before .before .before .before .before .before .before .before .before .before .before .before .before .loop-test .taken) (c .before .before .before .before .before .before .before .before .before .before .before .before .before .before .before .before .before .loop .inv .1) (c .before .before .before .before .before .before .before .before .before .before .before .before .before .before .decode .ensures) in let k = c .before .before .before .before .before .before .before .before .before .before .before .before .if1 .left in let s = c .before .before .before .before .before .before .before .before .before .before .before .before .before .before .before .before .before .loop .st in let x = c .before .before .before .before .before .before .before .before .before .before .before .before .before .before .decode .result .what in
-    simp (c .before .tuck .ensures .1, tuck-kept (s .loops) (x .at) _ (c .before .tuck .ensures .0) (c .if8 .taken)) (stopped t k _ (tuck-stopped s x _ (c .before .before .before .before .ready .ensures) (c .before .before .before .if7 .left) _ (c .before .before .before .before .before .before .before .match .keys7) (c .before .tuck .ensures .0)) (c .if8 .taken))
+returns-7 c = let t = turned (c .before .before .before .before .before .before .before .before .before .before .before .before .before .before .before .before .before .loop-test .taken) (c .before .before .before .before .before .before .before .before .before .before .before .before .before .before .before .before .before .before .loop .inv .1) (c .before .before .before .before .before .before .before .before .before .before .before .before .before .before .before .decode .ensures) in let k = c .before .before .before .before .before .before .before .before .before .before .before .before .before .if1 .left in let s = c .before .before .before .before .before .before .before .before .before .before .before .before .before .before .before .before .before .before .loop .st in let x = c .before .before .before .before .before .before .before .before .before .before .before .before .before .before .before .decode .result .what in
+    c .stop7 .ensures ∙ simp (c .before .before .tuck .ensures .1, tuck-kept (s .loops) (x .at) _ (c .before .before .tuck .ensures .0) (c .before .if8 .taken)) (stopped t k _ (tuck-stopped s x _ (c .before .before .before .before .before .ready .ensures) (c .before .before .before .before .if7 .left) _ (c .before .before .before .before .before .before .before .before .match .keys7) (c .before .before .tuck .ensures .0)) (c .before .if8 .taken))
 
 attach-requires : tie.Need-attach-requires Inv-loop μ-loop
 attach-requires c κs = search needs
 
-mul-then-2 : tie.Need-mul-then-2 Inv-loop μ-loop
-mul-then-2 c = let t = turned (c .before .before .before .before .before .before .before .before .before .before .before .before .before .before .before .before .before .loop-test .taken) (c .before .before .before .before .before .before .before .before .before .before .before .before .before .before .before .before .before .before .loop .inv .1) (c .before .before .before .before .before .before .before .before .before .before .before .before .before .before .before .decode .ensures) in let k = c .before .before .before .before .before .before .before .before .before .before .before .before .before .if1 .left in let s = c .before .before .before .before .before .before .before .before .before .before .before .before .before .before .before .before .before .before .loop .st in let x = c .before .before .before .before .before .before .before .before .before .before .before .before .before .before .before .decode .result .what in
+mul-then-4 : tie.Need-mul-then-4 Inv-loop μ-loop
+mul-then-4 c = let t = turned (c .before .before .before .before .before .before .before .before .before .before .before .before .before .before .before .before .before .loop-test .taken) (c .before .before .before .before .before .before .before .before .before .before .before .before .before .before .before .before .before .before .loop .inv .1) (c .before .before .before .before .before .before .before .before .before .before .before .before .before .before .before .decode .ensures) in let k = c .before .before .before .before .before .before .before .before .before .before .before .before .before .if1 .left in let s = c .before .before .before .before .before .before .before .before .before .before .before .before .before .before .before .before .before .before .loop .st in let x = c .before .before .before .before .before .before .before .before .before .before .before .before .before .before .before .decode .result .what in
     let i = in-range t k in let w = carrier-at i (c .before .before .before .before .before .before .before .before .match .keys7) (omega arith) in omega (arith, w .0, w .1)
 
-element-set-from-then-2 : tie.Need-element-set-from-then-2 Inv-loop μ-loop
-element-set-from-then-2 c = let t = turned (c .before .before .before .before .before .before .before .before .before .before .before .before .before .before .before .before .before .loop-test .taken) (c .before .before .before .before .before .before .before .before .before .before .before .before .before .before .before .before .before .before .loop .inv .1) (c .before .before .before .before .before .before .before .before .before .before .before .before .before .before .before .decode .ensures) in let k = c .before .before .before .before .before .before .before .before .before .before .before .before .before .if1 .left in let s = c .before .before .before .before .before .before .before .before .before .before .before .before .before .before .before .before .before .before .loop .st in let x = c .before .before .before .before .before .before .before .before .before .before .before .before .before .before .before .decode .result .what in
+element-set-from-then-4 : tie.Need-element-set-from-then-4 Inv-loop μ-loop
+element-set-from-then-4 c = let t = turned (c .before .before .before .before .before .before .before .before .before .before .before .before .before .before .before .before .before .loop-test .taken) (c .before .before .before .before .before .before .before .before .before .before .before .before .before .before .before .before .before .before .loop .inv .1) (c .before .before .before .before .before .before .before .before .before .before .before .before .before .before .before .decode .ensures) in let k = c .before .before .before .before .before .before .before .before .before .before .before .before .before .if1 .left in let s = c .before .before .before .before .before .before .before .before .before .before .before .before .before .before .before .before .before .before .loop .st in let x = c .before .before .before .before .before .before .before .before .before .before .before .before .before .before .before .decode .result .what in
     let i = in-range t k in let w = carrier-at i (c .before .before .before .before .before .before .before .before .match .keys7) (omega arith) in omega (arith, w .0, w .1)
 
 cast-k-5 : tie.Need-cast-k-5 Inv-loop μ-loop
@@ -217,9 +238,12 @@ element-copy-out-c-5 c = let t = turned (c .before .before .before .before .befo
 ready-requires-2 : tie.Need-ready-requires-2 Inv-loop μ-loop
 ready-requires-2 c κs = search needs
 
+stop-requires-8 : tie.Need-stop-requires-8 Inv-loop μ-loop
+stop-requires-8 c κs = search needs
+
 returns-8 : tie.Need-returns-8 Inv-loop μ-loop
-returns-8 c = let t = turned (c .before .before .before .before .before .before .before .before .before .before .before .before .before .loop-test .taken) (c .before .before .before .before .before .before .before .before .before .before .before .before .before .before .loop .inv .1) (c .before .before .before .before .before .before .before .before .before .before .before .decode .ensures) in let k = c .before .before .before .before .before .before .before .before .before .if1 .left in let s = c .before .before .before .before .before .before .before .before .before .before .before .before .before .before .loop .st in let x = c .before .before .before .before .before .before .before .before .before .before .before .decode .result .what in
-    stopped t k _ (knit-unready s x _ (c .before .ready2 .ensures) (c .before .before .before .before .match .keys8)) (c .if9 .taken)
+returns-8 c = let t = turned (c .before .before .before .before .before .before .before .before .before .before .before .before .before .before .loop-test .taken) (c .before .before .before .before .before .before .before .before .before .before .before .before .before .before .before .loop .inv .1) (c .before .before .before .before .before .before .before .before .before .before .before .before .decode .ensures) in let k = c .before .before .before .before .before .before .before .before .before .before .if1 .left in let s = c .before .before .before .before .before .before .before .before .before .before .before .before .before .before .before .loop .st in let x = c .before .before .before .before .before .before .before .before .before .before .before .before .decode .result .what in
+    c .stop8 .ensures ∙ stopped t k _ (knit-unready s x _ (c .before .before .ready2 .ensures) (c .before .before .before .before .before .match .keys8)) (c .before .if9 .taken)
 
 put-requires-2 : tie.Need-put-requires-2 Inv-loop μ-loop
 put-requires-2 c κs = let t = turned (c .before .before .before .before .before .before .before .before .before .before .before .before .before .before .loop-test .taken) (c .before .before .before .before .before .before .before .before .before .before .before .before .before .before .before .loop .inv .1) (c .before .before .before .before .before .before .before .before .before .before .before .before .decode .ensures) in let k = c .before .before .before .before .before .before .before .before .before .before .if1 .left in let s = c .before .before .before .before .before .before .before .before .before .before .before .before .before .before .before .loop .st in let x = c .before .before .before .before .before .before .before .before .before .before .before .before .decode .result .what in
@@ -228,12 +252,12 @@ put-requires-2 c κs = let t = turned (c .before .before .before .before .before
 attach-requires-2 : tie.Need-attach-requires-2 Inv-loop μ-loop
 attach-requires-2 c κs = search needs
 
-mul-then-3 : tie.Need-mul-then-3 Inv-loop μ-loop
-mul-then-3 c = let t = turned (c .before .before .before .before .before .before .before .before .before .before .before .before .before .before .before .before .loop-test .taken) (c .before .before .before .before .before .before .before .before .before .before .before .before .before .before .before .before .before .loop .inv .1) (c .before .before .before .before .before .before .before .before .before .before .before .before .before .before .decode .ensures) in let k = c .before .before .before .before .before .before .before .before .before .before .before .before .if1 .left in let s = c .before .before .before .before .before .before .before .before .before .before .before .before .before .before .before .before .before .loop .st in let x = c .before .before .before .before .before .before .before .before .before .before .before .before .before .before .decode .result .what in
+mul-then-5 : tie.Need-mul-then-5 Inv-loop μ-loop
+mul-then-5 c = let t = turned (c .before .before .before .before .before .before .before .before .before .before .before .before .before .before .before .before .loop-test .taken) (c .before .before .before .before .before .before .before .before .before .before .before .before .before .before .before .before .before .loop .inv .1) (c .before .before .before .before .before .before .before .before .before .before .before .before .before .before .decode .ensures) in let k = c .before .before .before .before .before .before .before .before .before .before .before .before .if1 .left in let s = c .before .before .before .before .before .before .before .before .before .before .before .before .before .before .before .before .before .loop .st in let x = c .before .before .before .before .before .before .before .before .before .before .before .before .before .before .decode .result .what in
     let i = in-range t k in let w = carrier-at i (c .before .before .before .before .before .before .before .match .keys8) (omega arith) in omega (arith, w .0, w .1)
 
-element-set-from-then-3 : tie.Need-element-set-from-then-3 Inv-loop μ-loop
-element-set-from-then-3 c = let t = turned (c .before .before .before .before .before .before .before .before .before .before .before .before .before .before .before .before .loop-test .taken) (c .before .before .before .before .before .before .before .before .before .before .before .before .before .before .before .before .before .loop .inv .1) (c .before .before .before .before .before .before .before .before .before .before .before .before .before .before .decode .ensures) in let k = c .before .before .before .before .before .before .before .before .before .before .before .before .if1 .left in let s = c .before .before .before .before .before .before .before .before .before .before .before .before .before .before .before .before .before .loop .st in let x = c .before .before .before .before .before .before .before .before .before .before .before .before .before .before .decode .result .what in
+element-set-from-then-5 : tie.Need-element-set-from-then-5 Inv-loop μ-loop
+element-set-from-then-5 c = let t = turned (c .before .before .before .before .before .before .before .before .before .before .before .before .before .before .before .before .loop-test .taken) (c .before .before .before .before .before .before .before .before .before .before .before .before .before .before .before .before .before .loop .inv .1) (c .before .before .before .before .before .before .before .before .before .before .before .before .before .before .decode .ensures) in let k = c .before .before .before .before .before .before .before .before .before .before .before .before .if1 .left in let s = c .before .before .before .before .before .before .before .before .before .before .before .before .before .before .before .before .before .loop .st in let x = c .before .before .before .before .before .before .before .before .before .before .before .before .before .before .decode .result .what in
     let i = in-range t k in let w = carrier-at i (c .before .before .before .before .before .before .before .match .keys8) (omega arith) in omega (arith, w .0, w .1)
 
 cast-k-6 : tie.Need-cast-k-6 Inv-loop μ-loop
@@ -254,17 +278,23 @@ element-copy-out-c-6 c = let no = c .before .before .match .rest in let t = turn
 ready-requires-3 : tie.Need-ready-requires-3 Inv-loop μ-loop
 ready-requires-3 c κs = search needs
 
+stop-requires-9 : tie.Need-stop-requires-9 Inv-loop μ-loop
+stop-requires-9 c κs = search needs
+
 returns-9 : tie.Need-returns-9 Inv-loop μ-loop
-returns-9 c = let no = c .before .before .before .before .before .match .rest in let t = turned (c .before .before .before .before .before .before .before .before .before .before .before .before .before .before .loop-test .taken) (c .before .before .before .before .before .before .before .before .before .before .before .before .before .before .before .loop .inv .1) (c .before .before .before .before .before .before .before .before .before .before .before .before .decode .ensures) in let k = c .before .before .before .before .before .before .before .before .before .before .if1 .left in let s = c .before .before .before .before .before .before .before .before .before .before .before .before .before .before .before .loop .st in let x = c .before .before .before .before .before .before .before .before .before .before .before .before .decode .result .what in let i = in-range t k in
-    stopped t k _ (split-unready s x _ (c .before .ready3 .ensures) (nine i (no .0 .0 .0 .0 .0 .0 .0 .1) (no .0 .0 .0 .0 .0 .0 .1) (no .0 .0 .0 .0 .0 .1) (no .0 .0 .0 .0 .1) (no .0 .0 .0 .1) (no .0 .0 .1) (no .0 .1) (no .1)) (c .if10 .taken)) (c .if10 .taken)
+returns-9 c = let no = c .before .before .before .before .before .before .match .rest in let t = turned (c .before .before .before .before .before .before .before .before .before .before .before .before .before .before .before .loop-test .taken) (c .before .before .before .before .before .before .before .before .before .before .before .before .before .before .before .before .loop .inv .1) (c .before .before .before .before .before .before .before .before .before .before .before .before .before .decode .ensures) in let k = c .before .before .before .before .before .before .before .before .before .before .before .if1 .left in let s = c .before .before .before .before .before .before .before .before .before .before .before .before .before .before .before .before .loop .st in let x = c .before .before .before .before .before .before .before .before .before .before .before .before .before .decode .result .what in let i = in-range t k in
+    c .stop9 .ensures ∙ stopped t k _ (split-unready s x _ (c .before .before .ready3 .ensures) (nine i (no .0 .0 .0 .0 .0 .0 .0 .1) (no .0 .0 .0 .0 .0 .0 .1) (no .0 .0 .0 .0 .0 .1) (no .0 .0 .0 .0 .1) (no .0 .0 .0 .1) (no .0 .0 .1) (no .0 .1) (no .1)) (c .before .if10 .taken)) (c .before .if10 .taken)
 
 transfer-requires-2 : tie.Need-transfer-requires-2 Inv-loop μ-loop
 transfer-requires-2 c κs = let no = c .before .before .before .before .before .before .match .rest in let t = turned (c .before .before .before .before .before .before .before .before .before .before .before .before .before .before .before .loop-test .taken) (c .before .before .before .before .before .before .before .before .before .before .before .before .before .before .before .before .loop .inv .1) (c .before .before .before .before .before .before .before .before .before .before .before .before .before .decode .ensures) in let k = c .before .before .before .before .before .before .before .before .before .before .before .if1 .left in let s = c .before .before .before .before .before .before .before .before .before .before .before .before .before .before .before .before .loop .st in let x = c .before .before .before .before .before .before .before .before .before .before .before .before .before .decode .result .what in
     let i = in-range t k in (i .at-bed, i .to-bed)
 
+stop-requires-10 : tie.Need-stop-requires-10 Inv-loop μ-loop
+stop-requires-10 c κs = search needs
+
 returns-10 : tie.Need-returns-10 Inv-loop μ-loop
-returns-10 c = let no = c .before .before .before .before .before .before .before .before .match .rest in let t = turned (c .before .before .before .before .before .before .before .before .before .before .before .before .before .before .before .before .before .loop-test .taken) (c .before .before .before .before .before .before .before .before .before .before .before .before .before .before .before .before .before .before .loop .inv .1) (c .before .before .before .before .before .before .before .before .before .before .before .before .before .before .before .decode .ensures) in let k = c .before .before .before .before .before .before .before .before .before .before .before .before .before .if1 .left in let s = c .before .before .before .before .before .before .before .before .before .before .before .before .before .before .before .before .before .before .loop .st in let x = c .before .before .before .before .before .before .before .before .before .before .before .before .before .before .before .decode .result .what in let i = in-range t k in
-    simp (c .before .transfer2 .ensures .1, transfer-kept (s .loops) (x .at) (x .to) (s .racking) 1 _ (c .before .transfer2 .ensures .0) (c .if11 .taken)) (stopped t k _ (split-stopped s x _ (c .before .before .before .before .ready3 .ensures) (c .before .before .before .if10 .left) _ (nine i (no .0 .0 .0 .0 .0 .0 .0 .1) (no .0 .0 .0 .0 .0 .0 .1) (no .0 .0 .0 .0 .0 .1) (no .0 .0 .0 .0 .1) (no .0 .0 .0 .1) (no .0 .0 .1) (no .0 .1) (no .1)) (c .before .transfer2 .ensures .0)) (c .if11 .taken))
+returns-10 c = let no = c .before .before .before .before .before .before .before .before .before .match .rest in let t = turned (c .before .before .before .before .before .before .before .before .before .before .before .before .before .before .before .before .before .before .loop-test .taken) (c .before .before .before .before .before .before .before .before .before .before .before .before .before .before .before .before .before .before .before .loop .inv .1) (c .before .before .before .before .before .before .before .before .before .before .before .before .before .before .before .before .decode .ensures) in let k = c .before .before .before .before .before .before .before .before .before .before .before .before .before .before .if1 .left in let s = c .before .before .before .before .before .before .before .before .before .before .before .before .before .before .before .before .before .before .before .loop .st in let x = c .before .before .before .before .before .before .before .before .before .before .before .before .before .before .before .before .decode .result .what in let i = in-range t k in
+    c .stop10 .ensures ∙ simp (c .before .before .transfer2 .ensures .1, transfer-kept (s .loops) (x .at) (x .to) (s .racking) 1 _ (c .before .before .transfer2 .ensures .0) (c .before .if11 .taken)) (stopped t k _ (split-stopped s x _ (c .before .before .before .before .before .ready3 .ensures) (c .before .before .before .before .if10 .left) _ (nine i (no .0 .0 .0 .0 .0 .0 .0 .1) (no .0 .0 .0 .0 .0 .0 .1) (no .0 .0 .0 .0 .0 .1) (no .0 .0 .0 .0 .1) (no .0 .0 .0 .1) (no .0 .0 .1) (no .0 .1) (no .1)) (c .before .before .transfer2 .ensures .0)) (c .before .if11 .taken))
 
 attach-requires-3 : tie.Need-attach-requires-3 Inv-loop μ-loop
 attach-requires-3 c κs = search needs
@@ -283,12 +313,12 @@ array-set-from-ds : tie.Need-array-set-from-ds Inv-loop μ-loop
 array-set-from-ds c = let no = c .before .before .before .before .before .before .before .before .before .before .before .before .before .match .rest in let t = turned (c .before .before .before .before .before .before .before .before .before .before .before .before .before .before .before .before .before .before .before .before .before .before .loop-test .taken) (c .before .before .before .before .before .before .before .before .before .before .before .before .before .before .before .before .before .before .before .before .before .before .before .loop .inv .1) (c .before .before .before .before .before .before .before .before .before .before .before .before .before .before .before .before .before .before .before .before .decode .ensures) in let k = c .before .before .before .before .before .before .before .before .before .before .before .before .before .before .before .before .before .before .if1 .left in let s = c .before .before .before .before .before .before .before .before .before .before .before .before .before .before .before .before .before .before .before .before .before .before .before .loop .st in let x = c .before .before .before .before .before .before .before .before .before .before .before .before .before .before .before .before .before .before .before .before .decode .result .what in
     let i = in-range t k in let w = carrier-at i (nine i (no .0 .0 .0 .0 .0 .0 .0 .1) (no .0 .0 .0 .0 .0 .0 .1) (no .0 .0 .0 .0 .0 .1) (no .0 .0 .0 .0 .1) (no .0 .0 .0 .1) (no .0 .0 .1) (no .0 .1) (no .1)) (omega arith) in omega (arith, w .0, w .1)
 
-mul-then-4 : tie.Need-mul-then-4 Inv-loop μ-loop
-mul-then-4 c = let no = c .before .before .before .before .before .before .before .before .before .before .before .before .match .rest in let t = turned (c .before .before .before .before .before .before .before .before .before .before .before .before .before .before .before .before .before .before .before .before .before .loop-test .taken) (c .before .before .before .before .before .before .before .before .before .before .before .before .before .before .before .before .before .before .before .before .before .before .loop .inv .1) (c .before .before .before .before .before .before .before .before .before .before .before .before .before .before .before .before .before .before .before .decode .ensures) in let k = c .before .before .before .before .before .before .before .before .before .before .before .before .before .before .before .before .before .if1 .left in let s = c .before .before .before .before .before .before .before .before .before .before .before .before .before .before .before .before .before .before .before .before .before .before .loop .st in let x = c .before .before .before .before .before .before .before .before .before .before .before .before .before .before .before .before .before .before .before .decode .result .what in
+mul-then-6 : tie.Need-mul-then-6 Inv-loop μ-loop
+mul-then-6 c = let no = c .before .before .before .before .before .before .before .before .before .before .before .before .match .rest in let t = turned (c .before .before .before .before .before .before .before .before .before .before .before .before .before .before .before .before .before .before .before .before .before .loop-test .taken) (c .before .before .before .before .before .before .before .before .before .before .before .before .before .before .before .before .before .before .before .before .before .before .loop .inv .1) (c .before .before .before .before .before .before .before .before .before .before .before .before .before .before .before .before .before .before .before .decode .ensures) in let k = c .before .before .before .before .before .before .before .before .before .before .before .before .before .before .before .before .before .if1 .left in let s = c .before .before .before .before .before .before .before .before .before .before .before .before .before .before .before .before .before .before .before .before .before .before .loop .st in let x = c .before .before .before .before .before .before .before .before .before .before .before .before .before .before .before .before .before .before .before .decode .result .what in
     let i = in-range t k in let w = carrier-at i (nine i (no .0 .0 .0 .0 .0 .0 .0 .1) (no .0 .0 .0 .0 .0 .0 .1) (no .0 .0 .0 .0 .0 .1) (no .0 .0 .0 .0 .1) (no .0 .0 .0 .1) (no .0 .0 .1) (no .0 .1) (no .1)) (omega arith) in omega (arith, w .0, w .1)
 
-element-set-from-then-4 : tie.Need-element-set-from-then-4 Inv-loop μ-loop
-element-set-from-then-4 c = let no = c .before .before .before .before .before .before .before .before .before .before .before .before .match .rest in let t = turned (c .before .before .before .before .before .before .before .before .before .before .before .before .before .before .before .before .before .before .before .before .before .loop-test .taken) (c .before .before .before .before .before .before .before .before .before .before .before .before .before .before .before .before .before .before .before .before .before .before .loop .inv .1) (c .before .before .before .before .before .before .before .before .before .before .before .before .before .before .before .before .before .before .before .decode .ensures) in let k = c .before .before .before .before .before .before .before .before .before .before .before .before .before .before .before .before .before .if1 .left in let s = c .before .before .before .before .before .before .before .before .before .before .before .before .before .before .before .before .before .before .before .before .before .before .loop .st in let x = c .before .before .before .before .before .before .before .before .before .before .before .before .before .before .before .before .before .before .before .decode .result .what in
+element-set-from-then-6 : tie.Need-element-set-from-then-6 Inv-loop μ-loop
+element-set-from-then-6 c = let no = c .before .before .before .before .before .before .before .before .before .before .before .before .match .rest in let t = turned (c .before .before .before .before .before .before .before .before .before .before .before .before .before .before .before .before .before .before .before .before .before .loop-test .taken) (c .before .before .before .before .before .before .before .before .before .before .before .before .before .before .before .before .before .before .before .before .before .before .loop .inv .1) (c .before .before .before .before .before .before .before .before .before .before .before .before .before .before .before .before .before .before .before .decode .ensures) in let k = c .before .before .before .before .before .before .before .before .before .before .before .before .before .before .before .before .before .if1 .left in let s = c .before .before .before .before .before .before .before .before .before .before .before .before .before .before .before .before .before .before .before .before .before .before .loop .st in let x = c .before .before .before .before .before .before .before .before .before .before .before .before .before .before .before .before .before .before .before .decode .result .what in
     let i = in-range t k in let w = carrier-at i (nine i (no .0 .0 .0 .0 .0 .0 .0 .1) (no .0 .0 .0 .0 .0 .0 .1) (no .0 .0 .0 .0 .0 .1) (no .0 .0 .0 .0 .1) (no .0 .0 .0 .1) (no .0 .0 .1) (no .0 .1) (no .1)) (omega arith) in omega (arith, w .0, w .1)
 
 loop-less : tie.Need-loop-less Inv-loop μ-loop
@@ -329,7 +359,7 @@ loop-less-5 c = let t = turned (c .before .before .before .before .before .befor
 
 loop-again-5 : tie.Need-loop-again-5 Inv-loop μ-loop
 loop-again-5 c = let t = turned (c .before .before .before .before .before .before .before .before .before .before .before .before .before .before .loop-test .taken) (c .before .before .before .before .before .before .before .before .before .before .before .before .before .before .before .loop .inv .1) (c .before .before .before .before .before .before .before .before .before .before .before .before .decode .ensures) in let k = c .before .before .before .before .before .before .before .before .before .before .if1 .left in let s = c .before .before .before .before .before .before .before .before .before .before .before .before .before .before .before .loop .st in let x = c .before .before .before .before .before .before .before .before .before .before .before .before .decode .result .what in
-    let m = in-made s x (c .before .before .before .before .before .match .keys4) (c .before .if4 .left) _ (c .entry .ensures) in let z = sized t k in (omega (arith, z .1, c .before .before .before .before .before .before .before .before .before .before .before .before .before .before .loop-test .taken), goes t k _ (m .0) (m .1))
+    let m = in-made s x (c .before .before .before .before .before .match .keys4) (c .before .if4 .left) _ (c .enter .ensures) in let z = sized t k in (omega (arith, z .1, c .before .before .before .before .before .before .before .before .before .before .before .before .before .before .loop-test .taken), goes t k _ (m .0) (m .1))
 
 loop-less-6 : tie.Need-loop-less-6 Inv-loop μ-loop
 loop-less-6 c = let t = turned (c .before .before .before .before .before .before .before .before .before .before .before .before .before .before .before .loop-test .taken) (c .before .before .before .before .before .before .before .before .before .before .before .before .before .before .before .before .loop .inv .1) (c .before .before .before .before .before .before .before .before .before .before .before .before .before .decode .ensures) in let k = c .before .before .before .before .before .before .before .before .before .before .before .if1 .left in let s = c .before .before .before .before .before .before .before .before .before .before .before .before .before .before .before .before .loop .st in let x = c .before .before .before .before .before .before .before .before .before .before .before .before .before .decode .result .what in
@@ -340,12 +370,12 @@ loop-again-6 c = let t = turned (c .before .before .before .before .before .befo
     let m = out-made s x _ _ (c .before .before .parked .ensures) (c .before .before .before .before .before .before .match .keys5) (c .before .before .before .exit .ensures) (c .before .if5 .left) _ (c .inactive .ensures) in let z = sized t k in (omega (arith, z .1, c .before .before .before .before .before .before .before .before .before .before .before .before .before .before .before .loop-test .taken), goes t k _ (m .0) (m .1))
 
 loop-less-7 : tie.Need-loop-less-7 Inv-loop μ-loop
-loop-less-7 c = let t = turned (c .before .before .before .before .before .before .before .before .before .before .before .before .before .before .before .before .loop-test .taken) (c .before .before .before .before .before .before .before .before .before .before .before .before .before .before .before .before .before .loop .inv .1) (c .before .before .before .before .before .before .before .before .before .before .before .before .before .before .decode .ensures) in let k = c .before .before .before .before .before .before .before .before .before .before .before .before .if1 .left in let s = c .before .before .before .before .before .before .before .before .before .before .before .before .before .before .before .before .before .loop .st in let x = c .before .before .before .before .before .before .before .before .before .before .before .before .before .before .decode .result .what in
-    let z = sized t k in omega (arith, z .0, z .1, c .before .before .before .before .before .before .before .before .before .before .before .before .before .before .before .before .loop-test .taken)
+loop-less-7 c = let t = turned (c .before .before .before .before .before .before .before .before .before .before .before .before .before .before .before .loop-test .taken) (c .before .before .before .before .before .before .before .before .before .before .before .before .before .before .before .before .loop .inv .1) (c .before .before .before .before .before .before .before .before .before .before .before .before .before .decode .ensures) in let k = c .before .before .before .before .before .before .before .before .before .before .before .if1 .left in let s = c .before .before .before .before .before .before .before .before .before .before .before .before .before .before .before .before .loop .st in let x = c .before .before .before .before .before .before .before .before .before .before .before .before .before .decode .result .what in
+    let z = sized t k in omega (arith, z .0, z .1, c .before .before .before .before .before .before .before .before .before .before .before .before .before .before .before .loop-test .taken)
 
 loop-again-7 : tie.Need-loop-again-7 Inv-loop μ-loop
-loop-again-7 c = let t = turned (c .before .before .before .before .before .before .before .before .before .before .before .before .before .before .before .before .loop-test .taken) (c .before .before .before .before .before .before .before .before .before .before .before .before .before .before .before .before .before .loop .inv .1) (c .before .before .before .before .before .before .before .before .before .before .before .before .before .before .decode .ensures) in let k = c .before .before .before .before .before .before .before .before .before .before .before .before .if1 .left in let s = c .before .before .before .before .before .before .before .before .before .before .before .before .before .before .before .before .before .loop .st in let x = c .before .before .before .before .before .before .before .before .before .before .before .before .before .before .decode .result .what in
-    let m = miss-made s x _ _ (c .before .before .before .parked2 .ensures) (c .before .before .before .before .before .before .before .match .keys6) (c .before .before .before .before .entry2 .ensures) (c .before .before .if6 .left) _ (c .before .exit2 .ensures) in let z = sized t k in (omega (arith, z .1, c .before .before .before .before .before .before .before .before .before .before .before .before .before .before .before .before .loop-test .taken), goes t k _ (m .0) (m .1))
+loop-again-7 c = let t = turned (c .before .before .before .before .before .before .before .before .before .before .before .before .before .before .before .loop-test .taken) (c .before .before .before .before .before .before .before .before .before .before .before .before .before .before .before .before .loop .inv .1) (c .before .before .before .before .before .before .before .before .before .before .before .before .before .decode .ensures) in let k = c .before .before .before .before .before .before .before .before .before .before .before .if1 .left in let s = c .before .before .before .before .before .before .before .before .before .before .before .before .before .before .before .before .loop .st in let x = c .before .before .before .before .before .before .before .before .before .before .before .before .before .decode .result .what in
+    let m = miss-made s x _ _ (c .before .before .parked2 .ensures) (c .before .before .before .before .before .before .match .keys6) (c .before .before .before .entry .ensures) (c .before .if6 .left) _ (c .pass .ensures) in let z = sized t k in (omega (arith, z .1, c .before .before .before .before .before .before .before .before .before .before .before .before .before .before .before .loop-test .taken), goes t k _ (m .0) (m .1))
 
 loop-less-8 : tie.Need-loop-less-8 Inv-loop μ-loop
 loop-less-8 c = let t = turned (c .before .before .before .before .before .before .before .before .before .before .before .before .before .before .before .before .before .loop-test .taken) (c .before .before .before .before .before .before .before .before .before .before .before .before .before .before .before .before .before .before .loop .inv .1) (c .before .before .before .before .before .before .before .before .before .before .before .before .before .before .before .decode .ensures) in let k = c .before .before .before .before .before .before .before .before .before .before .before .before .before .if1 .left in let s = c .before .before .before .before .before .before .before .before .before .before .before .before .before .before .before .before .before .before .loop .st in let x = c .before .before .before .before .before .before .before .before .before .before .before .before .before .before .before .decode .result .what in
@@ -379,8 +409,11 @@ loop-again-11 : tie.Need-loop-again-11 Inv-loop μ-loop
 loop-again-11 c = let no = c .before .before .before .before .before .before .before .before .before .before .before .before .match .rest in let t = turned (c .before .before .before .before .before .before .before .before .before .before .before .before .before .before .before .before .before .before .before .before .before .loop-test .taken) (c .before .before .before .before .before .before .before .before .before .before .before .before .before .before .before .before .before .before .before .before .before .before .loop .inv .1) (c .before .before .before .before .before .before .before .before .before .before .before .before .before .before .before .before .before .before .before .decode .ensures) in let k = c .before .before .before .before .before .before .before .before .before .before .before .before .before .before .before .before .before .if1 .left in let s = c .before .before .before .before .before .before .before .before .before .before .before .before .before .before .before .before .before .before .before .before .before .before .loop .st in let x = c .before .before .before .before .before .before .before .before .before .before .before .before .before .before .before .before .before .before .before .decode .result .what in let i = in-range t k in
     let m = split-made s x _ (c .before .before .before .before .before .before .before .before .ready3 .ensures) (c .before .before .before .before .before .before .before .if10 .left) _ (c .before .before .before .attach3 .ensures) _ (nine i (no .0 .0 .0 .0 .0 .0 .0 .1) (no .0 .0 .0 .0 .0 .0 .1) (no .0 .0 .0 .0 .0 .1) (no .0 .0 .0 .0 .1) (no .0 .0 .0 .1) (no .0 .0 .1) (no .0 .1) (no .1)) (c .before .before .before .before .before .transfer2 .ensures .0) (c .before .before .before .before .if11 .left) _ _ (c .before .before .before .before .before .transfer2 .ensures .1) (unmoved (x .at) (x .to) (s .carriers) (sym (c .before .any-attached2 .ensures) ∙ c .if12 .left)) in let z = sized t k in (omega (arith, z .1, c .before .before .before .before .before .before .before .before .before .before .before .before .before .before .before .before .before .before .before .before .before .loop-test .taken), goes t k _ (m .0) (m .1))
 
+stop-requires-11 : tie.Need-stop-requires-11 Inv-loop μ-loop
+stop-requires-11 c κs = search needs
+
 returns-11 : tie.Need-returns-11 Inv-loop μ-loop
-returns-11 c = ended (c .before .before .before .args .state) (c .before .before .before .args .program .now) (c .before .loop .at) (c .before .loop .st) (omega arith) (c .before .loop .inv .1)
+returns-11 c = c .stop11 .ensures ∙ ended (c .before .before .before .before .args .state) (c .before .before .before .before .args .program .now) (c .before .before .loop .at) (c .before .before .loop .st) (omega arith) (c .before .before .loop .inv .1)
 
 pub run-from-spec : {M : Type 1} → statement M
 run-from-spec =
@@ -393,10 +426,12 @@ run-from-spec =
     part-decode-start
     part-decode-end
     decode-requires
+    stop-requires
     returns
     add-next
     put-requires
     transfer-requires
+    stop-requires-2
     returns-2
     any-attached-requires
     attachments-moved-requires
@@ -404,66 +439,74 @@ run-from-spec =
     sub-k
     mul-c
     element-copy-out-c
+    stop-requires-3
     returns-3
-    entry-requires
-    mul-t57
-    element-set-from-st
+    enter-requires
+    mul-then
+    element-set-from-then
     cast-k-2
     sub-k-2
     mul-c-2
     element-copy-out-c-2
     exit-requires
     parked-requires
+    stop-requires-4
     returns-4
     inactive-requires
-    mul-then
-    element-set-from-then
+    mul-then-2
+    element-set-from-then-2
     cast-k-3
     sub-k-3
     mul-c-3
     element-copy-out-c-3
-    entry-requires-2
+    entry-requires
     parked-requires-2
+    stop-requires-5
     returns-5
-    exit-requires-2
-    mul-t75
-    element-set-from-st-2
+    pass-requires
+    mul-then-3
+    element-set-from-then-3
     cast-k-4
     sub-k-4
     mul-c-4
     element-copy-out-c-4
     ready-requires
+    stop-requires-6
     returns-6
     tuck-requires
+    stop-requires-7
     returns-7
     attach-requires
-    mul-then-2
-    element-set-from-then-2
+    mul-then-4
+    element-set-from-then-4
     cast-k-5
     sub-k-5
     mul-c-5
     element-copy-out-c-5
     ready-requires-2
+    stop-requires-8
     returns-8
     put-requires-2
     attach-requires-2
-    mul-then-3
-    element-set-from-then-3
+    mul-then-5
+    element-set-from-then-5
     cast-k-6
     sub-k-6
     mul-c-6
     element-copy-out-c-6
     ready-requires-3
+    stop-requires-9
     returns-9
     transfer-requires-2
+    stop-requires-10
     returns-10
     attach-requires-3
     any-attached-requires-2
     attachments-moved-requires-2
     mul-ds
     array-set-from-ds
-    mul-then-4
-    element-set-from-then-4
+    mul-then-6
+    element-set-from-then-6
     loop-less
     loop-again
     loop-less-2
@@ -486,4 +529,5 @@ run-from-spec =
     loop-again-10
     loop-less-11
     loop-again-11
+    stop-requires-11
     returns-11)
