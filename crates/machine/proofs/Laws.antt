@@ -16,35 +16,44 @@ use Rattle.machine.specs.declared.Carrier.{Carrier}
 use Rattle.machine.specs.declared.State.{State}
 use Rattle.machine.specs.declared.Racking.{Racking}
 use Rattle.machine.specs.declared.Column.{Column}
-use mir.Syntax.{w32}
+use mir.Syntax.{w16, w32}
 use mir.Val.{SFits, toZ, ofZ}
 use mir.Facts.{toZ-ofZ}
 use Rattle.machine.specs.Geometry.{columnOf, eqZ}
-use Rattle.machine.specs.Machine.{all, attachedAt, movedTo, noLoops, noneActive, inactive, inactiveCarrier, emptyState, completeOf}
-use Rattle.machine.proofs.Signed.{mag-sum, eqZ-true, back, fits-sum}
+use Rattle.machine.specs.Machine.{OnBed, all, attachedAt, movedTo, noLoops, noneActive, inactive, inactiveCarrier, emptyState, completeOf}
+use Rattle.machine.proofs.Signed.{mag-sum, eqZ-true, back, fits, fits-sum, cast-back}
 
--- a column of any needle at any racking
-pub column-reach : (n : Needle) (r : Racking) → n .1 < 65536 → mag (r .0) < 128 → mag (columnOf n r .0) < 65666
+-- how far a column reaches
+column-reach : (n : Needle) (r : Racking) → mag (r .0) < 128 → mag (columnOf n r .0) ≤ n .1 + 129
 unfolding columnOf
-column-reach n r h k = go (eqb (n .0) 0)
+column-reach n r k = go (eqb (n .0) 0)
   where
-    go : (t : Bool) → mag (cond t (pos (n .1)) (pos (n .1) +ℤ r .0)) < 65666
+    go : (t : Bool) → mag (cond t (pos (n .1)) (pos (n .1) +ℤ r .0)) ≤ n .1 + 129
     go true = omega arith
     go false = omega (arith, mag-sum (pos (n .1)) (r .0))
 
--- a slot beside such a column, as code reads it back from 32 bits
-module _ (n : Needle) (r : Racking) (z : Column) (is : z ≡ columnOf n r) (h : n .1 < 65536) (k : mag (r .0) < 128) where
-  slot-reach : mag (z .0) < 65666
-  slot-reach = subst (λ (y : Column). mag (y .0) < 65666) (sym is) (column-reach n r h k)
+-- the slots beside a needle's column, as code reads them back from 32 and from 16 bits
+module _ (n : Needle) (r : Racking) (z : Column) (is : z ≡ columnOf n r) (b : OnBed n) (k : mag (r .0) < 128) where
+  reach : mag (z .0) < 400
+  reach = subst (λ (y : Column). mag (y .0) < 400) (sym is) (omega (arith, column-reach n r k))
 
-  pub slot-here : toZ w32 (ofZ w32 (z .0)) ≡ columnOf n r .0
-  slot-here = back w32 (z .0) (omega (arith, slot-reach)) ∙ ap (λ (y : Column). y .0) is
+  pub here-fits : SFits w16 (toZ w32 (ofZ w32 (z .0)))
+  here-fits = simp (back w32 (z .0) (omega (arith, reach))) (fits w16 (z .0) (omega (arith, reach)))
 
-  pub slot-fits : SFits w32 (toZ w32 (ofZ w32 (z .0)) +ℤ pos 1)
-  slot-fits = simp (back w32 (z .0) (omega (arith, slot-reach))) (fits-sum w32 (z .0) (pos 1) (omega (arith, slot-reach)))
+  pub slot-here : toZ w16 (ofZ w16 (toZ w32 (ofZ w32 (z .0)))) ≡ columnOf n r .0
+  slot-here = cast-back w32 w16 (z .0) (omega (arith, reach)) (omega (arith, reach)) ∙ ap (λ (y : Column). y .0) is
 
-  pub slot-next : toZ w32 (ofZ w32 (toZ w32 (ofZ w32 (z .0)) +ℤ pos 1)) ≡ columnOf n r .0 +ℤ pos 1
-  slot-next = toZ-ofZ slot-fits ∙ ap (λ (y : ℤ). y +ℤ pos 1) slot-here
+  pub next-fits : SFits w32 (toZ w32 (ofZ w32 (z .0)) +ℤ pos 1)
+  next-fits = simp (back w32 (z .0) (omega (arith, reach))) (fits-sum w32 (z .0) (pos 1) (omega (arith, reach)))
+
+  next-is : toZ w32 (ofZ w32 (toZ w32 (ofZ w32 (z .0)) +ℤ pos 1)) ≡ z .0 +ℤ pos 1
+  next-is = toZ-ofZ next-fits ∙ ap (λ (y : ℤ). y +ℤ pos 1) (back w32 (z .0) (omega (arith, reach)))
+
+  pub next-narrow : SFits w16 (toZ w32 (ofZ w32 (toZ w32 (ofZ w32 (z .0)) +ℤ pos 1)))
+  next-narrow = simp next-is (fits-sum w16 (z .0) (pos 1) (omega (arith, reach)))
+
+  pub slot-next : toZ w16 (ofZ w16 (toZ w32 (ofZ w32 (toZ w32 (ofZ w32 (z .0)) +ℤ pos 1)))) ≡ columnOf n r .0 +ℤ pos 1
+  slot-next = toZ-ofZ next-narrow ∙ next-is ∙ ap (λ (y : Column). y .0 +ℤ pos 1) is
 
 -- a walk along a list
 module _ {A : Type 0} (p : A → Bool) where

@@ -7,7 +7,7 @@ ghost use Rattle.machine.specs.Geometry.{columnOf, entryOf, exitOf, same
 
 // A needle by its bed (0 front, 1 back) and its number there: where a program says it is.
 #[repr(C)]
-pub struct Needle(pub u8, pub u16);
+pub struct Needle(pub u16, pub u16);
 
 // A physical column, which only a racking gives to a needle.
 #[repr(C)]
@@ -15,7 +15,7 @@ pub struct Column(pub i32);
 
 // A place between columns where a carrier parks: slot z lies just left of column z.
 #[repr(C)]
-pub struct Slot(pub i32);
+pub struct Slot(pub i16);
 
 // How far the back bed is shifted to the right.
 #[repr(C)]
@@ -111,18 +111,28 @@ impl Needle {
 
     // Where a carrier stands before it moves over the needle.
     pub fn entry(self, r: Racking, right: bool) -> Slot
+        requires { ⌜ OnBed self ⌝ }
         ensures { λ s. ⌜ s ≡ entryOf (columnOf self r) right ⌝ }
     {
         let z = self.column(r);
-        if right { Slot(z.0) } else { Slot(z.0 + 1) }
+        if right {
+            Slot(z.0 as i16)
+        } else {
+            Slot((z.0 + 1) as i16)
+        }
     }
 
     // Where it stands after.
     pub fn exit(self, r: Racking, right: bool) -> Slot
+        requires { ⌜ OnBed self ⌝ }
         ensures { λ s. ⌜ s ≡ exitOf (columnOf self r) right ⌝ }
     {
         let z = self.column(r);
-        if right { Slot(z.0 + 1) } else { Slot(z.0) }
+        if right {
+            Slot((z.0 + 1) as i16)
+        } else {
+            Slot(z.0 as i16)
+        }
     }
 
     pub fn equals(self, other: Needle) -> bool

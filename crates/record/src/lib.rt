@@ -141,7 +141,7 @@ fn drop(l: &[u8]) -> Decoded
     if !needle_ok(bed, n) {
         return refused(FIELD_RANGE);
     }
-    let at = Needle(bed, n as u16);
+    let at = Needle(bed as u16, n as u16);
     let what = Record {
         kind: 2,
         racking: Racking(0),
@@ -173,8 +173,8 @@ fn xfer(l: &[u8]) -> Decoded
     if NEEDLE_MOST < m {
         return refused(FIELD_RANGE);
     }
-    let at = Needle(bed, n as u16);
-    let to = Needle(1 - bed, m as u16);
+    let at = Needle(bed as u16, n as u16);
+    let to = Needle((1 - bed) as u16, m as u16);
     let what = Record {
         kind: 3,
         racking: Racking(0),
@@ -204,7 +204,7 @@ fn work(kind: u8, l: &[u8]) -> Decoded
     if !work_ok(right, bed, n, k) {
         return refused(FIELD_RANGE);
     }
-    let at = Needle(bed, n as u16);
+    let at = Needle(bed as u16, n as u16);
     let what = Record {
         kind,
         racking: Racking(0),
@@ -238,8 +238,8 @@ fn split(l: &[u8]) -> Decoded
     if NEEDLE_MOST < m {
         return refused(FIELD_RANGE);
     }
-    let at = Needle(bed, n as u16);
-    let to = Needle(1 - bed, m as u16);
+    let at = Needle(bed as u16, n as u16);
+    let to = Needle((1 - bed) as u16, m as u16);
     let what = Record {
         kind: 9,
         racking: Racking(0),

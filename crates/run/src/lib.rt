@@ -65,6 +65,7 @@ fn parked(c: Carrier, z: Slot, r: Racking) -> u8
 
 // Whether the carrier can form a loop at the needle: 0, or 7 to 9.
 fn ready(c: Carrier, n: Needle, r: Racking, right: bool) -> u8
+    requires { ⌜ OnBed n ⌝ }
     ensures { λ k. ⌜ k ≡ orNumber (parkedNo (lookOf r c) (entryOf (columnOf n r) right)) (floatNo (lookOf r c) (columnOf n r)) ⌝ }
 {
     let number = parked(c, n.entry(r, right), r);
@@ -85,6 +86,7 @@ fn ready(c: Carrier, n: Needle, r: Racking, right: bool) -> u8
 
 // The carrier after in, after a miss, and after it formed a loop at the needle.
 fn enter(n: Needle, r: Racking, right: bool) -> Carrier
+    requires { ⌜ OnBed n ⌝ }
     ensures { λ c. ⌜ c ≡ unattached (entryOf (columnOf n r) right) ⌝ }
 {
     let slot = n.entry(r, right);
@@ -97,6 +99,7 @@ fn enter(n: Needle, r: Racking, right: bool) -> Carrier
 }
 
 fn pass(c: Carrier, n: Needle, r: Racking, right: bool) -> Carrier
+    requires { ⌜ OnBed n ⌝ }
     ensures { λ d. ⌜ d ≡ parkedOn c (exitOf (columnOf n r) right) ⌝ }
 {
     let slot = n.exit(r, right);
@@ -110,6 +113,7 @@ fn pass(c: Carrier, n: Needle, r: Racking, right: bool) -> Carrier
 }
 
 fn attach(n: Needle, r: Racking, right: bool) -> Carrier
+    requires { ⌜ OnBed n ⌝ }
     ensures { λ c. ⌜ c ≡ attached (exitOf (columnOf n r) right) n right ⌝ }
 {
     let slot = n.exit(r, right);

@@ -32,6 +32,9 @@ returns-2 c = simp (c .refused2 .ensures, le-ltb _ _ (c .before .before .before 
 cast-t9 : tie.Need-cast-t9
 cast-t9 c = search needs
 
+cast-t10 : tie.Need-cast-t10
+cast-t10 c = search needs
+
 returns-3 : tie.Need-returns-3
 unfolding whole ranged
 returns-3 c = simp (le-ltb _ _ (c .before .before .before .before .if1 .left), ← c .before .before .byte2 .ensures, ← c .before .before .before .byte .ensures, ← c .before .needle-ok .ensures, not-false (c .before .needle-ok .result) (c .if2 .left))
@@ -48,4 +51,5 @@ drop-spec =
     refused-requires-2
     returns-2
     cast-t9
+    cast-t10
     returns-3)

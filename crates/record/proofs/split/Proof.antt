@@ -2,10 +2,22 @@
 use borrow.Author.Needs.{needs}
 use borrow.Author.Tests.{eq-eqb, ne-eqb, le-leb, lt-leb, lt-ltb, le-ltb, not-true, not-false}
 use mathlib.Core.Path.{_≡_, refl, sym, ap, _∙_}
-use Rattle.record.specs.Format.{whole, ranged}
+use Prim.Native.Nat.{ℕ, _-_, _≤_}
+use mathlib.Core.Bool.{true}
+use mathlib.Core.List.{List}
+use lib.Dec.{eqb}
+use lib.ListN.{length}
+use Rattle.record.specs.declared.Decoded.{Decoded}
+use Rattle.record.specs.Format.{byte, needle, workOk, splitRecord, whole, ranged, splitAt}
 use Rattle.record.proofs.Ranges.{work-bed}
 use Rattle.record.proofs.split.Statement.{statement}
 use Rattle.record.proofs.split.Tie as tie
+
+module _ (l : List ℕ) (right bed n k m : ℕ) (b1 : right ≡ byte l 1) (b2 : bed ≡ byte l 2) (b3 : n ≡ byte l 3) (b4 : k ≡ byte l 4) (b5 : m ≡ byte l 5) where
+  in-range : 6 ≤ length l → workOk right bed n k ≡ true → m ≤ 249
+      → _≡_ {A = Decoded} (record { number = 0; size = 6; what = splitRecord (eqb right 1) (needle bed n) k (needle (1 - bed) m) }) (whole l 6 (splitAt l))
+  unfolding whole ranged
+  in-range h w f = simp (le-ltb _ _ h, ← b1, ← b2, ← b3, ← b4, ← b5, w, le-leb _ _ f)
 
 refused-requires : tie.Need-refused-requires
 refused-requires c κs = search needs
@@ -49,15 +61,21 @@ returns-3 c = simp (c .refused3 .ensures, le-ltb _ _ (c .before .before .before 
 cast-t13 : tie.Need-cast-t13
 cast-t13 c = search needs
 
-sub-t14 : tie.Need-sub-t14
-sub-t14 c = work-bed _ _ _ _ (sym (c .before .before .work-ok .ensures) ∙ not-false (c .before .before .work-ok .result) (c .before .if2 .left))
+cast-t14 : tie.Need-cast-t14
+cast-t14 c = search needs
+
+sub-t15 : tie.Need-sub-t15
+sub-t15 c = work-bed _ _ _ _ (sym (c .before .before .work-ok .ensures) ∙ not-false (c .before .before .work-ok .result) (c .before .if2 .left))
 
 cast-t13-2 : tie.Need-cast-t13-2
 cast-t13-2 c = search needs
 
+cast-t14-2 : tie.Need-cast-t14-2
+cast-t14-2 c = search needs
+
 returns-4 : tie.Need-returns-4
-unfolding whole ranged
-returns-4 c = simp (le-ltb _ _ (c .before .before .before .before .before .before .before .before .if1 .left), ← c .before .before .before .byte5 .ensures, ← c .before .before .before .before .byte4 .ensures, ← c .before .before .before .before .before .byte3 .ensures, ← c .before .before .before .before .before .before .byte2 .ensures, ← c .before .before .before .before .before .before .before .byte .ensures, ← c .before .before .work-ok .ensures, not-false (c .before .before .work-ok .result) (c .before .if2 .left), le-leb _ _ (c .if3 .left))
+returns-4 c = in-range (c .before .before .before .before .before .before .before .before .before .before .args .l .now) _ _ _ _ _ (c .before .before .before .before .before .before .before .byte .ensures) (c .before .before .before .before .before .before .byte2 .ensures) (c .before .before .before .before .before .byte3 .ensures) (c .before .before .before .before .byte4 .ensures) (c .before .before .before .byte5 .ensures) (c .before .before .before .before .before .before .before .before .if1 .left)
+    (sym (c .before .before .work-ok .ensures) ∙ not-false (c .before .before .work-ok .result) (c .before .if2 .left)) (c .if3 .left)
 
 pub split-spec : {M : Type 1} → statement M
 split-spec =
@@ -76,6 +94,8 @@ split-spec =
     refused-requires-3
     returns-3
     cast-t13
-    sub-t14
+    cast-t14
+    sub-t15
     cast-t13-2
+    cast-t14-2
     returns-4)

@@ -38,6 +38,9 @@ returns-2 c = simp (c .refused2 .ensures, le-ltb _ _ (c .before .before .before 
 cast-t12 : tie.Need-cast-t12
 cast-t12 c = search needs
 
+cast-t13 : tie.Need-cast-t13
+cast-t13 c = search needs
+
 returns-3 : tie.Need-returns-3
 unfolding whole ranged
 returns-3 c = simp (le-ltb _ _ (c .before .before .before .before .before .before .if1 .left), ← c .before .before .byte4 .ensures, ← c .before .before .before .byte3 .ensures, ← c .before .before .before .before .byte2 .ensures, ← c .before .before .before .before .before .byte .ensures, ← c .before .work-ok .ensures, not-false (c .before .work-ok .result) (c .if2 .left))
@@ -56,4 +59,5 @@ work-spec =
     refused-requires-2
     returns-2
     cast-t12
+    cast-t13
     returns-3)

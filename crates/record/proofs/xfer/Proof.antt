@@ -43,11 +43,17 @@ returns-3 c = simp (c .refused3 .ensures, le-ltb _ _ (c .before .before .before 
 cast-t11 : tie.Need-cast-t11
 cast-t11 c = search needs
 
-sub-t12 : tie.Need-sub-t12
-sub-t12 c = needle-bed _ _ (sym (c .before .before .needle-ok .ensures) ∙ not-false (c .before .before .needle-ok .result) (c .before .if2 .left))
+cast-t12 : tie.Need-cast-t12
+cast-t12 c = search needs
+
+sub-t13 : tie.Need-sub-t13
+sub-t13 c = needle-bed _ _ (sym (c .before .before .needle-ok .ensures) ∙ not-false (c .before .before .needle-ok .result) (c .before .if2 .left))
 
 cast-t11-2 : tie.Need-cast-t11-2
 cast-t11-2 c = search needs
+
+cast-t12-2 : tie.Need-cast-t12-2
+cast-t12-2 c = search needs
 
 returns-4 : tie.Need-returns-4
 unfolding whole ranged
@@ -68,6 +74,8 @@ xfer-spec =
     refused-requires-3
     returns-3
     cast-t11
-    sub-t12
+    cast-t12
+    sub-t13
     cast-t11-2
+    cast-t12-2
     returns-4)

@@ -85,7 +85,8 @@ returns-3 c = let t = turned (c .before .before .before .before .before .before 
     c .stop3 .ensures ∙ stopped t k _ (in-stopped s x (c .before .before .before .before .before .match .keys4) (c .before .if4 .taken)) (λ e. omega arith)
 
 enter-requires : tie.Need-enter-requires Inv-loop μ-loop
-enter-requires c κs = search needs
+enter-requires c κs = let t = turned (c .before .before .before .before .before .before .before .before .before .before .before .before .before .loop-test .taken) (c .before .before .before .before .before .before .before .before .before .before .before .before .before .before .loop .inv .1) (c .before .before .before .before .before .before .before .before .before .before .before .decode .ensures) in let k = c .before .before .before .before .before .before .before .before .before .if1 .left in let s = c .before .before .before .before .before .before .before .before .before .before .before .before .before .before .loop .st in let x = c .before .before .before .before .before .before .before .before .before .before .before .decode .result .what in
+    let i = in-range t k in i .at-bed
 
 mul-then : tie.Need-mul-then Inv-loop μ-loop
 mul-then c = let t = turned (c .before .before .before .before .before .before .before .before .before .before .before .before .before .before .loop-test .taken) (c .before .before .before .before .before .before .before .before .before .before .before .before .before .before .before .loop .inv .1) (c .before .before .before .before .before .before .before .before .before .before .before .before .decode .ensures) in let k = c .before .before .before .before .before .before .before .before .before .before .if1 .left in let s = c .before .before .before .before .before .before .before .before .before .before .before .before .before .before .before .loop .st in let x = c .before .before .before .before .before .before .before .before .before .before .before .before .decode .result .what in
@@ -111,7 +112,8 @@ element-copy-out-c-2 c = let t = turned (c .before .before .before .before .befo
     let i = in-range t k in let w = carrier-at i (c .before .match .keys5) (omega arith) in omega (arith, w .0, w .1)
 
 exit-requires : tie.Need-exit-requires Inv-loop μ-loop
-exit-requires c κs = search needs
+exit-requires c κs = let t = turned (c .before .before .before .before .before .before .before .before .before .before .before .loop-test .taken) (c .before .before .before .before .before .before .before .before .before .before .before .before .loop .inv .1) (c .before .before .before .before .before .before .before .before .before .decode .ensures) in let k = c .before .before .before .before .before .before .before .if1 .left in let s = c .before .before .before .before .before .before .before .before .before .before .before .before .loop .st in let x = c .before .before .before .before .before .before .before .before .before .decode .result .what in
+    let i = in-range t k in i .at-bed
 
 parked-requires : tie.Need-parked-requires Inv-loop μ-loop
 parked-requires c κs = search needs
@@ -150,7 +152,8 @@ element-copy-out-c-3 c = let t = turned (c .before .before .before .before .befo
     let i = in-range t k in let w = carrier-at i (c .before .match .keys6) (omega arith) in omega (arith, w .0, w .1)
 
 entry-requires : tie.Need-entry-requires Inv-loop μ-loop
-entry-requires c κs = search needs
+entry-requires c κs = let t = turned (c .before .before .before .before .before .before .before .before .before .before .before .loop-test .taken) (c .before .before .before .before .before .before .before .before .before .before .before .before .loop .inv .1) (c .before .before .before .before .before .before .before .before .before .decode .ensures) in let k = c .before .before .before .before .before .before .before .if1 .left in let s = c .before .before .before .before .before .before .before .before .before .before .before .before .loop .st in let x = c .before .before .before .before .before .before .before .before .before .decode .result .what in
+    let i = in-range t k in i .at-bed
 
 parked-requires-2 : tie.Need-parked-requires-2 Inv-loop μ-loop
 parked-requires-2 c κs = search needs
@@ -163,7 +166,8 @@ returns-5 c = let t = turned (c .before .before .before .before .before .before 
     c .stop5 .ensures ∙ stopped t k _ (miss-stopped s x _ _ (c .before .before .parked2 .ensures) (c .before .before .before .before .before .before .match .keys6) (c .before .before .before .entry .ensures)) (c .before .if6 .taken)
 
 pass-requires : tie.Need-pass-requires Inv-loop μ-loop
-pass-requires c κs = search needs
+pass-requires c κs = let t = turned (c .before .before .before .before .before .before .before .before .before .before .before .before .before .before .loop-test .taken) (c .before .before .before .before .before .before .before .before .before .before .before .before .before .before .before .loop .inv .1) (c .before .before .before .before .before .before .before .before .before .before .before .before .decode .ensures) in let k = c .before .before .before .before .before .before .before .before .before .before .if1 .left in let s = c .before .before .before .before .before .before .before .before .before .before .before .before .before .before .before .loop .st in let x = c .before .before .before .before .before .before .before .before .before .before .before .before .decode .result .what in
+    let i = in-range t k in i .at-bed
 
 mul-then-3 : tie.Need-mul-then-3 Inv-loop μ-loop
 mul-then-3 c = let t = turned (c .before .before .before .before .before .before .before .before .before .before .before .before .before .before .before .loop-test .taken) (c .before .before .before .before .before .before .before .before .before .before .before .before .before .before .before .before .loop .inv .1) (c .before .before .before .before .before .before .before .before .before .before .before .before .before .decode .ensures) in let k = c .before .before .before .before .before .before .before .before .before .before .before .if1 .left in let s = c .before .before .before .before .before .before .before .before .before .before .before .before .before .before .before .before .loop .st in let x = c .before .before .before .before .before .before .before .before .before .before .before .before .before .decode .result .what in
@@ -189,7 +193,8 @@ element-copy-out-c-4 c = let t = turned (c .before .before .before .before .befo
     let i = in-range t k in let w = carrier-at i (c .before .match .keys7) (omega arith) in omega (arith, w .0, w .1)
 
 ready-requires : tie.Need-ready-requires Inv-loop μ-loop
-ready-requires c κs = search needs
+ready-requires c κs = let t = turned (c .before .before .before .before .before .before .before .before .before .before .before .loop-test .taken) (c .before .before .before .before .before .before .before .before .before .before .before .before .loop .inv .1) (c .before .before .before .before .before .before .before .before .before .decode .ensures) in let k = c .before .before .before .before .before .before .before .if1 .left in let s = c .before .before .before .before .before .before .before .before .before .before .before .before .loop .st in let x = c .before .before .before .before .before .before .before .before .before .decode .result .what in
+    let i = in-range t k in i .at-bed
 
 stop-requires-6 : tie.Need-stop-requires-6 Inv-loop μ-loop
 stop-requires-6 c κs = search needs
@@ -210,7 +215,8 @@ returns-7 c = let t = turned (c .before .before .before .before .before .before 
     c .stop7 .ensures ∙ simp (c .before .before .tuck .ensures .1, tuck-kept (s .loops) (x .at) _ (c .before .before .tuck .ensures .0) (c .before .if8 .taken)) (stopped t k _ (tuck-stopped s x _ (c .before .before .before .before .before .ready .ensures) (c .before .before .before .before .if7 .left) _ (c .before .before .before .before .before .before .before .before .match .keys7) (c .before .before .tuck .ensures .0)) (c .before .if8 .taken))
 
 attach-requires : tie.Need-attach-requires Inv-loop μ-loop
-attach-requires c κs = search needs
+attach-requires c κs = let t = turned (c .before .before .before .before .before .before .before .before .before .before .before .before .before .before .before .before .loop-test .taken) (c .before .before .before .before .before .before .before .before .before .before .before .before .before .before .before .before .before .loop .inv .1) (c .before .before .before .before .before .before .before .before .before .before .before .before .before .before .decode .ensures) in let k = c .before .before .before .before .before .before .before .before .before .before .before .before .if1 .left in let s = c .before .before .before .before .before .before .before .before .before .before .before .before .before .before .before .before .before .loop .st in let x = c .before .before .before .before .before .before .before .before .before .before .before .before .before .before .decode .result .what in
+    let i = in-range t k in i .at-bed
 
 mul-then-4 : tie.Need-mul-then-4 Inv-loop μ-loop
 mul-then-4 c = let t = turned (c .before .before .before .before .before .before .before .before .before .before .before .before .before .before .before .before .before .loop-test .taken) (c .before .before .before .before .before .before .before .before .before .before .before .before .before .before .before .before .before .before .loop .inv .1) (c .before .before .before .before .before .before .before .before .before .before .before .before .before .before .before .decode .ensures) in let k = c .before .before .before .before .before .before .before .before .before .before .before .before .before .if1 .left in let s = c .before .before .before .before .before .before .before .before .before .before .before .before .before .before .before .before .before .before .loop .st in let x = c .before .before .before .before .before .before .before .before .before .before .before .before .before .before .before .decode .result .what in
@@ -236,7 +242,8 @@ element-copy-out-c-5 c = let t = turned (c .before .before .before .before .befo
     let i = in-range t k in let w = carrier-at i (c .before .match .keys8) (omega arith) in omega (arith, w .0, w .1)
 
 ready-requires-2 : tie.Need-ready-requires-2 Inv-loop μ-loop
-ready-requires-2 c κs = search needs
+ready-requires-2 c κs = let t = turned (c .before .before .before .before .before .before .before .before .before .before .before .loop-test .taken) (c .before .before .before .before .before .before .before .before .before .before .before .before .loop .inv .1) (c .before .before .before .before .before .before .before .before .before .decode .ensures) in let k = c .before .before .before .before .before .before .before .if1 .left in let s = c .before .before .before .before .before .before .before .before .before .before .before .before .loop .st in let x = c .before .before .before .before .before .before .before .before .before .decode .result .what in
+    let i = in-range t k in i .at-bed
 
 stop-requires-8 : tie.Need-stop-requires-8 Inv-loop μ-loop
 stop-requires-8 c κs = search needs
@@ -250,7 +257,8 @@ put-requires-2 c κs = let t = turned (c .before .before .before .before .before
     let i = in-range t k in i .at-bed
 
 attach-requires-2 : tie.Need-attach-requires-2 Inv-loop μ-loop
-attach-requires-2 c κs = search needs
+attach-requires-2 c κs = let t = turned (c .before .before .before .before .before .before .before .before .before .before .before .before .before .before .before .loop-test .taken) (c .before .before .before .before .before .before .before .before .before .before .before .before .before .before .before .before .loop .inv .1) (c .before .before .before .before .before .before .before .before .before .before .before .before .before .decode .ensures) in let k = c .before .before .before .before .before .before .before .before .before .before .before .if1 .left in let s = c .before .before .before .before .before .before .before .before .before .before .before .before .before .before .before .before .loop .st in let x = c .before .before .before .before .before .before .before .before .before .before .before .before .before .decode .result .what in
+    let i = in-range t k in i .at-bed
 
 mul-then-5 : tie.Need-mul-then-5 Inv-loop μ-loop
 mul-then-5 c = let t = turned (c .before .before .before .before .before .before .before .before .before .before .before .before .before .before .before .before .loop-test .taken) (c .before .before .before .before .before .before .before .before .before .before .before .before .before .before .before .before .before .loop .inv .1) (c .before .before .before .before .before .before .before .before .before .before .before .before .before .before .decode .ensures) in let k = c .before .before .before .before .before .before .before .before .before .before .before .before .if1 .left in let s = c .before .before .before .before .before .before .before .before .before .before .before .before .before .before .before .before .before .loop .st in let x = c .before .before .before .before .before .before .before .before .before .before .before .before .before .before .decode .result .what in
@@ -276,7 +284,8 @@ element-copy-out-c-6 c = let no = c .before .before .match .rest in let t = turn
     let i = in-range t k in let w = carrier-at i (nine i (no .0 .0 .0 .0 .0 .0 .0 .1) (no .0 .0 .0 .0 .0 .0 .1) (no .0 .0 .0 .0 .0 .1) (no .0 .0 .0 .0 .1) (no .0 .0 .0 .1) (no .0 .0 .1) (no .0 .1) (no .1)) (omega arith) in omega (arith, w .0, w .1)
 
 ready-requires-3 : tie.Need-ready-requires-3 Inv-loop μ-loop
-ready-requires-3 c κs = search needs
+ready-requires-3 c κs = let no = c .before .before .before .match .rest in let t = turned (c .before .before .before .before .before .before .before .before .before .before .before .before .loop-test .taken) (c .before .before .before .before .before .before .before .before .before .before .before .before .before .loop .inv .1) (c .before .before .before .before .before .before .before .before .before .before .decode .ensures) in let k = c .before .before .before .before .before .before .before .before .if1 .left in let s = c .before .before .before .before .before .before .before .before .before .before .before .before .before .loop .st in let x = c .before .before .before .before .before .before .before .before .before .before .decode .result .what in
+    let i = in-range t k in i .at-bed
 
 stop-requires-9 : tie.Need-stop-requires-9 Inv-loop μ-loop
 stop-requires-9 c κs = search needs
@@ -297,7 +306,8 @@ returns-10 c = let no = c .before .before .before .before .before .before .befor
     c .stop10 .ensures ∙ simp (c .before .before .transfer2 .ensures .1, transfer-kept (s .loops) (x .at) (x .to) (s .racking) 1 _ (c .before .before .transfer2 .ensures .0) (c .before .if11 .taken)) (stopped t k _ (split-stopped s x _ (c .before .before .before .before .before .ready3 .ensures) (c .before .before .before .before .if10 .left) _ (nine i (no .0 .0 .0 .0 .0 .0 .0 .1) (no .0 .0 .0 .0 .0 .0 .1) (no .0 .0 .0 .0 .0 .1) (no .0 .0 .0 .0 .1) (no .0 .0 .0 .1) (no .0 .0 .1) (no .0 .1) (no .1)) (c .before .before .transfer2 .ensures .0)) (c .before .if11 .taken))
 
 attach-requires-3 : tie.Need-attach-requires-3 Inv-loop μ-loop
-attach-requires-3 c κs = search needs
+attach-requires-3 c κs = let no = c .before .before .before .before .before .before .before .before .match .rest in let t = turned (c .before .before .before .before .before .before .before .before .before .before .before .before .before .before .before .before .before .loop-test .taken) (c .before .before .before .before .before .before .before .before .before .before .before .before .before .before .before .before .before .before .loop .inv .1) (c .before .before .before .before .before .before .before .before .before .before .before .before .before .before .before .decode .ensures) in let k = c .before .before .before .before .before .before .before .before .before .before .before .before .before .if1 .left in let s = c .before .before .before .before .before .before .before .before .before .before .before .before .before .before .before .before .before .before .loop .st in let x = c .before .before .before .before .before .before .before .before .before .before .before .before .before .before .before .decode .result .what in
+    let i = in-range t k in i .at-bed
 
 any-attached-requires-2 : tie.Need-any-attached-requires-2 Inv-loop μ-loop
 any-attached-requires-2 c κs = search needs

@@ -3,7 +3,7 @@ use borrow.Author.Tests.{eq-eqb, ne-eqb}
 use mathlib.Core.Path.{_≡_, refl, sym, ap, _∙_}
 use native.Mathlib.Omega.{arith}
 use mathlib.Core.Bool.{true, false}
-use mir.Syntax.{w32}
+use mir.Syntax.{w16}
 use lib.IntN.{pos}
 use lib.Dec.{eqb}
 use Rattle.machine.specs.declared.Carrier.{Carrier}
@@ -36,15 +36,15 @@ returns-2 c = simp (eq-eqb _ _ (c .before .before .if1 .left), ne-eqb _ _ (c .if
 
 returns-3 : tie.Need-returns-3
 returns-3 c = let d = c .before .before .before .before .before .before .before .before .before .args .self in
-    slot-no d (c .before .before .before .before .before .if1 .left) (c .before .before .before .if2 .left) (not-bits w32 (d .slot .0) (pos 0) (fits w32 _ (c .before .struct-told .given .0 .1)) (fits w32 (pos 0) (omega arith)) (c .if3 .taken))
+    slot-no d (c .before .before .before .before .before .if1 .left) (c .before .before .before .if2 .left) (not-bits w16 (d .slot .0) (pos 0) (fits w16 _ (c .before .struct-told .given .0 .1)) (fits w16 (pos 0) (omega arith)) (c .if3 .taken))
 
 returns-4 : tie.Need-returns-4
 returns-4 c = let d = c .before .before .before .before .before .before .before .before .before .before .before .args .self in
-    bed-no d (c .before .before .before .before .before .before .before .if1 .left) (c .before .before .before .before .before .if2 .left) (is-bits w32 (d .slot .0) (pos 0) (fits w32 _ (c .before .before .before .struct-told .given .0 .1)) (fits w32 (pos 0) (omega arith)) (c .before .before .if3 .left)) (c .if4 .taken)
+    bed-no d (c .before .before .before .before .before .before .before .if1 .left) (c .before .before .before .before .before .if2 .left) (is-bits w16 (d .slot .0) (pos 0) (fits w16 _ (c .before .before .before .struct-told .given .0 .1)) (fits w16 (pos 0) (omega arith)) (c .before .before .if3 .left)) (c .if4 .taken)
 
 returns-5 : tie.Need-returns-5
 returns-5 c = let d = c .before .before .before .before .before .before .before .before .before .before .before .before .args .self in
-    last d (c .before .before .before .before .before .before .before .before .if1 .left) (c .before .before .before .before .before .before .if2 .left) (is-bits w32 (d .slot .0) (pos 0) (fits w32 _ (c .before .before .before .before .struct-told .given .0 .1)) (fits w32 (pos 0) (omega arith)) (c .before .before .before .if3 .left)) (c .before .if4 .left)
+    last d (c .before .before .before .before .before .before .before .before .if1 .left) (c .before .before .before .before .before .before .if2 .left) (is-bits w16 (d .slot .0) (pos 0) (fits w16 _ (c .before .before .before .before .struct-told .given .0 .1)) (fits w16 (pos 0) (omega arith)) (c .before .before .before .if3 .left)) (c .before .if4 .left)
 
 pub is-inactive-spec : {M : Type 1} → statement M
 is-inactive-spec = tie.close (tie.spec returns returns-2 returns-3 returns-4 returns-5)
