@@ -21,7 +21,7 @@ use Rattle.run.proofs.Bytes.{Refusal, reason-positive}
 use Rattle.run.proofs.Runs.{Ends, runs, run-steps, steps-lengths}
 
 -- ---- a program that is not too long, and one that is
-short-run : (p : List ℕ) → length p ≤ 32768 → runOf p ≡ answerOf (runFrom 0 p 0 emptyState)
+pub short-run : (p : List ℕ) → length p ≤ 32768 → runOf p ≡ answerOf (runFrom 0 p 0 emptyState)
 unfolding runOf
 short-run p h = simp (le-leb (length p) 32768 h)
 

@@ -2,7 +2,8 @@
 use mathlib.Core.Path.{ap}
 use Rattle.run.specs.declared.Answer.{Answer}
 use Rattle.run.specs.Run.{answerOf}
-use Rattle.run.specs.Claims.{AcceptsExactlyValid, GivesFinalState, TooLongExactly, TooLongAnswer, RefusesFirst, PlaceIsSmall, CompleteIsEmpty}
+use Rattle.run.specs.Claims.{AcceptsExactlyValid, GivesFinalState, TooLongExactly, TooLongAnswer, RefusesFirst, RefusalIsOne, PlaceIsSmall, CompleteIsEmpty}
+use Rattle.run.proofs.Unique.{one-refusal}
 use Rattle.run.proofs.Answers.{long-run, valid-run, answered, accepted, one-long, first-refusal, place-small, complete-empty}
 
 pub final : GivesFinalState
@@ -20,6 +21,12 @@ too-long p = (one-long (answered p), λ h. ap (λ (a : Answer). a .number) (too-
 
 pub refuses : RefusesFirst
 refuses p = first-refusal (answered p)
+
+pub one-answer : RefusalIsOne
+unfolding answerOf
+one-answer p a h f =
+    let e = one-refusal p a h f in
+    (ap (λ (b : Answer). b .number) e, ap (λ (b : Answer). b .place) e, ap (λ (b : Answer). b .state) e)
 
 pub complete : CompleteIsEmpty
 complete p = complete-empty (answered p)

@@ -9,4 +9,5 @@ pub mod Least
 pub mod Bytes
 pub mod Runs
 pub mod Answers
+pub mod Unique
 pub mod Demand

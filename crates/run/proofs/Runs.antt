@@ -20,13 +20,13 @@ use Rattle.run.proofs.Sound.{step-only, step-sound}
 use Rattle.run.proofs.Bytes.{Refusal, bytes-refusal, step-refusal}
 
 -- what becomes of a list with a byte: refused by its bytes, refused by its step, or gone on with
-data Turns (l : List ℕ) (at : ℕ) (s : State) : Reached → Type 0 where
+pub data Turns (l : List ℕ) (at : ℕ) (s : State) : Reached → Type 0 where
   unread : (decodeOf l .number ≡ 0 → ⊥) → Turns l at s (reached (decodeOf l .number) at s)
   stopped : decodeOf l .number ≡ 0 → (numberAt s (decodeOf l .what) ≡ 0 → ⊥) → Turns l at s (reached (numberAt s (decodeOf l .what)) at s)
   passed : decodeOf l .number ≡ 0 → numberAt s (decodeOf l .what) ≡ 0
       → Turns l at s (runFrom 0 (drop (decodeOf l .size) l) (at + decodeOf l .size) (applyOf s (decodeOf l .what)))
 
-turns : (b : ℕ) (l : List ℕ) (at : ℕ) (s : State) → Turns (b ∷ l) at s (runFrom 0 (b ∷ l) at s)
+pub turns : (b : ℕ) (l : List ℕ) (at : ℕ) (s : State) → Turns (b ∷ l) at s (runFrom 0 (b ∷ l) at s)
 turns b l at s =
     is (decodeOf (b ∷ l) .number) 0
     (λ e. is (numberAt s (decodeOf (b ∷ l) .what)) 0 (λ z. rw (run-next (b ∷ l) at s (omega arith) e z) (Turns.passed e z))
@@ -34,7 +34,7 @@ turns b l at s =
     (λ h. rw (run-refused (b ∷ l) at s (omega arith) h) (Turns.unread h))
 
 -- ---- a list of records that have their steps is run to its end
-on-form : {bytes : List ℕ} {x : Record} {s t : State} → Form bytes x → Step s x t → (rest : List ℕ) (at : ℕ) → runFrom 0 (bytes ++ rest) at s ≡ runFrom 0 rest (at + length bytes) t
+pub on-form : {bytes : List ℕ} {x : Record} {s t : State} → Form bytes x → Step s x t → (rest : List ℕ) (at : ℕ) → runFrom 0 (bytes ++ rest) at s ≡ runFrom 0 rest (at + length bytes) t
 on-form {bytes} {x} {s} {t} form step rest at =
     let e = form-decode form rest in
     let (z, u) = step-only s x (form-in form) step in

@@ -49,6 +49,11 @@ pub record FirstRefusal (p : List ℕ) (a : Answer) : Type 0 where
 abbrev pub RefusesFirst : Type 0
 RefusesFirst = (p : List ℕ) → length p ≤ 32768 → (runOf p .number ≡ 0 → ⊥) → FirstRefusal p (runOf p)
 
+-- nothing is left to choose: number, place and state of a first refusal are the run's
+abbrev pub RefusalIsOne : Type 0
+RefusalIsOne =
+    (p : List ℕ) (a : Answer) → length p ≤ 32768 → FirstRefusal p a → (runOf p .number ≡ a .number) × (runOf p .place ≡ a .place) × (runOf p .state ≡ a .state)
+
 -- a place lies within the longest program, so that number and place go into one word
 abbrev pub PlaceIsSmall : Type 0
 PlaceIsSmall = (p : List ℕ) → runOf p .place < 32768
