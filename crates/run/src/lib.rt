@@ -1,8 +1,6 @@
 // The step of a record and the run of a program, with the refusals 1 and 3 to 11.
 ghost use mathlib.Core.Path.{_≡_};
-ghost use mathlib.Core.Bool.{cond};
-ghost use Prim.Native.Nat.{_+_, _-_, _≤_, _<_};
-ghost use lib.Dec.{eqb};
+ghost use Prim.Native.Nat.{_<_};
 ghost use lib.ListN.{getD, set};
 ghost use Rattle.machine.specs.Machine.{OnBed, hookOf};
 ghost use Rattle.machine.specs.Geometry.{columnOf, entryOf, exitOf};
@@ -38,6 +36,7 @@ pub struct Stepped {
     pub state: State,
 }
 
+// The numbers of refusals, besides those of the bytes (crate record).
 pub const TOO_LONG: u8 = 1;
 
 pub const ALREADY_IN: u8 = 6;
@@ -52,7 +51,7 @@ pub const NOT_OPPOSITE: u8 = 10;
 
 pub const HOOK_FULL: u8 = 11;
 
-// Whether the carrier is parked at the slot: 0, or 7 or 8.
+// Whether the carrier is parked at the slot: 0, or 7 or 8. (The racking is for the contract alone.)
 fn parked(c: Carrier, z: Slot, r: Racking) -> u8
     ensures { λ n. ⌜ n ≡ parkedNo (lookOf r c) z ⌝ }
 {
@@ -205,11 +204,14 @@ pub fn run_from(state: State, program: &[u8]) -> Reached
         let n = x.at;
         let r = st.racking;
         match kind {
+            // rack
             1 => {
                 let z = x.racking;
                 st.racking = z;
             }
+            // drop
             2 => put(&mut st.loops, n, 0),
+            // xfer
             3 => {
                 let m = x.to;
                 let number = transfer(&mut st.loops, n, m, r, 0);
@@ -222,6 +224,7 @@ pub fn run_from(state: State, program: &[u8]) -> Reached
                     st.carriers = ds;
                 }
             }
+            // in
             4 => {
                 let k = (x.carrier as usize) - 1;
                 let c = st.carriers[k];
@@ -231,6 +234,7 @@ pub fn run_from(state: State, program: &[u8]) -> Reached
                 let then = enter(n, r, x.right);
                 st.carriers[k] = then;
             }
+            // out
             5 => {
                 let k = (x.carrier as usize) - 1;
                 let c = st.carriers[k];
@@ -241,6 +245,7 @@ pub fn run_from(state: State, program: &[u8]) -> Reached
                 let then = Carrier::inactive();
                 st.carriers[k] = then;
             }
+            // miss
             6 => {
                 let k = (x.carrier as usize) - 1;
                 let c = st.carriers[k];
@@ -251,6 +256,7 @@ pub fn run_from(state: State, program: &[u8]) -> Reached
                 let then = pass(c, n, r, x.right);
                 st.carriers[k] = then;
             }
+            // tuck
             7 => {
                 let k = (x.carrier as usize) - 1;
                 let c = st.carriers[k];
@@ -265,6 +271,7 @@ pub fn run_from(state: State, program: &[u8]) -> Reached
                 let then = attach(n, r, x.right);
                 st.carriers[k] = then;
             }
+            // knit
             8 => {
                 let k = (x.carrier as usize) - 1;
                 let c = st.carriers[k];
@@ -276,6 +283,7 @@ pub fn run_from(state: State, program: &[u8]) -> Reached
                 let then = attach(n, r, x.right);
                 st.carriers[k] = then;
             }
+            // split
             _ => {
                 let m = x.to;
                 let k = (x.carrier as usize) - 1;
