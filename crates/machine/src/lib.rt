@@ -46,6 +46,9 @@ impl State {
     pub const HOOKS: usize = 500;
 
     pub const CARRIERS: usize = 10;
+    // the last needle of a bed and the last carrier, as the format names them
+    pub const NEEDLE_MOST: u8 = 249;
+    pub const CARRIER_MOST: u8 = 10;
     // the furthest racking to the left and to the right
     pub const RACKING_LEAST: i8 = -8;
 

@@ -1,12 +1,12 @@
 -- What the range tests say. Assumes nothing.
 use Prim.Native.Nat.{ℕ, _≤_, _<_}
-use mathlib.Core.Path.{_≡_}
+use mathlib.Core.Path.{_≡_, _∙_}
 use mathlib.Core.Bool.{true, _&&_}
 use native.Mathlib.Omega.{arith}
 use lib.Dec.{leb}
-use borrow.Author.Tests.{leb-true}
+use borrow.Author.Tests.{leb-true, le-leb, ne-eqb}
 use Rattle.machine.proofs.Laws.{and-two}
-use Rattle.record.specs.Format.{needleOk, numberOk, workOk}
+use Rattle.record.specs.Format.{sizeOf, needleOk, numberOk, workOk}
 
 pub needle-bed : (bed n : ℕ) → needleOk bed n ≡ true → bed ≤ 1
 unfolding needleOk
@@ -39,3 +39,9 @@ module _ (right bed n k : ℕ) (e : workOk right bed n k ≡ true) where
 
 pub four : (k : ℕ) → 1 ≤ k → (k ≡ 1 → ⊥) → (k ≡ 2 → ⊥) → (k ≡ 3 → ⊥) → 4 ≤ k
 four k h a b d = omega arith
+
+-- kinds 4 to 8 have a four-byte body
+pub work-size : (k : ℕ) {n : ℕ} → 4 ≤ k → k ≤ 8 → n ≡ sizeOf k → n ≡ 5
+unfolding sizeOf
+work-size k h j e =
+    e ∙ simp (ne-eqb k 1 (λ q. omega arith), ne-eqb k 2 (λ q. omega arith), ne-eqb k 3 (λ q. omega arith), le-leb 4 k h, le-leb k 8 j)

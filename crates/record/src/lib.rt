@@ -1,8 +1,8 @@
 // The byte format: the kinds and lengths of records, their fields, and a record decoded.
 ghost use mathlib.Core.Path.{_≡_};
-ghost use Prim.Native.Nat.{_<_};
+ghost use Prim.Native.Nat.{_≤_, _<_};
 ghost use lib.ListN.{length, getD};
-ghost use Rattle.record.specs.Format.{signedOf, needleOk, workOk, refusedAs, whole, rackAt, dropAt, xferAt, workAt, splitAt, decodeOf};
+ghost use Rattle.record.specs.Format.{sizeOf, signedOf, needleOk, workOk, refusedAs, whole, rackAt, dropAt, xferAt, workAt, splitAt, decodeOf};
 use machine::Needle;
 use machine::Racking;
 use machine::State;
@@ -25,16 +25,26 @@ pub struct Decoded {
     pub what: Record,
 }
 
-// The greatest needle and carrier that a byte names, and the refusals.
-const NEEDLE_MOST: u8 = 249;
-
-const CARRIER_MOST: u8 = 10;
-
+// The numbers of refusals.
 pub const UNKNOWN_KIND: u8 = 3;
 
 pub const CUT_SHORT: u8 = 4;
 
 pub const FIELD_RANGE: u8 = 5;
+
+// The whole length of a record of this kind, 0 for an unknown kind.
+pub fn size_of(kind: u8) -> usize
+    ensures { λ n. ⌜ n ≡ sizeOf kind ⌝ }
+{
+    match kind {
+        1 => 2,
+        2 => 3,
+        3 => 4,
+        4..=8 => 5,
+        9 => 6,
+        _ => 0,
+    }
+}
 
 // A byte in two's complement.
 fn signed(b: u8) -> i8
@@ -78,7 +88,8 @@ fn refused(number: u8) -> Decoded
 fn rack(l: &[u8]) -> Decoded
     ensures { λ d. ⌜ d ≡ whole (now (l .entry)) 2 (rackAt (now (l .entry))) ⌝ }
 {
-    if l.len() < 2 {
+    let size = size_of(1);
+    if l.len() < size {
         return refused(CUT_SHORT);
     }
     let z = signed(byte(l, 1));
@@ -100,7 +111,7 @@ fn rack(l: &[u8]) -> Decoded
     };
     Decoded {
         number: 0,
-        size: 2,
+        size,
         what,
     }
 }
@@ -111,7 +122,7 @@ fn needle_ok(bed: u8, n: u8) -> bool
     if 1 < bed {
         return false;
     }
-    n <= NEEDLE_MOST
+    n <= State::NEEDLE_MOST
 }
 
 fn work_ok(right: u8, bed: u8, n: u8, k: u8) -> bool
@@ -126,14 +137,15 @@ fn work_ok(right: u8, bed: u8, n: u8, k: u8) -> bool
     if k < 1 {
         return false;
     }
-    k <= CARRIER_MOST
+    k <= State::CARRIER_MOST
 }
 
 // Drop: bed, needle.
 fn drop(l: &[u8]) -> Decoded
     ensures { λ d. ⌜ d ≡ whole (now (l .entry)) 3 (dropAt (now (l .entry))) ⌝ }
 {
-    if l.len() < 3 {
+    let size = size_of(2);
+    if l.len() < size {
         return refused(CUT_SHORT);
     }
     let bed = byte(l, 1);
@@ -152,7 +164,7 @@ fn drop(l: &[u8]) -> Decoded
     };
     Decoded {
         number: 0,
-        size: 3,
+        size,
         what,
     }
 }
@@ -161,7 +173,8 @@ fn drop(l: &[u8]) -> Decoded
 fn xfer(l: &[u8]) -> Decoded
     ensures { λ d. ⌜ d ≡ whole (now (l .entry)) 4 (xferAt (now (l .entry))) ⌝ }
 {
-    if l.len() < 4 {
+    let size = size_of(3);
+    if l.len() < size {
         return refused(CUT_SHORT);
     }
     let bed = byte(l, 1);
@@ -170,7 +183,7 @@ fn xfer(l: &[u8]) -> Decoded
     if !needle_ok(bed, n) {
         return refused(FIELD_RANGE);
     }
-    if NEEDLE_MOST < m {
+    if State::NEEDLE_MOST < m {
         return refused(FIELD_RANGE);
     }
     let at = Needle(bed as u16, n as u16);
@@ -185,16 +198,18 @@ fn xfer(l: &[u8]) -> Decoded
     };
     Decoded {
         number: 0,
-        size: 4,
+        size,
         what,
     }
 }
 
 // In, out, miss, tuck and knit: direction, bed, needle, carrier.
 fn work(kind: u8, l: &[u8]) -> Decoded
+    requires { ⌜ (4 ≤ kind) × (kind ≤ 8) ⌝ }
     ensures { λ d. ⌜ d ≡ whole (now (l .entry)) 5 (workAt kind (now (l .entry))) ⌝ }
 {
-    if l.len() < 5 {
+    let size = size_of(kind);
+    if l.len() < size {
         return refused(CUT_SHORT);
     }
     let right = byte(l, 1);
@@ -215,7 +230,7 @@ fn work(kind: u8, l: &[u8]) -> Decoded
     };
     Decoded {
         number: 0,
-        size: 5,
+        size,
         what,
     }
 }
@@ -224,7 +239,8 @@ fn work(kind: u8, l: &[u8]) -> Decoded
 fn split(l: &[u8]) -> Decoded
     ensures { λ d. ⌜ d ≡ whole (now (l .entry)) 6 (splitAt (now (l .entry))) ⌝ }
 {
-    if l.len() < 6 {
+    let size = size_of(9);
+    if l.len() < size {
         return refused(CUT_SHORT);
     }
     let right = byte(l, 1);
@@ -235,7 +251,7 @@ fn split(l: &[u8]) -> Decoded
     if !work_ok(right, bed, n, k) {
         return refused(FIELD_RANGE);
     }
-    if NEEDLE_MOST < m {
+    if State::NEEDLE_MOST < m {
         return refused(FIELD_RANGE);
     }
     let at = Needle(bed as u16, n as u16);
@@ -250,7 +266,7 @@ fn split(l: &[u8]) -> Decoded
     };
     Decoded {
         number: 0,
-        size: 6,
+        size,
         what,
     }
 }

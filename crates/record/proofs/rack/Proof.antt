@@ -13,7 +13,7 @@ use mir.Syntax.{w8}
 use mir.Val.{toZ, ofZ}
 use Rattle.record.specs.declared.Decoded.{Decoded}
 use Rattle.machine.proofs.Signed.{back, abs-in, ltZ-true, ltZ-false}
-use Rattle.record.specs.Format.{byte, signedOf, rackOk, rackRecord, refusedAs, ranged, whole, rackAt}
+use Rattle.record.specs.Format.{sizeOf, byte, signedOf, rackOk, rackRecord, refusedAs, ranged, whole, rackAt}
 use Rattle.record.proofs.rack.Statement.{statement}
 use Rattle.record.proofs.rack.Tie as tie
 
@@ -31,15 +31,19 @@ module _ (l : List ℕ) (b : ℕ) (z : ℤ) (e : b ≡ byte l 1) (s : z ≡ sign
     unfolding whole ranged rackOk
     in-range t = simp (le-ltb _ _ h, ← e, ← s) (simp (abs-in 7 z, ltZ-false z (negsuc 7) f, ltZ-false (pos 8) z t))
 
+size-of-requires : tie.Need-size-of-requires
+size-of-requires c κs = search needs
+
 refused-requires : tie.Need-refused-requires
 refused-requires c κs = search needs
 
 returns : tie.Need-returns
-unfolding whole
-returns c = simp (c .refused .ensures, lt-ltb _ _ (c .before .if1 .taken))
+unfolding whole sizeOf
+returns c = let e : c .before .before .size-of .result ≡ 2 = c .before .before .size-of .ensures in simp (c .refused .ensures, lt-ltb _ _ (simp e at (c .before .if1 .taken)))
 
 byte-requires : tie.Need-byte-requires
-byte-requires c κs = search needs
+unfolding sizeOf
+byte-requires c κs = let e : c .before .size-of .result ≡ 2 = c .before .size-of .ensures in omega (arith, c .if1 .left)
 
 signed-requires : tie.Need-signed-requires
 signed-requires c κs = search needs
@@ -48,24 +52,28 @@ refused-requires-2 : tie.Need-refused-requires-2
 refused-requires-2 c κs = search needs
 
 returns-2 : tie.Need-returns-2
-returns-2 c = let z = c .before .before .signed .result in let k = c .before .before .signed .ok in
-    c .refused2 .ensures ∙ low (c .before .before .before .before .before .before .args .l .now) (c .before .before .before .byte .result) z (c .before .before .before .byte .ensures) (c .before .before .signed .ensures) (c .before .before .before .before .if1 .left) (simp (back w8 z k) at (c .before .if2 .taken))
+unfolding sizeOf
+returns-2 c = let e : c .before .before .before .before .before .size-of .result ≡ 2 = c .before .before .before .before .before .size-of .ensures in let z = c .before .before .signed .result in let k = c .before .before .signed .ok in
+    c .refused2 .ensures ∙ low (c .before .before .before .before .before .before .before .args .l .now) (c .before .before .before .byte .result) z (c .before .before .before .byte .ensures) (c .before .before .signed .ensures) (simp e at (c .before .before .before .before .if1 .left)) (simp (back w8 z k) at (c .before .if2 .taken))
 
 refused-requires-3 : tie.Need-refused-requires-3
 refused-requires-3 c κs = search needs
 
 returns-3 : tie.Need-returns-3
-returns-3 c = let z = c .before .before .before .signed .result in let k = c .before .before .before .signed .ok in
-    c .refused3 .ensures ∙ over (c .before .before .before .before .before .before .before .args .l .now) (c .before .before .before .before .byte .result) z (c .before .before .before .before .byte .ensures) (c .before .before .before .signed .ensures) (c .before .before .before .before .before .if1 .left) (simp (back w8 z k) at (c .before .before .if2 .left)) (simp (back w8 z k) at (c .before .if3 .taken))
+unfolding sizeOf
+returns-3 c = let e : c .before .before .before .before .before .before .size-of .result ≡ 2 = c .before .before .before .before .before .before .size-of .ensures in let z = c .before .before .before .signed .result in let k = c .before .before .before .signed .ok in
+    c .refused3 .ensures ∙ over (c .before .before .before .before .before .before .before .before .args .l .now) (c .before .before .before .before .byte .result) z (c .before .before .before .before .byte .ensures) (c .before .before .before .signed .ensures) (simp e at (c .before .before .before .before .before .if1 .left)) (simp (back w8 z k) at (c .before .before .if2 .left)) (simp (back w8 z k) at (c .before .if3 .taken))
 
 returns-4 : tie.Need-returns-4
-returns-4 c = let z = c .before .before .signed .result in let k = c .before .before .signed .ok in
-    simp (back w8 z k) (in-range (c .before .before .before .before .before .before .args .l .now) (c .before .before .before .byte .result) z (c .before .before .before .byte .ensures) (c .before .before .signed .ensures) (c .before .before .before .before .if1 .left) (simp (back w8 z k) at (c .before .if2 .left)) (simp (back w8 z k) at (c .if3 .left)))
+unfolding sizeOf
+returns-4 c = let e : c .before .before .before .before .before .size-of .result ≡ 2 = c .before .before .before .before .before .size-of .ensures in let z = c .before .before .signed .result in let k = c .before .before .signed .ok in
+    simp (back w8 z k, e) (in-range (c .before .before .before .before .before .before .before .args .l .now) (c .before .before .before .byte .result) z (c .before .before .before .byte .ensures) (c .before .before .signed .ensures) (simp e at (c .before .before .before .before .if1 .left)) (simp (back w8 z k) at (c .before .if2 .left)) (simp (back w8 z k) at (c .if3 .left)))
 
 pub rack-spec : {M : Type 1} → statement M
 rack-spec =
     tie.close
     (tie.spec
+    size-of-requires
     refused-requires
     returns
     byte-requires

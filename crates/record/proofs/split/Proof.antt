@@ -1,5 +1,6 @@
 -- The fields in range, or refused. Assumes nothing.
 use borrow.Author.Needs.{needs}
+use native.Mathlib.Omega.{arith}
 use borrow.Author.Tests.{eq-eqb, ne-eqb, le-leb, lt-leb, lt-ltb, le-ltb, not-true, not-false}
 use mathlib.Core.Path.{_≡_, refl, sym, ap, _∙_}
 use Prim.Native.Nat.{ℕ, _-_, _≤_}
@@ -8,7 +9,7 @@ use mathlib.Core.List.{List}
 use lib.Dec.{eqb}
 use lib.ListN.{length}
 use Rattle.record.specs.declared.Decoded.{Decoded}
-use Rattle.record.specs.Format.{byte, needle, workOk, splitRecord, whole, ranged, splitAt}
+use Rattle.record.specs.Format.{byte, needle, workOk, splitRecord, sizeOf, whole, ranged, splitAt}
 use Rattle.record.proofs.Ranges.{work-bed}
 use Rattle.record.proofs.split.Statement.{statement}
 use Rattle.record.proofs.split.Tie as tie
@@ -19,27 +20,35 @@ module _ (l : List ℕ) (right bed n k m : ℕ) (b1 : right ≡ byte l 1) (b2 : 
   unfolding whole ranged
   in-range h w f = simp (le-ltb _ _ h, ← b1, ← b2, ← b3, ← b4, ← b5, w, le-leb _ _ f)
 
+size-of-requires : tie.Need-size-of-requires
+size-of-requires c κs = search needs
+
 refused-requires : tie.Need-refused-requires
 refused-requires c κs = search needs
 
 returns : tie.Need-returns
-unfolding whole
-returns c = simp (c .refused .ensures, lt-ltb _ _ (c .before .if1 .taken))
+unfolding whole sizeOf
+returns c = let e : c .before .before .size-of .result ≡ 6 = c .before .before .size-of .ensures in simp (c .refused .ensures, lt-ltb _ _ (simp e at (c .before .if1 .taken)))
 
 byte-requires : tie.Need-byte-requires
-byte-requires c κs = search needs
+unfolding sizeOf
+byte-requires c κs = let e : c .before .size-of .result ≡ 6 = c .before .size-of .ensures in omega (arith, c .if1 .left)
 
 byte-requires-2 : tie.Need-byte-requires-2
-byte-requires-2 c κs = search needs
+unfolding sizeOf
+byte-requires-2 c κs = let e : c .before .before .size-of .result ≡ 6 = c .before .before .size-of .ensures in omega (arith, c .before .if1 .left)
 
 byte-requires-3 : tie.Need-byte-requires-3
-byte-requires-3 c κs = search needs
+unfolding sizeOf
+byte-requires-3 c κs = let e : c .before .before .before .size-of .result ≡ 6 = c .before .before .before .size-of .ensures in omega (arith, c .before .before .if1 .left)
 
 byte-requires-4 : tie.Need-byte-requires-4
-byte-requires-4 c κs = search needs
+unfolding sizeOf
+byte-requires-4 c κs = let e : c .before .before .before .before .size-of .result ≡ 6 = c .before .before .before .before .size-of .ensures in omega (arith, c .before .before .before .if1 .left)
 
 byte-requires-5 : tie.Need-byte-requires-5
-byte-requires-5 c κs = search needs
+unfolding sizeOf
+byte-requires-5 c κs = let e : c .before .before .before .before .before .size-of .result ≡ 6 = c .before .before .before .before .before .size-of .ensures in omega (arith, c .before .before .before .before .if1 .left)
 
 work-ok-requires : tie.Need-work-ok-requires
 work-ok-requires c κs = search needs
@@ -48,39 +57,42 @@ refused-requires-2 : tie.Need-refused-requires-2
 refused-requires-2 c κs = search needs
 
 returns-2 : tie.Need-returns-2
-unfolding whole ranged
-returns-2 c = simp (c .refused2 .ensures, le-ltb _ _ (c .before .before .before .before .before .before .before .before .if1 .left), ← c .before .before .before .byte5 .ensures, ← c .before .before .before .before .byte4 .ensures, ← c .before .before .before .before .before .byte3 .ensures, ← c .before .before .before .before .before .before .byte2 .ensures, ← c .before .before .before .before .before .before .before .byte .ensures, ← c .before .before .work-ok .ensures, not-true (c .before .before .work-ok .result) (c .before .if2 .taken))
+unfolding whole ranged sizeOf
+returns-2 c = let e : c .before .before .before .before .before .before .before .before .before .size-of .result ≡ 6 = c .before .before .before .before .before .before .before .before .before .size-of .ensures in simp (c .refused2 .ensures, le-ltb _ _ (simp e at (c .before .before .before .before .before .before .before .before .if1 .left)), ← c .before .before .before .byte5 .ensures, ← c .before .before .before .before .byte4 .ensures, ← c .before .before .before .before .before .byte3 .ensures, ← c .before .before .before .before .before .before .byte2 .ensures, ← c .before .before .before .before .before .before .before .byte .ensures, ← c .before .before .work-ok .ensures, not-true (c .before .before .work-ok .result) (c .before .if2 .taken))
 
 refused-requires-3 : tie.Need-refused-requires-3
 refused-requires-3 c κs = search needs
 
 returns-3 : tie.Need-returns-3
-unfolding whole ranged
-returns-3 c = simp (c .refused3 .ensures, le-ltb _ _ (c .before .before .before .before .before .before .before .before .before .if1 .left), ← c .before .before .before .before .byte5 .ensures, ← c .before .before .before .before .before .byte4 .ensures, ← c .before .before .before .before .before .before .byte3 .ensures, ← c .before .before .before .before .before .before .before .byte2 .ensures, ← c .before .before .before .before .before .before .before .before .byte .ensures, ← c .before .before .before .work-ok .ensures, not-false (c .before .before .before .work-ok .result) (c .before .before .if2 .left), lt-leb _ _ (c .before .if3 .taken))
-
-cast-t13 : tie.Need-cast-t13
-cast-t13 c = search needs
+unfolding whole ranged sizeOf
+returns-3 c = let e : c .before .before .before .before .before .before .before .before .before .before .size-of .result ≡ 6 = c .before .before .before .before .before .before .before .before .before .before .size-of .ensures in simp (c .refused3 .ensures, le-ltb _ _ (simp e at (c .before .before .before .before .before .before .before .before .before .if1 .left)), ← c .before .before .before .before .byte5 .ensures, ← c .before .before .before .before .before .byte4 .ensures, ← c .before .before .before .before .before .before .byte3 .ensures, ← c .before .before .before .before .before .before .before .byte2 .ensures, ← c .before .before .before .before .before .before .before .before .byte .ensures, ← c .before .before .before .work-ok .ensures, not-false (c .before .before .before .work-ok .result) (c .before .before .if2 .left), lt-leb _ _ (c .before .if3 .taken))
 
 cast-t14 : tie.Need-cast-t14
 cast-t14 c = search needs
 
-sub-t15 : tie.Need-sub-t15
-sub-t15 c = work-bed _ _ _ _ (sym (c .before .before .work-ok .ensures) ∙ not-false (c .before .before .work-ok .result) (c .before .if2 .left))
+cast-t15 : tie.Need-cast-t15
+cast-t15 c = search needs
 
-cast-t13-2 : tie.Need-cast-t13-2
-cast-t13-2 c = search needs
+sub-t16 : tie.Need-sub-t16
+sub-t16 c = work-bed _ _ _ _ (sym (c .before .before .work-ok .ensures) ∙ not-false (c .before .before .work-ok .result) (c .before .if2 .left))
 
 cast-t14-2 : tie.Need-cast-t14-2
 cast-t14-2 c = search needs
 
+cast-t15-2 : tie.Need-cast-t15-2
+cast-t15-2 c = search needs
+
 returns-4 : tie.Need-returns-4
-returns-4 c = in-range (c .before .before .before .before .before .before .before .before .before .before .args .l .now) _ _ _ _ _ (c .before .before .before .before .before .before .before .byte .ensures) (c .before .before .before .before .before .before .byte2 .ensures) (c .before .before .before .before .before .byte3 .ensures) (c .before .before .before .before .byte4 .ensures) (c .before .before .before .byte5 .ensures) (c .before .before .before .before .before .before .before .before .if1 .left)
-    (sym (c .before .before .work-ok .ensures) ∙ not-false (c .before .before .work-ok .result) (c .before .if2 .left)) (c .if3 .left)
+unfolding sizeOf
+returns-4 c = let e : c .before .before .before .before .before .before .before .before .before .size-of .result ≡ 6 = c .before .before .before .before .before .before .before .before .before .size-of .ensures in
+    simp e (in-range (c .before .before .before .before .before .before .before .before .before .before .before .args .l .now) _ _ _ _ _ (c .before .before .before .before .before .before .before .byte .ensures) (c .before .before .before .before .before .before .byte2 .ensures) (c .before .before .before .before .before .byte3 .ensures) (c .before .before .before .before .byte4 .ensures) (c .before .before .before .byte5 .ensures) (simp e at (c .before .before .before .before .before .before .before .before .if1 .left))
+    (sym (c .before .before .work-ok .ensures) ∙ not-false (c .before .before .work-ok .result) (c .before .if2 .left)) (c .if3 .left))
 
 pub split-spec : {M : Type 1} → statement M
 split-spec =
     tie.close
     (tie.spec
+    size-of-requires
     refused-requires
     returns
     byte-requires
@@ -93,9 +105,9 @@ split-spec =
     returns-2
     refused-requires-3
     returns-3
-    cast-t13
     cast-t14
-    sub-t15
-    cast-t13-2
+    cast-t15
+    sub-t16
     cast-t14-2
+    cast-t15-2
     returns-4)

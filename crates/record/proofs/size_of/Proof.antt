@@ -1,0 +1,43 @@
+-- The length of each kind. Assumes nothing.
+use native.Mathlib.Omega.{arith}
+use mathlib.Core.Path.{_≡_, refl, sym, ap, _∙_}
+use borrow.Author.Tests.{eq-eqb, ne-eqb, le-leb, lt-leb, lt-ltb, le-ltb, not-true, not-false}
+use Prim.Native.Nat.{ℕ, _≤_}
+use Rattle.record.specs.Format.{sizeOf}
+use Rattle.record.proofs.Ranges.{four}
+use Rattle.record.proofs.size_of.Statement.{statement}
+use Rattle.record.proofs.size_of.Tie as tie
+
+returns : tie.Need-returns
+unfolding sizeOf
+returns c = simp (c .match .keys1)
+
+returns-2 : tie.Need-returns-2
+unfolding sizeOf
+returns-2 c = simp (c .match .keys2)
+
+returns-3 : tie.Need-returns-3
+unfolding sizeOf
+returns-3 c = simp (c .match .keys3)
+
+returns-4 : tie.Need-returns-4
+unfolding sizeOf
+returns-4 c = simp (c .match .keys4)
+
+returns-5 : tie.Need-returns-5
+unfolding sizeOf
+returns-5 c = let k = c .before .before .before .args .kind in let no = c .before .before .match .rest in
+    simp (ne-eqb k 1 (no .0 .0 .0 .1), ne-eqb k 2 (no .0 .0 .1), ne-eqb k 3 (no .0 .1), le-leb 4 k (four k (c .before .if1 .left) (no .0 .0 .0 .1) (no .0 .0 .1) (no .0 .1)), le-leb k 8 (omega (arith, c .if2 .taken)))
+
+returns-6 : tie.Need-returns-6
+unfolding sizeOf
+returns-6 c = let h : c .before .before .args .kind ≡ 0 = omega (arith, c .if1 .taken) in simp h
+
+returns-7 : tie.Need-returns-7
+unfolding sizeOf
+returns-7 c = let k = c .before .before .before .args .kind in let no = c .before .before .match .rest in
+    simp (ne-eqb k 1 (no .0 .0 .0 .1), ne-eqb k 2 (no .0 .0 .1), ne-eqb k 3 (no .0 .1), ne-eqb k 9 (no .1), lt-leb k 8 (omega arith), le-leb 4 k (omega arith))
+
+pub size-of-spec : {M : Type 1} → statement M
+size-of-spec =
+    tie.close (tie.spec returns returns-2 returns-3 returns-4 returns-5 returns-6 returns-7)
