@@ -20,7 +20,7 @@ use mir.Syntax.{w16, w32}
 use mir.Val.{SFits, toZ, ofZ}
 use mir.Facts.{toZ-ofZ}
 use Rattle.machine.specs.Geometry.{columnOf, eqZ}
-use Rattle.machine.specs.Machine.{OnBed, all, attachedAt, movedTo, noLoops, noneActive, inactive, inactiveCarrier, emptyState, completeOf}
+use Rattle.machine.specs.Machine.{OnBed, all, attachedAt, movedTo, noLoops, allInactive, inactive, inactiveCarrier, emptyState, completeOf}
 use Rattle.machine.proofs.Signed.{mag-sum, eqZ-true, back, fits, fits-sum, cast-back}
 
 -- how far a column reaches
@@ -114,8 +114,8 @@ same-parts z l k p q r = simp (p, q, r)
 pub complete-is-empty : (s : State) → length (s .loops) ≡ 500 → length (s .carriers) ≡ 10 → completeOf s ≡ true → s ≡ emptyState
 unfolding completeOf
 complete-is-empty s hl hc e =
-    let (r, e1) = and-two (eqZ (s .racking .0) (pos 0)) (noLoops (s .loops) && noneActive (s .carriers)) e in
-    let (l, k) = and-two (noLoops (s .loops)) (noneActive (s .carriers)) e1 in
+    let (r, e1) = and-two (eqZ (s .racking .0) (pos 0)) (noLoops (s .loops) && allInactive (s .carriers)) e in
+    let (l, k) = and-two (noLoops (s .loops)) (allInactive (s .carriers)) e1 in
     same-parts (s .racking .0) (s .loops) (s .carriers) (eqZ-true (s .racking .0) (pos 0) r)
     (all-one (λ (n : ℕ). eqb n 0) 0 (λ n h. eqb-true n 0 h) (s .loops) l ∙ ap (λ (n : ℕ). replicate n 0) hl)
     (all-one inactiveCarrier inactive inactive-is (s .carriers) k ∙ ap (λ (n : ℕ). replicate n inactive) hc)

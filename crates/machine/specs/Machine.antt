@@ -61,8 +61,8 @@ noLoops l = all (λ (n : ℕ). eqb n 0) l
 unfoldable pub inactiveCarrier : Carrier → Bool
 inactiveCarrier c = eqb (c .active) 0 && (eqb (c .side) 0 && (eqZ (c .slot .0) (pos 0) && (eqb (c .needle .0) 0 && eqb (c .needle .1) 0)))
 
-abbrev pub noneActive : List Carrier → Bool
-noneActive l = all inactiveCarrier l
+abbrev pub allInactive : List Carrier → Bool
+allInactive l = all inactiveCarrier l
 
 unfoldable pub completeOf : State → Bool
-completeOf s = eqZ (s .racking .0) (pos 0) && (noLoops (s .loops) && noneActive (s .carriers))
+completeOf s = eqZ (s .racking .0) (pos 0) && (noLoops (s .loops) && allInactive (s .carriers))

@@ -1,7 +1,7 @@
 // The knitting machine: needles, columns, slots, racking, carriers, and the machine state by value.
 ghost use mathlib.Core.Path.{_≡_};
 ghost use mathlib.Core.List.{map};
-ghost use Rattle.machine.specs.Machine.{OnBed, inactive, emptyState, hookOf, sameNeedle, attachedAt, movedTo, anyAttached, noLoops, inactiveCarrier, noneActive, completeOf};
+ghost use Rattle.machine.specs.Machine.{OnBed, inactive, emptyState, hookOf, sameNeedle, attachedAt, movedTo, anyAttached, noLoops, inactiveCarrier, allInactive, completeOf};
 ghost use Rattle.machine.specs.Geometry.{columnOf, entryOf, exitOf, sameColumn, withinFloat};
 
 // A needle by its bed (0 front, 1 back) and its number there: where a program says it is.
@@ -86,7 +86,7 @@ impl State {
             return false;
         }
         let cs = self.carriers;
-        none_active(cs)
+        all_inactive(cs)
     }
 }
 
@@ -236,8 +236,8 @@ pub fn no_loops(loops: &[u8]) -> bool
 }
 
 // Whether no carrier is active.
-pub fn none_active(carriers: [Carrier; State::CARRIERS]) -> bool
-    ensures { λ b. ⌜ b ≡ noneActive carriers ⌝ }
+pub fn all_inactive(carriers: [Carrier; State::CARRIERS]) -> bool
+    ensures { λ b. ⌜ b ≡ allInactive carriers ⌝ }
 {
     let mut k = 0;
     while k < State::CARRIERS {

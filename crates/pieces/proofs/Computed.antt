@@ -14,7 +14,7 @@ use Rattle.machine.specs.declared.State.{State}
 use Rattle.machine.specs.Machine.{inactive, emptyState, completeOf, all, inactiveCarrier, movedTo, attachedAt, sameNeedle}
 use Rattle.machine.specs.Geometry.{eqZ, columnOf, entryOf, exitOf, sameColumn, withinFloat}
 use Rattle.record.specs.Format.{decodeOf, whole, ranged, refusedAs, rackOk, needleOk, workOk, signedOf}
-use Rattle.record.specs.Names.{needlesIn, carriersIn, needlesOf, carriersOf}
+use Rattle.record.specs.Names.{needleCount, carrierCount, needlesOf, carriersOf}
 use Rattle.run.specs.Step.{lookOf, seeOf, parkedNo, floatNo, carrierNo, oppositeNo, firstAfter, secondAfter, roomNo, numberOf, edit, actOf, acted, moveAttachments, rackingAfter, numberAt, applyOf}
 use Rattle.run.specs.Run.{runOf, runFrom, turn, answerOf}
 use Rattle.pieces.specs.Rows.{Row, rows}
@@ -84,7 +84,7 @@ test-says r e =
     }
 
 computed : every test rows ≡ true
-unfolding test hooksTest carriersTest sameBool sameCarrier runOf runFrom turn answerOf emptyState completeOf all inactiveCarrier movedTo attachedAt sameNeedle eqZ columnOf entryOf exitOf sameColumn withinFloat decodeOf whole ranged refusedAs rackOk needleOk workOk signedOf needlesIn carriersIn needlesOf carriersOf lookOf seeOf parkedNo floatNo carrierNo oppositeNo firstAfter secondAfter roomNo numberOf edit actOf acted moveAttachments rackingAfter numberAt applyOf
+unfolding test hooksTest carriersTest sameBool sameCarrier runOf runFrom turn answerOf emptyState completeOf all inactiveCarrier movedTo attachedAt sameNeedle eqZ columnOf entryOf exitOf sameColumn withinFloat decodeOf whole ranged refusedAs rackOk needleOk workOk signedOf needleCount carrierCount needlesOf carriersOf lookOf seeOf parkedNo floatNo carrierNo oppositeNo firstAfter secondAfter roomNo numberOf edit actOf acted moveAttachments rackingAfter numberAt applyOf
 computed = refl
 
 -- the pieces

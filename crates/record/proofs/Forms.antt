@@ -13,9 +13,10 @@ use Rattle.machine.specs.Machine.{OnBed, hookOf}
 use Rattle.machine.proofs.Laws.{and-two}
 use Rattle.record.specs.declared.Record.{Record}
 use Rattle.record.specs.declared.Decoded.{Decoded}
-use Rattle.record.specs.Format.{Form, sizeOf, signedOf, rackOk, numberOk, needleOk, workOk, needle, rackRecord, dropRecord, xferRecord, workRecord, splitRecord}
+use Rattle.record.specs.Format.{Encodes, sizeOf, signedOf, rackOk, numberOk, needleOk, workOk, needle, rackRecord, dropRecord, xferRecord, workRecord, splitRecord}
 use Rattle.record.specs.Format.{byte, refusedAs, ranged, whole, decodeOf}
-use Rattle.record.specs.Names.{needlesIn, InRange}
+use Rattle.record.specs.Names.{needleCount}
+use Rattle.record.proofs.Ranges.{InRange}
 use Rattle.record.proofs.Ranges.{needle-bed, needle-number, work-right, work-bed, work-number, work-low, work-high}
 
 -- a choice by a test
@@ -39,15 +40,15 @@ module _ (bytes rest : List ℕ) (ok : Bool) (x : Record) (some : 0 < length byt
       let long = length-append bytes rest in
       simp (ne-eqb (length (bytes ++ rest)) 0 (λ q. omega arith), le-ltb (length (bytes ++ rest)) (length bytes) (omega arith), in-range)
 
-pub form-decode : {bytes : List ℕ} {x : Record} → Form bytes x → (rest : List ℕ) → decodeOf (bytes ++ rest) ≡ record { number = 0; size = length bytes; what = x }
+pub form-decode : {bytes : List ℕ} {x : Record} → Encodes bytes x → (rest : List ℕ) → decodeOf (bytes ++ rest) ≡ record { number = 0; size = length bytes; what = x }
 unfolding decodeOf rackOk
-form-decode (Form.rack {b = b} h) rest = past (1 ∷ b ∷ []) rest _ _ (omega arith) (le-leb (natAbs (signedOf b)) 8 h)
-form-decode (Form.drop {bed = bed} {n = n} h i) rest = past (2 ∷ bed ∷ n ∷ []) rest _ _ (omega arith) (needle-in bed n h i)
-form-decode (Form.xfer {bed = bed} {n = n} {m = m} h i j) rest = past (3 ∷ bed ∷ n ∷ m ∷ []) rest _ _ (omega arith) (simp (needle-in bed n h i) (le-leb m 249 j))
-form-decode (Form.work {kind = kind} {right = right} {bed = bed} {n = n} {k = k} a b c d e f g) rest =
+form-decode (Encodes.rack {b = b} h) rest = past (1 ∷ b ∷ []) rest _ _ (omega arith) (le-leb (natAbs (signedOf b)) 8 h)
+form-decode (Encodes.drop {bed = bed} {n = n} h i) rest = past (2 ∷ bed ∷ n ∷ []) rest _ _ (omega arith) (needle-in bed n h i)
+form-decode (Encodes.xfer {bed = bed} {n = n} {m = m} h i j) rest = past (3 ∷ bed ∷ n ∷ m ∷ []) rest _ _ (omega arith) (simp (needle-in bed n h i) (le-leb m 249 j))
+form-decode (Encodes.work {kind = kind} {right = right} {bed = bed} {n = n} {k = k} a b c d e f g) rest =
     simp (ne-eqb kind 1 (λ q. omega arith), ne-eqb kind 2 (λ q. omega arith), ne-eqb kind 3 (λ q. omega arith), le-leb 4 kind a, le-leb kind 8 b)
     (past (kind ∷ right ∷ bed ∷ n ∷ k ∷ []) rest _ _ (omega arith) (work-in right bed n k c d e f g))
-form-decode (Form.split {right = right} {bed = bed} {n = n} {k = k} {m = m} c d e f g h) rest =
+form-decode (Encodes.split {right = right} {bed = bed} {n = n} {k = k} {m = m} c d e f g h) rest =
     past (9 ∷ right ∷ bed ∷ n ∷ k ∷ m ∷ []) rest _ _ (omega arith) (simp (work-in right bed n k c d e f g) (le-leb m 249 h))
 
 -- ---- every list of bytes is one of five
@@ -118,44 +119,44 @@ unfolding bytesFrom
 front zero i l h = refl
 front (suc n) i l h = ap (take (suc n)) (drop-cons l i 0 (omega arith)) ∙ ap (λ (t : List ℕ). byte l i ∷ t) (front n (suc i) l (omega arith))
 
-fields-form : {l : List ℕ} {size : ℕ} {ok : Bool} {x : Record} → Fields l size ok x → ok ≡ true → Form (bytesFrom size 0 l) x
+fields-form : {l : List ℕ} {size : ℕ} {ok : Bool} {x : Record} → Fields l size ok x → ok ≡ true → Encodes (bytesFrom size 0 l) x
 unfolding rackOk bytesFrom
-fields-form {l} (Fields.one e) t = rw e (Form.rack (leb-true (natAbs (signedOf (byte l 1))) 8 t))
-fields-form {l} (Fields.two e) t = rw e (Form.drop (needle-bed (byte l 1) (byte l 2) t) (needle-number (byte l 1) (byte l 2) t))
+fields-form {l} (Fields.one e) t = rw e (Encodes.rack (leb-true (natAbs (signedOf (byte l 1))) 8 t))
+fields-form {l} (Fields.two e) t = rw e (Encodes.drop (needle-bed (byte l 1) (byte l 2) t) (needle-number (byte l 1) (byte l 2) t))
 fields-form {l} (Fields.three e) t =
     let (p, q) = and-two (needleOk (byte l 1) (byte l 2)) (numberOk (byte l 3)) t in
-    rw e (Form.xfer (needle-bed (byte l 1) (byte l 2) p) (needle-number (byte l 1) (byte l 2) p) (leb-true (byte l 3) 249 q))
+    rw e (Encodes.xfer (needle-bed (byte l 1) (byte l 2) p) (needle-number (byte l 1) (byte l 2) p) (leb-true (byte l 3) 249 q))
 fields-form {l} (Fields.middle a b) t =
-    Form.work a b (work-right (byte l 1) (byte l 2) (byte l 3) (byte l 4) t) (work-bed (byte l 1) (byte l 2) (byte l 3) (byte l 4) t)
+    Encodes.work a b (work-right (byte l 1) (byte l 2) (byte l 3) (byte l 4) t) (work-bed (byte l 1) (byte l 2) (byte l 3) (byte l 4) t)
     (work-number (byte l 1) (byte l 2) (byte l 3) (byte l 4) t) (work-low (byte l 1) (byte l 2) (byte l 3) (byte l 4) t) (work-high (byte l 1) (byte l 2) (byte l 3) (byte l 4) t)
 fields-form {l} (Fields.nine e) t =
     let (p, q) = and-two (workOk (byte l 1) (byte l 2) (byte l 3) (byte l 4)) (numberOk (byte l 5)) t in
-    rw e (Form.split (work-right (byte l 1) (byte l 2) (byte l 3) (byte l 4) p) (work-bed (byte l 1) (byte l 2) (byte l 3) (byte l 4) p)
+    rw e (Encodes.split (work-right (byte l 1) (byte l 2) (byte l 3) (byte l 4) p) (work-bed (byte l 1) (byte l 2) (byte l 3) (byte l 4) p)
     (work-number (byte l 1) (byte l 2) (byte l 3) (byte l 4) p) (work-low (byte l 1) (byte l 2) (byte l 3) (byte l 4) p) (work-high (byte l 1) (byte l 2) (byte l 3) (byte l 4) p)
     (leb-true (byte l 5) 249 q))
 
 -- what was decoded: its length and its form
-read-done : {l : List ℕ} {d : Decoded} → Reads l d → d .number ≡ 0 → (0 < d .size) × (d .size ≤ length l) × Form (take (d .size) l) (d .what)
+read-done : {l : List ℕ} {d : Decoded} → Reads l d → d .number ≡ 0 → (0 < d .size) × (d .size ≤ length l) × Encodes (take (d .size) l) (d .what)
 unfolding refusedAs
 read-done (Reads.none a) e = absurd (omega arith)
 read-done (Reads.strange a b) e = absurd (omega arith)
 read-done (Reads.short f a b) e = absurd (omega arith)
 read-done (Reads.outside f a b) e = absurd (omega arith)
 read-done {l} (Reads.done {size = size} {x = x} f a b) e =
-    (fields-positive f, a, subst (λ (t : List ℕ). Form t x) (sym (front size 0 l (omega arith))) (fields-form f b))
+    (fields-positive f, a, subst (λ (t : List ℕ). Encodes t x) (sym (front size 0 l (omega arith))) (fields-form f b))
 
 pub decode-size : (l : List ℕ) → decodeOf l .number ≡ 0 → (0 < decodeOf l .size) × (decodeOf l .size ≤ length l)
 decode-size l e = let (a, b, c) = read-done (reads l) e in (a, b)
 
-pub decode-form : (l : List ℕ) → decodeOf l .number ≡ 0 → Form (take (decodeOf l .size) l) (decodeOf l .what)
+pub decode-form : (l : List ℕ) → decodeOf l .number ≡ 0 → Encodes (take (decodeOf l .size) l) (decodeOf l .what)
 decode-form l e = let (a, b, c) = read-done (reads l) e in c
 
 -- ---- its fields are in range
 on-bed : (bed n : ℕ) → bed ≤ 1 → n ≤ 249 → OnBed (needle bed n)
 on-bed bed n a b = record { bed = omega arith; number = omega arith }
 
-work-needles : (k : ℕ) → 4 ≤ k → k ≤ 8 → needlesIn k ≡ 2 → ⊥
-unfolding needlesIn
+work-needles : (k : ℕ) → 4 ≤ k → k ≤ 8 → needleCount k ≡ 2 → ⊥
+unfolding needleCount
 work-needles k a b =
     simp (lt-leb k 1 (omega arith), ne-eqb k 2 (λ q. omega arith), ne-eqb k 3 (λ q. omega arith), le-leb k 8 b)
     (cond-cases (λ (n : ℕ). n ≡ 2 → ⊥) (leb k 6) (λ t e. omega arith) (λ t e. omega arith))
@@ -164,17 +165,17 @@ no-needle : OnBed (needle 0 0)
 no-needle = on-bed 0 0 (omega arith) (omega arith)
 
 in-range : {x : Record} → 1 ≤ x .kind → x .kind ≤ 9 → OnBed (x .at) → OnBed (x .to) → (4 ≤ x .kind → 1 ≤ x .carrier) → x .carrier ≤ 10
-    → (needlesIn (x .kind) ≡ 2 → hookOf (x .at) ≡ hookOf (x .to) → ⊥) → InRange x
+    → (needleCount (x .kind) ≡ 2 → hookOf (x .at) ≡ hookOf (x .to) → ⊥) → InRange x
 in-range a b c d e f g = record { low = a; high = b; at-bed = c; to-bed = d; carrier-low = e; carrier-high = f; beds-differ = g }
 
-pub form-in : {bytes : List ℕ} {x : Record} → Form bytes x → InRange x
-unfolding needlesIn
-form-in (Form.rack h) = in-range (omega arith) (omega arith) no-needle no-needle (λ q. omega arith) (omega arith) (λ p q. omega arith)
-form-in (Form.drop {bed = bed} {n = n} h i) = in-range (omega arith) (omega arith) (on-bed bed n h i) no-needle (λ q. omega arith) (omega arith) (λ p q. omega arith)
-form-in (Form.xfer {bed = bed} {n = n} {m = m} h i j) =
+pub form-in : {bytes : List ℕ} {x : Record} → Encodes bytes x → InRange x
+unfolding needleCount
+form-in (Encodes.rack h) = in-range (omega arith) (omega arith) no-needle no-needle (λ q. omega arith) (omega arith) (λ p q. omega arith)
+form-in (Encodes.drop {bed = bed} {n = n} h i) = in-range (omega arith) (omega arith) (on-bed bed n h i) no-needle (λ q. omega arith) (omega arith) (λ p q. omega arith)
+form-in (Encodes.xfer {bed = bed} {n = n} {m = m} h i j) =
     in-range (omega arith) (omega arith) (on-bed bed n h i) (on-bed (1 - bed) m (omega arith) j) (λ q. omega arith) (omega arith) (λ p q. omega arith)
-form-in (Form.work {kind = kind} {bed = bed} {n = n} a b c d e f g) = in-range (omega arith) (omega arith) (on-bed bed n d e) no-needle (λ q. f) g (λ p q. work-needles kind a b p)
-form-in (Form.split {bed = bed} {n = n} {m = m} c d e f g h) = in-range (omega arith) (omega arith) (on-bed bed n d e) (on-bed (1 - bed) m (omega arith) h) (λ q. f) g (λ p q. omega arith)
+form-in (Encodes.work {kind = kind} {bed = bed} {n = n} a b c d e f g) = in-range (omega arith) (omega arith) (on-bed bed n d e) no-needle (λ q. f) g (λ p q. work-needles kind a b p)
+form-in (Encodes.split {bed = bed} {n = n} {m = m} c d e f g h) = in-range (omega arith) (omega arith) (on-bed bed n d e) (on-bed (1 - bed) m (omega arith) h) (λ q. f) g (λ p q. omega arith)
 
 pub decode-in : (l : List ℕ) → decodeOf l .number ≡ 0 → InRange (decodeOf l .what)
 decode-in l e = form-in (decode-form l e)

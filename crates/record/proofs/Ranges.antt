@@ -1,4 +1,4 @@
--- What the range tests say. Assumes nothing.
+-- What the range tests say, and what holds of every record that bytes encode. Assumes nothing.
 use Prim.Native.Nat.{ℕ, _≤_, _<_}
 use mathlib.Core.Path.{_≡_, _∙_}
 use mathlib.Core.Bool.{true, _&&_}
@@ -6,6 +6,9 @@ use native.Mathlib.Omega.{arith}
 use lib.Dec.{leb}
 use borrow.Author.Tests.{leb-true, le-leb, ne-eqb}
 use Rattle.machine.proofs.Laws.{and-two}
+use Rattle.machine.specs.Machine.{OnBed, hookOf}
+use Rattle.record.specs.declared.Record.{Record}
+use Rattle.record.specs.Names.{needleCount}
 use Rattle.record.specs.Format.{sizeOf, needleOk, numberOk, workOk}
 
 pub needle-bed : (bed n : ℕ) → needleOk bed n ≡ true → bed ≤ 1
@@ -45,3 +48,13 @@ pub work-size : (k : ℕ) {n : ℕ} → 4 ≤ k → k ≤ 8 → n ≡ sizeOf k �
 unfolding sizeOf
 work-size k h j e =
     e ∙ simp (ne-eqb k 1 (λ q. omega arith), ne-eqb k 2 (λ q. omega arith), ne-eqb k 3 (λ q. omega arith), le-leb 4 k h, le-leb k 8 j)
+
+-- what holds of every record that bytes encode
+pub record InRange (x : Record) : Type 0 where
+  pub low : 1 ≤ x .kind
+  pub high : x .kind ≤ 9
+  pub at-bed : OnBed (x .at)
+  pub to-bed : OnBed (x .to)
+  pub carrier-low : 4 ≤ x .kind → 1 ≤ x .carrier
+  pub carrier-high : x .carrier ≤ 10
+  pub beds-differ : needleCount (x .kind) ≡ 2 → hookOf (x .at) ≡ hookOf (x .to) → ⊥

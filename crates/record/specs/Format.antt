@@ -58,14 +58,14 @@ abbrev pub splitRecord : Bool → Needle → ℕ → Needle → Record
 splitRecord right a k b = record { kind = 9; racking = record { 0 = pos 0 }; right = right; at = a; carrier = k; to = b }
 
 -- the bytes of a whole record with its fields in range, and the record they say
-pub data Form : List ℕ → Record → Type 0 where
-  rack : {b : ℕ} → natAbs (signedOf b) ≤ 8 → Form (1 ∷ b ∷ []) (rackRecord (signedOf b))
-  drop : {bed n : ℕ} → bed ≤ 1 → n ≤ 249 → Form (2 ∷ bed ∷ n ∷ []) (dropRecord (needle bed n))
-  xfer : {bed n m : ℕ} → bed ≤ 1 → n ≤ 249 → m ≤ 249 → Form (3 ∷ bed ∷ n ∷ m ∷ []) (xferRecord (needle bed n) (needle (1 - bed) m))
+pub data Encodes : List ℕ → Record → Type 0 where
+  rack : {b : ℕ} → natAbs (signedOf b) ≤ 8 → Encodes (1 ∷ b ∷ []) (rackRecord (signedOf b))
+  drop : {bed n : ℕ} → bed ≤ 1 → n ≤ 249 → Encodes (2 ∷ bed ∷ n ∷ []) (dropRecord (needle bed n))
+  xfer : {bed n m : ℕ} → bed ≤ 1 → n ≤ 249 → m ≤ 249 → Encodes (3 ∷ bed ∷ n ∷ m ∷ []) (xferRecord (needle bed n) (needle (1 - bed) m))
   work : {kind right bed n k : ℕ} → 4 ≤ kind → kind ≤ 8 → right ≤ 1 → bed ≤ 1 → n ≤ 249 → 1 ≤ k → k ≤ 10
-      → Form (kind ∷ right ∷ bed ∷ n ∷ k ∷ []) (workRecord kind (eqb right 1) (needle bed n) k)
+      → Encodes (kind ∷ right ∷ bed ∷ n ∷ k ∷ []) (workRecord kind (eqb right 1) (needle bed n) k)
   split : {right bed n k m : ℕ} → right ≤ 1 → bed ≤ 1 → n ≤ 249 → 1 ≤ k → k ≤ 10 → m ≤ 249
-      → Form (9 ∷ right ∷ bed ∷ n ∷ k ∷ m ∷ []) (splitRecord (eqb right 1) (needle bed n) k (needle (1 - bed) m))
+      → Encodes (9 ∷ right ∷ bed ∷ n ∷ k ∷ m ∷ []) (splitRecord (eqb right 1) (needle bed n) k (needle (1 - bed) m))
 
 -- decoding, as code does it: a record that bytes are there for, its fields in range or refused
 abbrev pub byte : List ℕ → ℕ → ℕ

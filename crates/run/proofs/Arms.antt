@@ -1,7 +1,7 @@
 -- The arms of the run's loop: from what the small functions promise, the number of a record and the state after it. Assumes nothing.
 use Prim.Native.Nat.{ℕ, _+_, _-_, _≤_, _<_}
 use mathlib.Core.Path.{_≡_, refl, sym, ap, _∙_}
-use mathlib.Core.Bool.{false}
+use mathlib.Core.Bool.{Bool, true, false}
 use mathlib.Core.List.{List, map}
 use native.Mathlib.Omega.{arith}
 use lib.ListN.{getD, set}
@@ -16,27 +16,28 @@ use Rattle.machine.specs.Machine.{inactive, hookOf, loopsOn, carrierOf, movedTo
 use Rattle.machine.specs.Geometry.{columnOf}
 use Rattle.machine.proofs.Laws.{none-moved}
 use Rattle.record.specs.declared.Record.{Record}
-use Rattle.record.specs.Names.{InRange}
-use Rattle.run.specs.Relation.{racked, entrySlot, exitSlot, unattached, parkedOn, attached}
+use Rattle.record.proofs.Ranges.{InRange}
+use Rattle.run.specs.Relation.{racked, entrySlot, exitSlot, unattached, reparked, attached}
 use Rattle.run.specs.Step.{orNumber, parkedNo, numberAt, applyOf}
-use Rattle.run.specs.Leaves.{tuckNo, tucked, transferNo, transferredLoops}
-use Rattle.run.proofs.Premises.{in-zero, in-six}
+use Rattle.run.specs.Loops.{tuckNo, tucked, formNo, formed, transferNo, transferredLoops}
+use Rattle.run.proofs.Premises.{up, in-zero, in-six}
 use Rattle.run.proofs.ByKind.{seen, readyNo, rack-number, rack-state, drop-number, drop-state, xfer-number, xfer-state, in-number, in-state, out-number, out-state, miss-number, miss-state, tuck-number, tuck-state, knit-number, knit-state, split-number, split-state}
 
--- the last arm is split's
-pub nine : {x : Record} → InRange x → (x .kind ≡ 1 → ⊥) → (x .kind ≡ 2 → ⊥) → (x .kind ≡ 3 → ⊥) → (x .kind ≡ 4 → ⊥)
-    → (x .kind ≡ 5 → ⊥) → (x .kind ≡ 6 → ⊥) → (x .kind ≡ 7 → ⊥) → (x .kind ≡ 8 → ⊥) → x .kind ≡ 9
-nine {x} i n1 n2 n3 n4 n5 n6 n7 n8 = high (x .kind) (low (x .kind) (i .low) n1 n2 n3 n4) (i .high) n5 n6 n7 n8
-  where
-    low : (k : ℕ) → 1 ≤ k → (k ≡ 1 → ⊥) → (k ≡ 2 → ⊥) → (k ≡ 3 → ⊥) → (k ≡ 4 → ⊥) → 5 ≤ k
-    low k h a b c d = omega arith
+-- the last arm is split's, and the range before it tuck's and knit's
+pub nine : {x : Record} → InRange x → 8 < x .kind → x .kind ≡ 9
+nine i h = omega (arith, i .high)
 
-    high : (k : ℕ) → 5 ≤ k → k ≤ 9 → (k ≡ 5 → ⊥) → (k ≡ 6 → ⊥) → (k ≡ 7 → ⊥) → (k ≡ 8 → ⊥) → k ≡ 9
-    high k h j a b c d = omega arith
+pub seven : (k : ℕ) → 1 ≤ k → (k ≡ 1 → ⊥) → (k ≡ 2 → ⊥) → (k ≡ 3 → ⊥) → (k ≡ 4 → ⊥) → (k ≡ 5 → ⊥) → (k ≡ 6 → ⊥) → 7 ≤ k
+seven k h n1 n2 n3 n4 n5 n6 = high k (low k h n1 n2 n3) n4 n5 n6
+  where
+    low : (k : ℕ) → 1 ≤ k → (k ≡ 1 → ⊥) → (k ≡ 2 → ⊥) → (k ≡ 3 → ⊥) → 4 ≤ k
+    low k h a b c = omega arith
+    high : (k : ℕ) → 4 ≤ k → (k ≡ 4 → ⊥) → (k ≡ 5 → ⊥) → (k ≡ 6 → ⊥) → 7 ≤ k
+    high k h a b c = omega arith
 
 -- a carrier's place among the ten
-pub carrier-at : {x : Record} {k : ℕ} → InRange x → x .kind ≡ k → 4 ≤ k → (1 ≤ x .carrier) × (x .carrier ≤ 10)
-carrier-at i e h = (i .carrier-low (omega (arith, e, h)), i .carrier-high)
+pub carrier-at : {x : Record} → InRange x → 4 ≤ x .kind → (1 ≤ x .carrier) × (x .carrier ≤ 10)
+carrier-at i h = (i .carrier-low h, i .carrier-high)
 
 -- the loops after a transfer or a tuck, by its number
 module _ (l : List ℕ) (a b : Needle) (r : Racking) (v n : ℕ) (is : n ≡ transferNo l a b r) where
@@ -49,13 +50,21 @@ module _ (l : List ℕ) (a b : Needle) (r : Racking) (v n : ℕ) (is : n ≡ tra
   transfer-made h = simp (← is, eq-eqb n 0 h)
 
 module _ (l : List ℕ) (a : Needle) (n : ℕ) (is : n ≡ tuckNo (getD l (hookOf a) 0)) where
-  pub tuck-kept : (n ≡ 0 → ⊥) → tucked l a ≡ l
+  tuck-kept : (n ≡ 0 → ⊥) → tucked l a ≡ l
   unfolding tucked
   tuck-kept h = simp (← is, ne-eqb n 0 h)
 
   tuck-made : n ≡ 0 → tucked l a ≡ set l (hookOf a) (getD l (hookOf a) 0 + 1)
   unfolding tucked
   tuck-made h = simp (← is, eq-eqb n 0 h)
+
+pub form-kept : (l : List ℕ) (a : Needle) (kind m : ℕ) → m ≡ formNo kind (getD l (hookOf a) 0) → (m ≡ 0 → ⊥) → formed l a kind ≡ l
+unfolding formNo formed
+form-kept l a kind m f h = go (eqb kind 7) refl
+  where
+    go : (b : Bool) → eqb kind 7 ≡ b → formed l a kind ≡ l
+    go true e = simp e (tuck-kept l a m (f ∙ simp e) h)
+    go false e = absurd (h (f ∙ simp e))
 
 -- the carriers after a move: where none is attached, as they were
 pub unmoved : (a b : Needle) (l : List Carrier) → anyAttached a l ≡ false → l ≡ map (movedTo a b) l
@@ -109,31 +118,31 @@ module _ (s : State) (x : Record) where
     pub miss-stopped : x .kind ≡ 6 → z ≡ entrySlot s x → n ≡ numberAt s x
     miss-stopped e p = is ∙ ap (parkedNo (seen s x)) p ∙ sym (miss-number s x e)
 
-    pub miss-made : x .kind ≡ 6 → z ≡ entrySlot s x → n ≡ 0 → (c : Carrier) → c ≡ parkedOn (carrierOf s (x .carrier)) (exitSlot s x)
+    pub miss-made : x .kind ≡ 6 → z ≡ entrySlot s x → n ≡ 0 → (c : Carrier) → c ≡ reparked (carrierOf s (x .carrier)) (exitSlot s x)
         → Made (parts (s .loops) (set (s .carriers) (x .carrier - 1) c))
     miss-made e p h c q = (sym (miss-stopped e p) ∙ h, miss-state s x e ∙ simp q)
 
   module _ (n : ℕ) (is : n ≡ readyNo s x) where
-    pub tuck-unready : x .kind ≡ 7 → (n ≡ 0 → ⊥) → n ≡ numberAt s x
-    tuck-unready e h = simp (← is) (before n _ h) ∙ sym (tuck-number s x e)
-
-    pub knit-unready : x .kind ≡ 8 → n ≡ numberAt s x
-    knit-unready e = is ∙ sym (knit-number s x e)
+    pub form-unready : 7 ≤ x .kind → x .kind ≤ 8 → (n ≡ 0 → ⊥) → n ≡ numberAt s x
+    form-unready p q h =
+        up (x .kind) 7 p (λ e. simp (← is) (before n _ h) ∙ sym (tuck-number s x e))
+        (λ w. let e : x .kind ≡ 8 = omega arith in is ∙ sym (knit-number s x e))
 
     pub split-unready : x .kind ≡ 9 → (n ≡ 0 → ⊥) → n ≡ numberAt s x
     split-unready e h = simp (← is) (before n _ h) ∙ sym (split-number s x e)
 
     module _ (h : n ≡ 0) (c : Carrier) (q : c ≡ attached (exitSlot s x) (x .at) (x .right)) where
-      pub knit-made : x .kind ≡ 8 → (l : List ℕ) → l ≡ set (s .loops) (hookOf (x .at)) 1 → Made (parts l (set (s .carriers) (x .carrier - 1) c))
-      knit-made e l p = (knit-number s x e ∙ sym is ∙ h, knit-state s x e ∙ simp (p, q))
-
       module _ (m : ℕ) where
-        pub tuck-made-at : x .kind ≡ 7 → m ≡ tuckNo (loopsOn s (x .at)) → m ≡ 0 → (l : List ℕ) → l ≡ tucked (s .loops) (x .at)
+        pub form-made : 7 ≤ x .kind → x .kind ≤ 8 → m ≡ formNo (x .kind) (loopsOn s (x .at)) → m ≡ 0 → (l : List ℕ) → l ≡ formed (s .loops) (x .at) (x .kind)
             → Made (parts l (set (s .carriers) (x .carrier - 1) c))
-        tuck-made-at e f g l p = (
-          tuck-number s x e ∙ sym (after (readyNo s x) (tuckNo (loopsOn s (x .at))) m (sym is ∙ h) f) ∙ g,
-          tuck-state s x e ∙ simp (p ∙ tuck-made (s .loops) (x .at) m f g, q),
-        )
+        unfolding formNo formed
+        form-made p w f g l t =
+            up (x .kind) 7 p
+            (λ e. let f' : m ≡ tuckNo (loopsOn s (x .at)) = f ∙ (simp e) in let t' : l ≡ tucked (s .loops) (x .at) = t ∙ (simp e) in
+              (tuck-number s x e ∙ sym (after (readyNo s x) (tuckNo (loopsOn s (x .at))) m (sym is ∙ h) f') ∙ g,
+              tuck-state s x e ∙ simp (t' ∙ tuck-made (s .loops) (x .at) m f' g, q)))
+            (λ u. let e : x .kind ≡ 8 = omega arith in let t' : l ≡ set (s .loops) (hookOf (x .at)) 1 = t ∙ (simp e) in
+              (knit-number s x e ∙ sym is ∙ h, knit-state s x e ∙ simp (t', q)))
 
         pub split-made : x .kind ≡ 9 → m ≡ transferNo (s .loops) (x .at) (x .to) (s .racking) → m ≡ 0 → (l : List ℕ) (cs : List Carrier)
             → l ≡ transferredLoops (s .loops) (x .at) (x .to) (s .racking) 1 → cs ≡ map (movedTo (x .at) (x .to)) (s .carriers)
@@ -144,8 +153,11 @@ module _ (s : State) (x : Record) where
         )
 
     module _ (h : n ≡ 0) (m : ℕ) where
-      pub tuck-stopped : x .kind ≡ 7 → m ≡ tuckNo (loopsOn s (x .at)) → m ≡ numberAt s x
-      tuck-stopped e f = after (readyNo s x) _ m (sym is ∙ h) f ∙ sym (tuck-number s x e)
+      pub form-stopped : 7 ≤ x .kind → x .kind ≤ 8 → m ≡ formNo (x .kind) (loopsOn s (x .at)) → (m ≡ 0 → ⊥) → m ≡ numberAt s x
+      unfolding formNo
+      form-stopped p w f k =
+          up (x .kind) 7 p (λ e. after (readyNo s x) _ m (sym is ∙ h) (f ∙ simp e) ∙ sym (tuck-number s x e))
+          (λ u. let e : x .kind ≡ 8 = omega arith in absurd (k (f ∙ simp e)))
 
       pub split-stopped : x .kind ≡ 9 → m ≡ transferNo (s .loops) (x .at) (x .to) (s .racking) → m ≡ numberAt s x
       split-stopped e f = after (readyNo s x) _ m (sym is ∙ h) f ∙ sym (split-number s x e)

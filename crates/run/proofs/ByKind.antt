@@ -12,10 +12,10 @@ use Rattle.machine.specs.declared.State.{State}
 use Rattle.machine.specs.Machine.{inactive, hookOf, loopsOn, carrierOf, movedTo}
 use Rattle.machine.specs.Geometry.{columnOf, sameColumn}
 use Rattle.record.specs.declared.Record.{Record}
-use Rattle.record.specs.Names.{needlesIn, carriersIn, needlesOf, carriersOf}
-use Rattle.run.specs.Relation.{racked, withLoops, withCarrier, transferred, entrySlot, exitSlot, unattached, parkedOn, attached}
+use Rattle.record.specs.Names.{needleCount, carrierCount, needlesOf, carriersOf}
+use Rattle.run.specs.Relation.{racked, withLoops, withCarrier, transferred, entrySlot, exitSlot, unattached, reparked, attached}
 use Rattle.run.specs.Step.{Look, lookOf, seeOf, orNumber, parkedNo, floatNo, carrierNo, oppositeNo, firstAfter, secondAfter, roomNo, numberOf, edit, stored, actOf, acted, moveAttachments, rackingAfter, numberAt, applyOf}
-use Rattle.run.specs.Leaves.{tuckNo, transferNo}
+use Rattle.run.specs.Loops.{tuckNo, transferNo}
 
 -- a number and nothing after it
 pub or-zero : (n : ℕ) → orNumber n 0 ≡ n
@@ -35,23 +35,23 @@ module _ (s : State) (x : Record) where
   readyNo = orNumber (parkedNo seen (entrySlot s x)) (floatNo seen (columnOf (x .at) (s .racking)))
 
   pub rack-number : x .kind ≡ 1 → numberAt s x ≡ 0
-  unfolding numberAt numberOf carrierNo oppositeNo needlesIn roomNo firstAfter secondAfter seeOf
+  unfolding numberAt numberOf carrierNo oppositeNo needleCount roomNo firstAfter secondAfter seeOf
   rack-number e = simp e
 
   pub rack-state : x .kind ≡ 1 → applyOf s x ≡ racked s (x .racking)
-  unfolding applyOf rackingAfter edit needlesOf needlesIn carriersOf carriersIn moveAttachments
+  unfolding applyOf rackingAfter edit needlesOf needleCount carriersOf carrierCount moveAttachments
   rack-state e = simp e
 
   pub drop-number : x .kind ≡ 2 → numberAt s x ≡ 0
-  unfolding numberAt numberOf carrierNo oppositeNo needlesIn roomNo firstAfter secondAfter seeOf
+  unfolding numberAt numberOf carrierNo oppositeNo needleCount roomNo firstAfter secondAfter seeOf
   drop-number e = simp e
 
   pub drop-state : x .kind ≡ 2 → applyOf s x ≡ withLoops s (x .at) 0
-  unfolding applyOf rackingAfter edit needlesOf needlesIn carriersOf carriersIn moveAttachments firstAfter
+  unfolding applyOf rackingAfter edit needlesOf needleCount carriersOf carrierCount moveAttachments firstAfter
   drop-state e = simp e
 
   pub xfer-number : x .kind ≡ 3 → numberAt s x ≡ transferNo (s .loops) (x .at) (x .to) (s .racking)
-  unfolding numberAt numberOf carrierNo oppositeNo needlesIn roomNo firstAfter secondAfter seeOf transferNo
+  unfolding numberAt numberOf carrierNo oppositeNo needleCount roomNo firstAfter secondAfter seeOf transferNo
   xfer-number e = simp e (go (sameColumn (columnOf (x .at) (s .racking)) (columnOf (x .to) (s .racking))))
     where
       go : (b : Bool) → orNumber (cond b 0 10) (cond (leb (loopsOn s (x .at) + loopsOn s (x .to)) 8) 0 11) ≡ cond b (cond (leb (loopsOn s (x .at) + loopsOn s (x .to)) 8) 0 11) 10
@@ -59,51 +59,51 @@ module _ (s : State) (x : Record) where
       go false = refl
 
   pub xfer-state : x .kind ≡ 3 → applyOf s x ≡ transferred s (x .at) (x .to)
-  unfolding applyOf rackingAfter edit needlesOf needlesIn carriersOf carriersIn moveAttachments firstAfter secondAfter
+  unfolding applyOf rackingAfter edit needlesOf needleCount carriersOf carrierCount moveAttachments firstAfter secondAfter
   xfer-state e = simp e
 
   pub in-number : x .kind ≡ 4 → numberAt s x ≡ cond (seen .active) 6 0
-  unfolding numberAt numberOf carrierNo oppositeNo needlesIn roomNo firstAfter secondAfter seeOf
+  unfolding numberAt numberOf carrierNo oppositeNo needleCount roomNo firstAfter secondAfter seeOf
   in-number e = simp e (or-zero (cond (seen .active) 6 0))
 
   pub in-state : x .kind ≡ 4 → applyOf s x ≡ withCarrier s (x .carrier) (unattached (entrySlot s x))
-  unfolding applyOf rackingAfter edit needlesOf needlesIn carriersOf carriersIn moveAttachments actOf acted
+  unfolding applyOf rackingAfter edit needlesOf needleCount carriersOf carrierCount moveAttachments actOf acted
   in-state e = simp e
 
   pub out-number : x .kind ≡ 5 → numberAt s x ≡ parkedNo seen (exitSlot s x)
-  unfolding numberAt numberOf carrierNo oppositeNo needlesIn roomNo firstAfter secondAfter seeOf
+  unfolding numberAt numberOf carrierNo oppositeNo needleCount roomNo firstAfter secondAfter seeOf
   out-number e = simp e (or-zero (parkedNo seen (exitSlot s x)))
 
   pub out-state : x .kind ≡ 5 → applyOf s x ≡ withCarrier s (x .carrier) inactive
-  unfolding applyOf rackingAfter edit needlesOf needlesIn carriersOf carriersIn moveAttachments actOf acted
+  unfolding applyOf rackingAfter edit needlesOf needleCount carriersOf carrierCount moveAttachments actOf acted
   out-state e = simp e
 
   pub miss-number : x .kind ≡ 6 → numberAt s x ≡ parkedNo seen (entrySlot s x)
-  unfolding numberAt numberOf carrierNo oppositeNo needlesIn roomNo firstAfter secondAfter seeOf
+  unfolding numberAt numberOf carrierNo oppositeNo needleCount roomNo firstAfter secondAfter seeOf
   miss-number e = simp e (or-zero (parkedNo seen (entrySlot s x)))
 
-  pub miss-state : x .kind ≡ 6 → applyOf s x ≡ withCarrier s (x .carrier) (parkedOn (carrierOf s (x .carrier)) (exitSlot s x))
-  unfolding applyOf rackingAfter edit needlesOf needlesIn carriersOf carriersIn moveAttachments actOf acted
+  pub miss-state : x .kind ≡ 6 → applyOf s x ≡ withCarrier s (x .carrier) (reparked (carrierOf s (x .carrier)) (exitSlot s x))
+  unfolding applyOf rackingAfter edit needlesOf needleCount carriersOf carrierCount moveAttachments actOf acted
   miss-state e = simp e
 
   pub tuck-number : x .kind ≡ 7 → numberAt s x ≡ orNumber readyNo (tuckNo (loopsOn s (x .at)))
-  unfolding numberAt numberOf carrierNo oppositeNo needlesIn roomNo firstAfter secondAfter seeOf tuckNo
+  unfolding numberAt numberOf carrierNo oppositeNo needleCount roomNo firstAfter secondAfter seeOf tuckNo
   tuck-number e = simp e
 
   pub tuck-state : x .kind ≡ 7 → applyOf s x ≡ withCarrier (withLoops s (x .at) (loopsOn s (x .at) + 1)) (x .carrier) (attached (exitSlot s x) (x .at) (x .right))
-  unfolding applyOf rackingAfter edit needlesOf needlesIn carriersOf carriersIn moveAttachments actOf acted firstAfter
+  unfolding applyOf rackingAfter edit needlesOf needleCount carriersOf carrierCount moveAttachments actOf acted firstAfter
   tuck-state e = simp e
 
   pub knit-number : x .kind ≡ 8 → numberAt s x ≡ readyNo
-  unfolding numberAt numberOf carrierNo oppositeNo needlesIn roomNo firstAfter secondAfter seeOf
+  unfolding numberAt numberOf carrierNo oppositeNo needleCount roomNo firstAfter secondAfter seeOf
   knit-number e = simp e (or-zero readyNo)
 
   pub knit-state : x .kind ≡ 8 → applyOf s x ≡ withCarrier (withLoops s (x .at) 1) (x .carrier) (attached (exitSlot s x) (x .at) (x .right))
-  unfolding applyOf rackingAfter edit needlesOf needlesIn carriersOf carriersIn moveAttachments actOf acted firstAfter
+  unfolding applyOf rackingAfter edit needlesOf needleCount carriersOf carrierCount moveAttachments actOf acted firstAfter
   knit-state e = simp e
 
   pub split-number : x .kind ≡ 9 → numberAt s x ≡ orNumber readyNo (transferNo (s .loops) (x .at) (x .to) (s .racking))
-  unfolding numberAt numberOf carrierNo oppositeNo needlesIn roomNo firstAfter secondAfter seeOf transferNo
+  unfolding numberAt numberOf carrierNo oppositeNo needleCount roomNo firstAfter secondAfter seeOf transferNo
   split-number e = simp e (ap (orNumber readyNo) (go (sameColumn (columnOf (x .at) (s .racking)) (columnOf (x .to) (s .racking)))))
     where
       go : (b : Bool) → orNumber (cond b 0 10) (cond (leb (loopsOn s (x .at) + loopsOn s (x .to)) 8) 0 11) ≡ cond b (cond (leb (loopsOn s (x .at) + loopsOn s (x .to)) 8) 0 11) 10
@@ -120,7 +120,7 @@ module _ (s : State) (x : Record) where
       }
 
   pub split-state : x .kind ≡ 9 → applyOf s x ≡ splitState
-  unfolding applyOf rackingAfter edit needlesOf needlesIn carriersOf carriersIn moveAttachments actOf acted firstAfter secondAfter
+  unfolding applyOf rackingAfter edit needlesOf needleCount carriersOf carrierCount moveAttachments actOf acted firstAfter secondAfter
   split-state e = simp e
 
   pub split-said : (hookOf (x .at) ≡ hookOf (x .to) → ⊥)

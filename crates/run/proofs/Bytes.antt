@@ -9,7 +9,7 @@ use borrow.Author.Tests.{ne-eqb}
 use Rattle.machine.specs.declared.State.{State}
 use Rattle.record.specs.declared.Record.{Record}
 use Rattle.record.specs.declared.Decoded.{Decoded}
-use Rattle.record.specs.Format.{Form, sizeOf, byte, refusedAs, decodeOf}
+use Rattle.record.specs.Format.{Encodes, sizeOf, byte, refusedAs, decodeOf}
 use Rattle.record.proofs.Forms.{Fields, Reads, reads, fields-size, fields-positive, form-decode, form-in, decode-form, decode-in}
 use Rattle.run.specs.Relation.{Step}
 use Rattle.run.specs.Reason.{Whole, CutShort, fieldsOk, RecordReason, Reason}
@@ -71,7 +71,7 @@ bytes-least (Reads.outside f b c) h (Reason.of-record bytes rest x q form r) = o
 bytes-least (Reads.done f b c) h r = absurd (h refl)
 
 -- a form at the front is what is decoded
-front-decode : {l bytes : List ℕ} {x : Record} (rest : List ℕ) → l ≡ bytes ++ rest → Form bytes x → decodeOf l ≡ record { number = 0; size = length bytes; what = x }
+front-decode : {l bytes : List ℕ} {x : Record} (rest : List ℕ) → l ≡ bytes ++ rest → Encodes bytes x → decodeOf l ≡ record { number = 0; size = length bytes; what = x }
 front-decode rest e form = ap decodeOf e ∙ form-decode form rest
 
 -- where a record was decoded, every reason is one of that record
@@ -89,7 +89,7 @@ record-reason {s = s} {m = m} (Reads.done f a b) i e (Reason.of-record bytes res
 
 -- ---- what is said of a refusal
 pub record Refusal (n : ℕ) (s : State) (l : List ℕ) : Type 0 where
-  pub no-step : (bytes rest : List ℕ) (x : Record) (t : State) → l ≡ bytes ++ rest → Form bytes x → Step s x t → ⊥
+  pub no-step : (bytes rest : List ℕ) (x : Record) (t : State) → l ≡ bytes ++ rest → Encodes bytes x → Step s x t → ⊥
   pub reason : Reason n s l
   pub least : (m : ℕ) → m < n → Reason m s l → ⊥
 

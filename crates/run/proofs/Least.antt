@@ -10,11 +10,11 @@ use Rattle.machine.specs.declared.State.{State}
 use Rattle.machine.specs.Machine.{loopsOn}
 use Rattle.machine.specs.Geometry.{columnOf}
 use Rattle.record.specs.declared.Record.{Record}
-use Rattle.record.specs.Names.{InRange}
+use Rattle.record.proofs.Ranges.{InRange}
 use Rattle.run.specs.Relation.{entrySlot, exitSlot}
 use Rattle.run.specs.Reason.{NotOpposite, HookFull, RecordReason}
 use Rattle.run.specs.Step.{orNumber, parkedNo, floatNo, numberAt}
-use Rattle.run.specs.Leaves.{tuckNo}
+use Rattle.run.specs.Loops.{tuckNo}
 use Rattle.run.proofs.ByKind.{or-zero, seen, readyNo, xfer-number, in-number, out-number, miss-number, tuck-number, knit-number, split-number}
 use Rattle.run.proofs.Premises.{up, or-first, or-le, or-some, parked-off, parked-elsewhere, parked-le, in-six, float-over, float-le, tuck-full, carrier, moveNo, move-apart, move-le}
 

@@ -18,7 +18,7 @@ use Rattle.record.specs.declared.Record.{Record}
 use Rattle.record.proofs.Forms.{cond-cases}
 use Rattle.run.specs.Relation.{Active, Inactive, Attached, ParkedAt, Opposite, Room}
 use Rattle.run.specs.Step.{lookOf, orNumber, parkedNo, floatNo}
-use Rattle.run.specs.Leaves.{tuckNo, transferNo}
+use Rattle.run.specs.Loops.{tuckNo, transferNo}
 use Rattle.run.proofs.Looks.{parked-is, in-is, float-is}
 
 -- a case by a test, and by the kind

@@ -8,7 +8,7 @@ use lib.Seq.{drop-append-seam, drop-drop, take-add}
 use Rattle.machine.specs.declared.State.{State}
 use Rattle.record.specs.declared.Record.{Record}
 use Rattle.record.specs.declared.Decoded.{Decoded}
-use Rattle.record.specs.Format.{Form, decodeOf}
+use Rattle.record.specs.Format.{Encodes, decodeOf}
 use Rattle.record.proofs.Forms.{form-decode, form-in, decode-size, decode-form, decode-in}
 use Rattle.run.specs.declared.Reached.{Reached}
 use Rattle.run.specs.Relation.{Step, Steps}
@@ -34,7 +34,7 @@ turns b l at s =
     (λ h. rw (run-refused (b ∷ l) at s (omega arith) h) (Turns.unread h))
 
 -- ---- a list of records that have their steps is run to its end
-pub on-form : {bytes : List ℕ} {x : Record} {s t : State} → Form bytes x → Step s x t → (rest : List ℕ) (at : ℕ) → runFrom 0 (bytes ++ rest) at s ≡ runFrom 0 rest (at + length bytes) t
+pub on-form : {bytes : List ℕ} {x : Record} {s t : State} → Encodes bytes x → Step s x t → (rest : List ℕ) (at : ℕ) → runFrom 0 (bytes ++ rest) at s ≡ runFrom 0 rest (at + length bytes) t
 on-form {bytes} {x} {s} {t} form step rest at =
     let e = form-decode form rest in
     let (z, u) = step-only s x (form-in form) step in

@@ -11,11 +11,12 @@ use Rattle.machine.specs.declared.State.{State}
 use Rattle.machine.specs.Machine.{hookOf, loopsOn}
 use Rattle.machine.specs.Geometry.{columnOf}
 use Rattle.record.specs.declared.Record.{Record}
-use Rattle.record.specs.Names.{needlesIn, InRange}
-use Rattle.run.specs.Relation.{Inactive, ParkedAt, Floats, Opposite, Room, Step, entrySlot, exitSlot}
+use Rattle.record.specs.Names.{needleCount}
+use Rattle.record.proofs.Ranges.{InRange}
+use Rattle.run.specs.Relation.{Inactive, ParkedAt, FloatInReach, Opposite, Room, Step, entrySlot, exitSlot}
 use Rattle.run.specs.Reason.{NotOpposite, HookFull, RecordReason}
 use Rattle.run.specs.Step.{orNumber, parkedNo, floatNo, numberAt, applyOf}
-use Rattle.run.specs.Leaves.{tuckNo}
+use Rattle.run.specs.Loops.{tuckNo}
 use Rattle.run.proofs.ByKind.{seen, readyNo, rack-number, rack-state, drop-number, drop-state, xfer-number, xfer-state, in-number, in-state, out-number, out-state}
 use Rattle.run.proofs.ByKind.{miss-number, miss-state, tuck-number, tuck-state, knit-number, knit-state, split-number, split-state, split-said}
 use Rattle.run.proofs.Premises.{by, is, up, or-next, or-first, parked-zero, parked-off, parked-elsewhere, parked-cases, in-zero, in-six}
@@ -26,11 +27,11 @@ module _ (s : State) (x : Record) where
   parked-here : (z : Slot) → ParkedAt (carrier s x) z → parkedNo (seen s x) z ≡ 0
   parked-here z p = parked-zero (s .racking) (carrier s x) z p
 
-  ready-zero : ParkedAt (carrier s x) (entrySlot s x) → Floats s x → readyNo s x ≡ 0
+  ready-zero : ParkedAt (carrier s x) (entrySlot s x) → FloatInReach s x → readyNo s x ≡ 0
   ready-zero p h = or-next _ _ (parked-here (entrySlot s x) p) ∙ float-zero (s .racking) (carrier s x) (columnOf (x .at) (s .racking)) h
 
   split-hooks : InRange x → x .kind ≡ 9 → hookOf (x .at) ≡ hookOf (x .to) → ⊥
-  unfolding needlesIn
+  unfolding needleCount
   split-hooks f e = f .beds-differ (simp e)
 
   pub step-only : InRange x → {t : State} → Step s x t → (numberAt s x ≡ 0) × (applyOf s x ≡ t)
@@ -82,7 +83,7 @@ module _ (s : State) (x : Record) where
       (λ a h. Judged.refused (RecordReason.wrong-slot (parked-elsewhere (s .racking) (carrier s x) z a h) (record { kind = k; active = a; elsewhere = λ q. h (q ∙ e) })))
       (λ p. Judged.fine (parked-here s x z p) p)
 
-  float-judged : 7 ≤ x .kind → Judged s x (Floats s x) (floatNo (seen s x) (columnOf (x .at) (s .racking)))
+  float-judged : 7 ≤ x .kind → Judged s x (FloatInReach s x) (floatNo (seen s x) (columnOf (x .at) (s .racking)))
   float-judged k =
       float-cases (s .racking) (carrier s x) z
       (λ a h. Judged.refused (RecordReason.float-too-long (float-over (s .racking) (carrier s x) z a h) (record { kind = k; attached = a; over = h })))
@@ -91,7 +92,7 @@ module _ (s : State) (x : Record) where
       z : Column
       z = columnOf (x .at) (s .racking)
 
-  ready-judged : 7 ≤ x .kind → Judged s x (ParkedAt (carrier s x) (entrySlot s x) × Floats s x) (readyNo s x)
+  ready-judged : 7 ≤ x .kind → Judged s x (ParkedAt (carrier s x) (entrySlot s x) × FloatInReach s x) (readyNo s x)
   ready-judged k = both (parked-judged (entrySlot s x) (omega arith) (simp (ne-eqb (x .kind) 5 (λ e. omega arith)))) (float-judged k)
 
   tuck-judged : x .kind ≡ 7 → Judged s x (Room (loopsOn s (x .at) + 1)) (tuckNo (loopsOn s (x .at)))

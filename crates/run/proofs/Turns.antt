@@ -10,7 +10,7 @@ use Rattle.machine.specs.declared.State.{State}
 use Rattle.record.specs.declared.Record.{Record}
 use Rattle.record.specs.declared.Decoded.{Decoded}
 use Rattle.record.specs.Format.{decodeOf}
-use Rattle.record.specs.Names.{InRange}
+use Rattle.record.proofs.Ranges.{InRange}
 use Rattle.record.proofs.Forms.{decode-size, decode-in}
 use Rattle.run.specs.declared.Reached.{Reached}
 use Rattle.run.specs.Step.{numberAt, applyOf}

@@ -8,7 +8,7 @@ use lib.ListN.{length, take, drop}
 use Rattle.machine.specs.declared.State.{State}
 use Rattle.machine.specs.Machine.{emptyState}
 use Rattle.record.specs.declared.Record.{Record}
-use Rattle.record.specs.Format.{Form}
+use Rattle.record.specs.Format.{Encodes}
 use Rattle.run.specs.declared.Answer.{Answer}
 use Rattle.run.specs.Relation.{Step, Steps, Valid}
 use Rattle.run.specs.Reason.{Reason}
@@ -41,7 +41,7 @@ pub record FirstRefusal (p : List ℕ) (a : Answer) : Type 0 where
   -- the records before it have their steps, and the state is the one they end in
   pub before : Steps emptyState (take (a .place) p) (a .state)
   -- no record there has a step
-  pub no-step : (bytes rest : List ℕ) (x : Record) (t : State) → drop (a .place) p ≡ bytes ++ rest → Form bytes x → Step (a .state) x t → ⊥
+  pub no-step : (bytes rest : List ℕ) (x : Record) (t : State) → drop (a .place) p ≡ bytes ++ rest → Encodes bytes x → Step (a .state) x t → ⊥
   -- the number's reason holds there, and no reason of a smaller number does
   pub reason : Reason (a .number) (a .state) (drop (a .place) p)
   pub least : (m : ℕ) → m < a .number → Reason m (a .state) (drop (a .place) p) → ⊥

@@ -1,6 +1,6 @@
 pub mod Relation
 pub mod Reason
 pub mod Step
-pub mod Leaves
+pub mod Loops
 pub mod Run
 pub mod Claims

@@ -12,7 +12,7 @@ use Rattle.machine.specs.declared.State.{State}
 use Rattle.machine.specs.Machine.{loopsOn, carrierOf}
 use Rattle.machine.specs.Geometry.{columnOf}
 use Rattle.record.specs.declared.Record.{Record}
-use Rattle.record.specs.Format.{Form, sizeOf, byte, rackOk, needleOk, numberOk, workOk}
+use Rattle.record.specs.Format.{Encodes, sizeOf, byte, rackOk, needleOk, numberOk, workOk}
 use Rattle.run.specs.Relation.{Active, Inactive, Attached, ParkedAt, Opposite, entrySlot, exitSlot}
 
 -- a known kind with all its bytes there
@@ -92,4 +92,4 @@ pub data Reason (n : ℕ) (s : State) (l : List ℕ) : Type 0 where
   unknown-kind : n ≡ 3 → UnknownKind l → Reason n s l
   cut-short : n ≡ 4 → CutShort l → Reason n s l
   field-range : n ≡ 5 → FieldRange l → Reason n s l
-  of-record : (bytes rest : List ℕ) (x : Record) → l ≡ bytes ++ rest → Form bytes x → RecordReason n s x → Reason n s l
+  of-record : (bytes rest : List ℕ) (x : Record) → l ≡ bytes ++ rest → Encodes bytes x → RecordReason n s x → Reason n s l

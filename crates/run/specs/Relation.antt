@@ -13,7 +13,7 @@ use Rattle.machine.specs.declared.State.{State}
 use Rattle.machine.specs.Machine.{inactive, emptyState, hookOf, loopsOn, carrierOf, movedTo}
 use Rattle.machine.specs.Geometry.{columnOf, entryOf, exitOf}
 use Rattle.record.specs.declared.Record.{Record}
-use Rattle.record.specs.Format.{Form}
+use Rattle.record.specs.Format.{Encodes}
 
 -- a state with one thing changed: the racking, the loops on a hook, carrier k
 abbrev pub racked : State → Racking → State
@@ -45,8 +45,8 @@ exitSlot s x = exitOf (columnOf (x .at) (s .racking)) (x .right)
 abbrev pub unattached : Slot → Carrier
 unattached z = record { active = 1; side = 0; slot = z; needle = record { 0 = 0; 1 = 0 } }
 
-abbrev pub parkedOn : Carrier → Slot → Carrier
-parkedOn c z = record { active = 1; side = c .side; slot = z; needle = c .needle }
+abbrev pub reparked : Carrier → Slot → Carrier
+reparked c z = record { active = 1; side = c .side; slot = z; needle = c .needle }
 
 abbrev pub attached : Slot → Needle → Bool → Carrier
 attached z n right = record { active = 1; side = cond right 2 1; slot = z; needle = n }
@@ -66,8 +66,8 @@ pub record ParkedAt (c : Carrier) (z : Slot) : Type 0 where
   pub here : c .slot ≡ z
 
 -- an attached carrier's needle is at most 20 columns from the needle worked
-abbrev pub Floats : State → Record → Type 0
-Floats s x = Attached (carrierOf s (x .carrier)) → natAbs (columnOf (carrierOf s (x .carrier) .needle) (s .racking) .0 -ℤ columnOf (x .at) (s .racking) .0) ≤ 20
+abbrev pub FloatInReach : State → Record → Type 0
+FloatInReach s x = Attached (carrierOf s (x .carrier)) → natAbs (columnOf (carrierOf s (x .carrier) .needle) (s .racking) .0 -ℤ columnOf (x .at) (s .racking) .0) ≤ 20
 
 -- both needles have the same column
 abbrev pub Opposite : State → Record → Type 0
@@ -88,18 +88,18 @@ pub data Step (s : State) (x : Record) : State → Type 0 where
   carrier-out : x .kind ≡ 5 → ParkedAt (carrierOf s (x .carrier)) (exitSlot s x)
       → Step s x (withCarrier s (x .carrier) inactive)
   miss : x .kind ≡ 6 → ParkedAt (carrierOf s (x .carrier)) (entrySlot s x)
-      → Step s x (withCarrier s (x .carrier) (parkedOn (carrierOf s (x .carrier)) (exitSlot s x)))
-  tuck : x .kind ≡ 7 → ParkedAt (carrierOf s (x .carrier)) (entrySlot s x) → Floats s x → Room (loopsOn s (x .at) + 1)
+      → Step s x (withCarrier s (x .carrier) (reparked (carrierOf s (x .carrier)) (exitSlot s x)))
+  tuck : x .kind ≡ 7 → ParkedAt (carrierOf s (x .carrier)) (entrySlot s x) → FloatInReach s x → Room (loopsOn s (x .at) + 1)
       → Step s x (withCarrier (withLoops s (x .at) (loopsOn s (x .at) + 1)) (x .carrier) (attached (exitSlot s x) (x .at) (x .right)))
-  knit : x .kind ≡ 8 → ParkedAt (carrierOf s (x .carrier)) (entrySlot s x) → Floats s x
+  knit : x .kind ≡ 8 → ParkedAt (carrierOf s (x .carrier)) (entrySlot s x) → FloatInReach s x
       → Step s x (withCarrier (withLoops s (x .at) 1) (x .carrier) (attached (exitSlot s x) (x .at) (x .right)))
-  split : x .kind ≡ 9 → ParkedAt (carrierOf s (x .carrier)) (entrySlot s x) → Floats s x → Opposite s x → Room (loopsOn s (x .at) + loopsOn s (x .to))
+  split : x .kind ≡ 9 → ParkedAt (carrierOf s (x .carrier)) (entrySlot s x) → FloatInReach s x → Opposite s x → Room (loopsOn s (x .at) + loopsOn s (x .to))
       → Step s x (withCarrier (withLoops (transferred s (x .at) (x .to)) (x .at) 1) (x .carrier) (attached (exitSlot s x) (x .at) (x .right)))
 
 -- the records of a list of bytes, each with its step in turn (000: V-seq)
 pub data Steps : State → List ℕ → State → Type 0 where
   none : {s : State} → Steps s [] s
-  next : {s t u : State} {bytes rest : List ℕ} {x : Record} → Form bytes x → Step s x t → Steps t rest u → Steps s (bytes ++ rest) u
+  next : {s t u : State} {bytes rest : List ℕ} {x : Record} → Encodes bytes x → Step s x t → Steps t rest u → Steps s (bytes ++ rest) u
 
 -- a valid program and its final state
 pub record Valid (p : List ℕ) (t : State) : Type 0 where

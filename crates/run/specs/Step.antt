@@ -15,7 +15,7 @@ use Rattle.machine.specs.declared.State.{State}
 use Rattle.machine.specs.Machine.{inactive, hookOf, loopsOn, carrierOf, movedTo}
 use Rattle.machine.specs.Geometry.{eqZ, columnOf, entryOf, exitOf, sameColumn, withinFloat}
 use Rattle.record.specs.declared.Record.{Record}
-use Rattle.record.specs.Names.{needlesIn, needlesOf, carriersOf}
+use Rattle.record.specs.Names.{needleCount, needlesOf, carriersOf}
 
 -- ---- see: a carrier shows the column of its attachment and not the needle
 pub record Look : Type 0 where
@@ -59,14 +59,14 @@ carrierNo x r c =
 
 -- 10: the two needles of xfer and split
 unfoldable pub oppositeNo : Record → Racking → ℕ
-oppositeNo x r = cond (eqb (needlesIn (x .kind)) 2) (cond (sameColumn (columnOf (x .at) r) (columnOf (x .to) r)) 0 10) 0
+oppositeNo x r = cond (eqb (needleCount (x .kind)) 2) (cond (sameColumn (columnOf (x .at) r) (columnOf (x .to) r)) 0 10) 0
 
 -- the loops on the first needle and on the second, afterwards
 unfoldable pub firstAfter : ℕ → ℕ → ℕ
 firstAfter kind here = cond (eqb kind 7) (here + 1) (cond (leb kind 7) 0 1)
 
 unfoldable pub secondAfter : ℕ → ℕ → ℕ → ℕ
-secondAfter kind here there = cond (eqb (needlesIn kind) 2) (here + there) 0
+secondAfter kind here there = cond (eqb (needleCount kind) 2) (here + there) 0
 
 -- 11: either is over 8
 unfoldable pub roomNo : ℕ → ℕ → ℕ → ℕ
@@ -108,7 +108,7 @@ acted a c = record { active = a .active; side = cond (a .keep) (c .side) (a .sid
 
 -- a record with two needles takes the attachments along
 unfoldable pub moveAttachments : Record → List Carrier → List Carrier
-moveAttachments x l = cond (eqb (needlesIn (x .kind)) 2) (map (movedTo (x .at) (x .to)) l) l
+moveAttachments x l = cond (eqb (needleCount (x .kind)) 2) (map (movedTo (x .at) (x .to)) l) l
 
 unfoldable pub rackingAfter : Record → Racking → Racking
 rackingAfter x r = cond (leb (x .kind) 1) (x .racking) r

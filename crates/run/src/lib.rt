@@ -4,9 +4,9 @@ ghost use Prim.Native.Nat.{_<_};
 ghost use lib.ListN.{getD, set};
 ghost use Rattle.machine.specs.Machine.{OnBed, hookOf};
 ghost use Rattle.machine.specs.Geometry.{columnOf, entryOf, exitOf};
-ghost use Rattle.run.specs.Relation.{unattached, parkedOn, attached};
+ghost use Rattle.run.specs.Relation.{unattached, reparked, attached};
 ghost use Rattle.run.specs.Step.{lookOf, parkedNo, floatNo, orNumber};
-ghost use Rattle.run.specs.Leaves.{tuckNo, tucked, transferNo, transferredLoops};
+ghost use Rattle.run.specs.Loops.{tuckNo, tucked, formNo, formed, transferNo, transferredLoops};
 ghost use Rattle.run.specs.Run.{reached, runFrom, answerOf, runOf, stepOf};
 use machine::Carrier;
 use machine::Needle;
@@ -99,7 +99,7 @@ fn enter(n: Needle, r: Racking, right: bool) -> Carrier
 
 fn pass(c: Carrier, n: Needle, r: Racking, right: bool) -> Carrier
     requires { ⌜ OnBed n ⌝ }
-    ensures { λ d. ⌜ d ≡ parkedOn c (exitOf (columnOf n r) right) ⌝ }
+    ensures { λ d. ⌜ d ≡ reparked c (exitOf (columnOf n r) right) ⌝ }
 {
     let slot = n.exit(r, right);
     let needle = c.needle;
@@ -125,7 +125,7 @@ fn attach(n: Needle, r: Racking, right: bool) -> Carrier
     }
 }
 
-// Leaves v loops on the needle's hook.
+// Loops v loops on the needle's hook.
 fn put(loops: &mut [u8; State::HOOKS], n: Needle, v: u8)
     requires { ⌜ OnBed n ⌝ }
     ensures { λ _. ⌜ now (loops .exit) ≡ set (now (loops .entry)) (hookOf n) v ⌝ }
@@ -148,7 +148,19 @@ fn tuck(loops: &mut [u8; State::HOOKS], n: Needle) -> u8
     0
 }
 
-// The loops at a go to b, and v are left at a: 0, or 10 or 11 and no store.
+// The loop of a tuck (7) or a knit: 0, or 11 and no store.
+fn form(loops: &mut [u8; State::HOOKS], n: Needle, kind: u8) -> u8
+    requires { ⌜ OnBed n ⌝ }
+    ensures { λ k. ⌜ (k ≡ formNo kind (getD (now (loops .entry)) (hookOf n) 0)) × (now (loops .exit) ≡ formed (now (loops .entry)) n kind) ⌝ }
+{
+    if kind == 7 {
+        return tuck(loops, n);
+    }
+    put(loops, n, 1);
+    0
+}
+
+// The loops at a go to b, and a then holds v: 0, or 10 or 11 and no store.
 fn transfer(loops: &mut [u8; State::HOOKS], a: Needle, b: Needle, r: Racking, v: u8) -> u8
     requires { ⌜ (OnBed a) × (OnBed b) ⌝ }
     ensures { λ k. ⌜ (k ≡ transferNo (now (loops .entry)) a b r) × (now (loops .exit) ≡ transferredLoops (now (loops .entry)) a b r v) ⌝ }
@@ -187,8 +199,8 @@ fn stop(number: u8, place: usize, state: State) -> Reached
     }
 }
 
-// The run from a state over bytes of any length. Stores are made in its own state, one arm for each kind.
-pub fn run_from(state: State, program: &[u8]) -> Reached
+// The run from a state over bytes of any length. Stores are made in its own state, by the kind.
+fn run_from(state: State, program: &[u8]) -> Reached
     ensures { λ a. ⌜ a ≡ runFrom 0 (now (program .entry)) 0 state ⌝ }
 {
     let mut st = state;
@@ -256,34 +268,22 @@ pub fn run_from(state: State, program: &[u8]) -> Reached
                 let then = pass(c, n, r, x.right);
                 st.carriers[k] = then;
             }
-            // tuck
-            7 => {
+            // tuck, knit
+            7..=8 => {
                 let k = (x.carrier as usize) - 1;
                 let c = st.carriers[k];
                 let number = ready(c, n, r, x.right);
                 if number != 0 {
                     return stop(number, at, st);
                 }
-                let number = tuck(&mut st.loops, n);
+                let number = form(&mut st.loops, n, kind);
                 if number != 0 {
                     return stop(number, at, st);
                 }
                 let then = attach(n, r, x.right);
                 st.carriers[k] = then;
             }
-            // knit
-            8 => {
-                let k = (x.carrier as usize) - 1;
-                let c = st.carriers[k];
-                let number = ready(c, n, r, x.right);
-                if number != 0 {
-                    return stop(number, at, st);
-                }
-                put(&mut st.loops, n, 1);
-                let then = attach(n, r, x.right);
-                st.carriers[k] = then;
-            }
-            // split
+            // split: decode gives no other kind
             _ => {
                 let m = x.to;
                 let k = (x.carrier as usize) - 1;

@@ -2,17 +2,19 @@
 use Prim.Native.Nat.{ℕ, _+_, _-_, _≤_, _<_}
 use mathlib.Core.Path.{_≡_, refl, sym, _∙_}
 use mathlib.Core.List.{List}
+use mathlib.Core.Logic.{⊎-elim}
 use native.Mathlib.Omega.{arith}
 use borrow.Author.Needs.{needs}
 use lib.ListN.{length, drop}
 use Rattle.machine.specs.declared.State.{State}
 use Rattle.record.specs.declared.Record.{Record}
 use Rattle.record.specs.declared.Decoded.{Decoded}
-use Rattle.record.specs.Names.{InRange}
+use Rattle.record.proofs.Ranges.{InRange}
 use Rattle.run.specs.Step.{numberAt}
 use Rattle.run.specs.Run.{reached, runFrom}
 use Rattle.run.proofs.Turns.{Turn, ended, turned, refused, in-range, sized, stopped, goes}
-use Rattle.run.proofs.Arms.{Made, nine, carrier-at, transfer-kept, tuck-kept, unmoved, rack-made, drop-made, xfer-stopped, xfer-made, in-stopped, in-made, out-stopped, out-made, miss-stopped, miss-made, tuck-unready, tuck-stopped, tuck-made-at, knit-unready, knit-made, split-unready, split-stopped, split-made}
+use Rattle.run.proofs.Arms.{Made, nine, seven, carrier-at, transfer-kept, form-kept, unmoved, rack-made, drop-made, xfer-stopped, xfer-made, in-stopped, in-made}
+use Rattle.run.proofs.Arms.{out-stopped, out-made, miss-stopped, miss-made, form-unready, form-stopped, form-made, split-unready, split-stopped, split-made}
 use Rattle.run.proofs.run_from.Statement.{statement}
 use Rattle.run.proofs.run_from.Tie as tie
 
@@ -83,17 +85,17 @@ add-next : tie.Need-add-next Inv-loop μ-loop
 add-next c = let b = c .before in let z = size b in omega (arith, z .1, c .before .before .before .before .before .loop-test .taken, c .before .before .before .before .before .before .before .before .good)
 
 put-requires : tie.Need-put-requires Inv-loop μ-loop
-put-requires c κs = let b = c .before .before .before .before .before .before in let i = known b in i .at-bed
+put-requires c κs = let b = c .before .before .before .before .before .before in known b .at-bed
 
 transfer-requires : tie.Need-transfer-requires Inv-loop μ-loop
-transfer-requires c κs = let b = c .before .before .before .before .before .before .before in let i = known b in (i .at-bed, i .to-bed)
+transfer-requires c κs = let b = c .before .before .before .before .before .before .before in (known b .at-bed, known b .to-bed)
 
 stop-requires-2 : tie.Need-stop-requires-2 Inv-loop μ-loop
 stop-requires-2 c κs = search needs
 
 returns-2 : tie.Need-returns-2 Inv-loop μ-loop
-returns-2 c = let b = c .before .before .before .before .before .before .before .before .before .before in
-    c .stop2 .ensures ∙ simp (c .before .before .transfer .ensures .1, transfer-kept (s b .loops) (x b .at) (x b .to) (s b .racking) 0 _ (c .before .before .transfer .ensures .0) (c .before .if2 .taken)) (halt b (xfer-stopped (s b) (x b) (c .before .before .before .before .before .match .keys3) _ (c .before .before .transfer .ensures .0)) (c .before .if2 .taken))
+returns-2 c = let b = c .before .before .before .before .before .before .before .before .before .before in let e = c .before .before .before .before .before .match .keys3 in 
+    c .stop2 .ensures ∙ simp (c .before .before .transfer .ensures .1, transfer-kept (s b .loops) (x b .at) (x b .to) (s b .racking) 0 _ (c .before .before .transfer .ensures .0) (c .before .if2 .taken)) (halt b (xfer-stopped (s b) (x b) e _ (c .before .before .transfer .ensures .0)) (c .before .if2 .taken))
 
 any-attached-requires : tie.Need-any-attached-requires Inv-loop μ-loop
 any-attached-requires c κs = search needs
@@ -105,44 +107,44 @@ cast-k : tie.Need-cast-k Inv-loop μ-loop
 cast-k c = search needs
 
 sub-k : tie.Need-sub-k Inv-loop μ-loop
-sub-k c = let b = c .before .before .before .before .before .before in let i = known b in let w = carrier-at i (c .before .match .keys4) (omega arith) in omega (arith, w .0, w .1)
+sub-k c = let b = c .before .before .before .before .before .before in let e = c .before .match .keys4 in let w = carrier-at (known b) (omega (arith, e)) in omega (arith, w .0, w .1)
 
 mul-c : tie.Need-mul-c Inv-loop μ-loop
-mul-c c = let b = c .before .before .before .before .before .before in let i = known b in let w = carrier-at i (c .before .match .keys4) (omega arith) in omega (arith, w .0, w .1)
+mul-c c = let b = c .before .before .before .before .before .before in let e = c .before .match .keys4 in let w = carrier-at (known b) (omega (arith, e)) in omega (arith, w .0, w .1)
 
 element-copy-out-c : tie.Need-element-copy-out-c Inv-loop μ-loop
-element-copy-out-c c = let b = c .before .before .before .before .before .before in let i = known b in let w = carrier-at i (c .before .match .keys4) (omega arith) in omega (arith, w .0, w .1)
+element-copy-out-c c = let b = c .before .before .before .before .before .before in let e = c .before .match .keys4 in let w = carrier-at (known b) (omega (arith, e)) in omega (arith, w .0, w .1)
 
 stop-requires-3 : tie.Need-stop-requires-3 Inv-loop μ-loop
 stop-requires-3 c κs = search needs
 
 returns-3 : tie.Need-returns-3 Inv-loop μ-loop
-returns-3 c = let b = c .before .before .before .before .before .before .before .before .before .before in
-    c .stop3 .ensures ∙ halt b (in-stopped (s b) (x b) (c .before .before .before .before .before .match .keys4) (c .before .if4 .taken)) (λ e. omega arith)
+returns-3 c = let b = c .before .before .before .before .before .before .before .before .before .before in let e = c .before .before .before .before .before .match .keys4 in 
+    c .stop3 .ensures ∙ halt b (in-stopped (s b) (x b) e (c .before .if4 .taken)) (λ f. omega arith)
 
 enter-requires : tie.Need-enter-requires Inv-loop μ-loop
-enter-requires c κs = let b = c .before .before .before .before .before .before .before .before .before in let i = known b in i .at-bed
+enter-requires c κs = let b = c .before .before .before .before .before .before .before .before .before in known b .at-bed
 
 mul-then : tie.Need-mul-then Inv-loop μ-loop
-mul-then c = let b = c .before .before .before .before .before .before .before .before .before .before in let i = known b in let w = carrier-at i (c .before .before .before .before .before .match .keys4) (omega arith) in omega (arith, w .0, w .1)
+mul-then c = let b = c .before .before .before .before .before .before .before .before .before .before in let e = c .before .before .before .before .before .match .keys4 in let w = carrier-at (known b) (omega (arith, e)) in omega (arith, w .0, w .1)
 
 element-set-from-then : tie.Need-element-set-from-then Inv-loop μ-loop
-element-set-from-then c = let b = c .before .before .before .before .before .before .before .before .before .before in let i = known b in let w = carrier-at i (c .before .before .before .before .before .match .keys4) (omega arith) in omega (arith, w .0, w .1)
+element-set-from-then c = let b = c .before .before .before .before .before .before .before .before .before .before in let e = c .before .before .before .before .before .match .keys4 in let w = carrier-at (known b) (omega (arith, e)) in omega (arith, w .0, w .1)
 
 cast-k-2 : tie.Need-cast-k-2 Inv-loop μ-loop
 cast-k-2 c = search needs
 
 sub-k-2 : tie.Need-sub-k-2 Inv-loop μ-loop
-sub-k-2 c = let b = c .before .before .before .before .before .before in let i = known b in let w = carrier-at i (c .before .match .keys5) (omega arith) in omega (arith, w .0, w .1)
+sub-k-2 c = let b = c .before .before .before .before .before .before in let e = c .before .match .keys5 in let w = carrier-at (known b) (omega (arith, e)) in omega (arith, w .0, w .1)
 
 mul-c-2 : tie.Need-mul-c-2 Inv-loop μ-loop
-mul-c-2 c = let b = c .before .before .before .before .before .before in let i = known b in let w = carrier-at i (c .before .match .keys5) (omega arith) in omega (arith, w .0, w .1)
+mul-c-2 c = let b = c .before .before .before .before .before .before in let e = c .before .match .keys5 in let w = carrier-at (known b) (omega (arith, e)) in omega (arith, w .0, w .1)
 
 element-copy-out-c-2 : tie.Need-element-copy-out-c-2 Inv-loop μ-loop
-element-copy-out-c-2 c = let b = c .before .before .before .before .before .before in let i = known b in let w = carrier-at i (c .before .match .keys5) (omega arith) in omega (arith, w .0, w .1)
+element-copy-out-c-2 c = let b = c .before .before .before .before .before .before in let e = c .before .match .keys5 in let w = carrier-at (known b) (omega (arith, e)) in omega (arith, w .0, w .1)
 
 exit-requires : tie.Need-exit-requires Inv-loop μ-loop
-exit-requires c κs = let b = c .before .before .before .before .before .before .before in let i = known b in i .at-bed
+exit-requires c κs = let b = c .before .before .before .before .before .before .before in known b .at-bed
 
 parked-requires : tie.Need-parked-requires Inv-loop μ-loop
 parked-requires c κs = search needs
@@ -151,32 +153,32 @@ stop-requires-4 : tie.Need-stop-requires-4 Inv-loop μ-loop
 stop-requires-4 c κs = search needs
 
 returns-4 : tie.Need-returns-4 Inv-loop μ-loop
-returns-4 c = let b = c .before .before .before .before .before .before .before .before .before .before .before in
-    c .stop4 .ensures ∙ halt b (out-stopped (s b) (x b) _ _ (c .before .before .parked .ensures) (c .before .before .before .before .before .before .match .keys5) (c .before .before .before .exit .ensures)) (c .before .if5 .taken)
+returns-4 c = let b = c .before .before .before .before .before .before .before .before .before .before .before in let e = c .before .before .before .before .before .before .match .keys5 in 
+    c .stop4 .ensures ∙ halt b (out-stopped (s b) (x b) _ _ (c .before .before .parked .ensures) e (c .before .before .before .exit .ensures)) (c .before .if5 .taken)
 
 inactive-requires : tie.Need-inactive-requires Inv-loop μ-loop
 inactive-requires c κs = search needs
 
 mul-then-2 : tie.Need-mul-then-2 Inv-loop μ-loop
-mul-then-2 c = let b = c .before .before .before .before .before .before .before .before .before .before .before in let i = known b in let w = carrier-at i (c .before .before .before .before .before .before .match .keys5) (omega arith) in omega (arith, w .0, w .1)
+mul-then-2 c = let b = c .before .before .before .before .before .before .before .before .before .before .before in let e = c .before .before .before .before .before .before .match .keys5 in let w = carrier-at (known b) (omega (arith, e)) in omega (arith, w .0, w .1)
 
 element-set-from-then-2 : tie.Need-element-set-from-then-2 Inv-loop μ-loop
-element-set-from-then-2 c = let b = c .before .before .before .before .before .before .before .before .before .before .before in let i = known b in let w = carrier-at i (c .before .before .before .before .before .before .match .keys5) (omega arith) in omega (arith, w .0, w .1)
+element-set-from-then-2 c = let b = c .before .before .before .before .before .before .before .before .before .before .before in let e = c .before .before .before .before .before .before .match .keys5 in let w = carrier-at (known b) (omega (arith, e)) in omega (arith, w .0, w .1)
 
 cast-k-3 : tie.Need-cast-k-3 Inv-loop μ-loop
 cast-k-3 c = search needs
 
 sub-k-3 : tie.Need-sub-k-3 Inv-loop μ-loop
-sub-k-3 c = let b = c .before .before .before .before .before .before in let i = known b in let w = carrier-at i (c .before .match .keys6) (omega arith) in omega (arith, w .0, w .1)
+sub-k-3 c = let b = c .before .before .before .before .before .before in let e = c .before .match .keys6 in let w = carrier-at (known b) (omega (arith, e)) in omega (arith, w .0, w .1)
 
 mul-c-3 : tie.Need-mul-c-3 Inv-loop μ-loop
-mul-c-3 c = let b = c .before .before .before .before .before .before in let i = known b in let w = carrier-at i (c .before .match .keys6) (omega arith) in omega (arith, w .0, w .1)
+mul-c-3 c = let b = c .before .before .before .before .before .before in let e = c .before .match .keys6 in let w = carrier-at (known b) (omega (arith, e)) in omega (arith, w .0, w .1)
 
 element-copy-out-c-3 : tie.Need-element-copy-out-c-3 Inv-loop μ-loop
-element-copy-out-c-3 c = let b = c .before .before .before .before .before .before in let i = known b in let w = carrier-at i (c .before .match .keys6) (omega arith) in omega (arith, w .0, w .1)
+element-copy-out-c-3 c = let b = c .before .before .before .before .before .before in let e = c .before .match .keys6 in let w = carrier-at (known b) (omega (arith, e)) in omega (arith, w .0, w .1)
 
 entry-requires : tie.Need-entry-requires Inv-loop μ-loop
-entry-requires c κs = let b = c .before .before .before .before .before .before .before in let i = known b in i .at-bed
+entry-requires c κs = let b = c .before .before .before .before .before .before .before in known b .at-bed
 
 parked-requires-2 : tie.Need-parked-requires-2 Inv-loop μ-loop
 parked-requires-2 c κs = search needs
@@ -185,127 +187,93 @@ stop-requires-5 : tie.Need-stop-requires-5 Inv-loop μ-loop
 stop-requires-5 c κs = search needs
 
 returns-5 : tie.Need-returns-5 Inv-loop μ-loop
-returns-5 c = let b = c .before .before .before .before .before .before .before .before .before .before .before in
-    c .stop5 .ensures ∙ halt b (miss-stopped (s b) (x b) _ _ (c .before .before .parked2 .ensures) (c .before .before .before .before .before .before .match .keys6) (c .before .before .before .entry .ensures)) (c .before .if6 .taken)
+returns-5 c = let b = c .before .before .before .before .before .before .before .before .before .before .before in let e = c .before .before .before .before .before .before .match .keys6 in 
+    c .stop5 .ensures ∙ halt b (miss-stopped (s b) (x b) _ _ (c .before .before .parked2 .ensures) e (c .before .before .before .entry .ensures)) (c .before .if6 .taken)
 
 pass-requires : tie.Need-pass-requires Inv-loop μ-loop
-pass-requires c κs = let b = c .before .before .before .before .before .before .before .before .before .before in let i = known b in i .at-bed
+pass-requires c κs = let b = c .before .before .before .before .before .before .before .before .before .before in known b .at-bed
 
 mul-then-3 : tie.Need-mul-then-3 Inv-loop μ-loop
-mul-then-3 c = let b = c .before .before .before .before .before .before .before .before .before .before .before in let i = known b in let w = carrier-at i (c .before .before .before .before .before .before .match .keys6) (omega arith) in omega (arith, w .0, w .1)
+mul-then-3 c = let b = c .before .before .before .before .before .before .before .before .before .before .before in let e = c .before .before .before .before .before .before .match .keys6 in let w = carrier-at (known b) (omega (arith, e)) in omega (arith, w .0, w .1)
 
 element-set-from-then-3 : tie.Need-element-set-from-then-3 Inv-loop μ-loop
-element-set-from-then-3 c = let b = c .before .before .before .before .before .before .before .before .before .before .before in let i = known b in let w = carrier-at i (c .before .before .before .before .before .before .match .keys6) (omega arith) in omega (arith, w .0, w .1)
+element-set-from-then-3 c = let b = c .before .before .before .before .before .before .before .before .before .before .before in let e = c .before .before .before .before .before .before .match .keys6 in let w = carrier-at (known b) (omega (arith, e)) in omega (arith, w .0, w .1)
 
 cast-k-4 : tie.Need-cast-k-4 Inv-loop μ-loop
 cast-k-4 c = search needs
 
 sub-k-4 : tie.Need-sub-k-4 Inv-loop μ-loop
-sub-k-4 c = let b = c .before .before .before .before .before .before in let i = known b in let w = carrier-at i (c .before .match .keys7) (omega arith) in omega (arith, w .0, w .1)
+sub-k-4 c = let b = c .before .before .before .before .before .before .before .before in let no = c .before .before .before .match .rest in let p = seven (x b .kind) (c .before .before .if7 .left) (no .0 .0 .0 .0 .0 .1) (no .0 .0 .0 .0 .1) (no .0 .0 .0 .1) (no .0 .0 .1) (no .0 .1) (no .1) in let q : x b .kind ≤ 8 = omega (arith, c .before .if8 .taken) in let w = carrier-at (known b) (omega (arith, p)) in omega (arith, w .0, w .1)
 
 mul-c-4 : tie.Need-mul-c-4 Inv-loop μ-loop
-mul-c-4 c = let b = c .before .before .before .before .before .before in let i = known b in let w = carrier-at i (c .before .match .keys7) (omega arith) in omega (arith, w .0, w .1)
+mul-c-4 c = let b = c .before .before .before .before .before .before .before .before in let no = c .before .before .before .match .rest in let p = seven (x b .kind) (c .before .before .if7 .left) (no .0 .0 .0 .0 .0 .1) (no .0 .0 .0 .0 .1) (no .0 .0 .0 .1) (no .0 .0 .1) (no .0 .1) (no .1) in let q : x b .kind ≤ 8 = omega (arith, c .before .if8 .taken) in let w = carrier-at (known b) (omega (arith, p)) in omega (arith, w .0, w .1)
 
 element-copy-out-c-4 : tie.Need-element-copy-out-c-4 Inv-loop μ-loop
-element-copy-out-c-4 c = let b = c .before .before .before .before .before .before in let i = known b in let w = carrier-at i (c .before .match .keys7) (omega arith) in omega (arith, w .0, w .1)
+element-copy-out-c-4 c = let b = c .before .before .before .before .before .before .before .before in let no = c .before .before .before .match .rest in let p = seven (x b .kind) (c .before .before .if7 .left) (no .0 .0 .0 .0 .0 .1) (no .0 .0 .0 .0 .1) (no .0 .0 .0 .1) (no .0 .0 .1) (no .0 .1) (no .1) in let q : x b .kind ≤ 8 = omega (arith, c .before .if8 .taken) in let w = carrier-at (known b) (omega (arith, p)) in omega (arith, w .0, w .1)
 
 ready-requires : tie.Need-ready-requires Inv-loop μ-loop
-ready-requires c κs = let b = c .before .before .before .before .before .before .before in let i = known b in i .at-bed
+ready-requires c κs = let b = c .before .before .before .before .before .before .before .before .before in known b .at-bed
 
 stop-requires-6 : tie.Need-stop-requires-6 Inv-loop μ-loop
 stop-requires-6 c κs = search needs
 
 returns-6 : tie.Need-returns-6 Inv-loop μ-loop
-returns-6 c = let b = c .before .before .before .before .before .before .before .before .before .before in
-    c .stop6 .ensures ∙ halt b (tuck-unready (s b) (x b) _ (c .before .before .ready .ensures) (c .before .before .before .before .before .match .keys7) (c .before .if7 .taken)) (c .before .if7 .taken)
+returns-6 c = let b = c .before .before .before .before .before .before .before .before .before .before .before .before in let no = c .before .before .before .before .before .before .before .match .rest in let p = seven (x b .kind) (c .before .before .before .before .before .before .if7 .left) (no .0 .0 .0 .0 .0 .1) (no .0 .0 .0 .0 .1) (no .0 .0 .0 .1) (no .0 .0 .1) (no .0 .1) (no .1) in let q : x b .kind ≤ 8 = omega (arith, c .before .before .before .before .before .if8 .taken) in 
+    c .stop6 .ensures ∙ halt b (form-unready (s b) (x b) _ (c .before .before .ready .ensures) p q (c .before .if9 .taken)) (c .before .if9 .taken)
 
-tuck-requires : tie.Need-tuck-requires Inv-loop μ-loop
-tuck-requires c κs = let b = c .before .before .before .before .before .before .before .before .before .before in let i = known b in i .at-bed
+form-requires : tie.Need-form-requires Inv-loop μ-loop
+form-requires c κs = let b = c .before .before .before .before .before .before .before .before .before .before .before .before in known b .at-bed
 
 stop-requires-7 : tie.Need-stop-requires-7 Inv-loop μ-loop
 stop-requires-7 c κs = search needs
 
 returns-7 : tie.Need-returns-7 Inv-loop μ-loop
-returns-7 c = let b = c .before .before .before .before .before .before .before .before .before .before .before .before .before in
-    c .stop7 .ensures ∙ simp (c .before .before .tuck .ensures .1, tuck-kept (s b .loops) (x b .at) _ (c .before .before .tuck .ensures .0) (c .before .if8 .taken)) (halt b (tuck-stopped (s b) (x b) _ (c .before .before .before .before .before .ready .ensures) (c .before .before .before .before .if7 .left) _ (c .before .before .before .before .before .before .before .before .match .keys7) (c .before .before .tuck .ensures .0)) (c .before .if8 .taken))
+returns-7 c = let b = c .before .before .before .before .before .before .before .before .before .before .before .before .before .before .before in let no = c .before .before .before .before .before .before .before .before .before .before .match .rest in let p = seven (x b .kind) (c .before .before .before .before .before .before .before .before .before .if7 .left) (no .0 .0 .0 .0 .0 .1) (no .0 .0 .0 .0 .1) (no .0 .0 .0 .1) (no .0 .0 .1) (no .0 .1) (no .1) in let q : x b .kind ≤ 8 = omega (arith, c .before .before .before .before .before .before .before .before .if8 .taken) in 
+    c .stop7 .ensures ∙ simp (c .before .before .form .ensures .1, form-kept (s b .loops) (x b .at) (x b .kind) _ (c .before .before .form .ensures .0) (c .before .if10 .taken)) (halt b (form-stopped (s b) (x b) _ (c .before .before .before .before .before .ready .ensures) (c .before .before .before .before .if9 .left) _ p q (c .before .before .form .ensures .0) (c .before .if10 .taken)) (c .before .if10 .taken))
 
 attach-requires : tie.Need-attach-requires Inv-loop μ-loop
-attach-requires c κs = let b = c .before .before .before .before .before .before .before .before .before .before .before .before in let i = known b in i .at-bed
+attach-requires c κs = let b = c .before .before .before .before .before .before .before .before .before .before .before .before .before .before in known b .at-bed
 
 mul-then-4 : tie.Need-mul-then-4 Inv-loop μ-loop
-mul-then-4 c = let b = c .before .before .before .before .before .before .before .before .before .before .before .before .before in let i = known b in let w = carrier-at i (c .before .before .before .before .before .before .before .before .match .keys7) (omega arith) in omega (arith, w .0, w .1)
+mul-then-4 c = let b = c .before .before .before .before .before .before .before .before .before .before .before .before .before .before .before in let no = c .before .before .before .before .before .before .before .before .before .before .match .rest in let p = seven (x b .kind) (c .before .before .before .before .before .before .before .before .before .if7 .left) (no .0 .0 .0 .0 .0 .1) (no .0 .0 .0 .0 .1) (no .0 .0 .0 .1) (no .0 .0 .1) (no .0 .1) (no .1) in let q : x b .kind ≤ 8 = omega (arith, c .before .before .before .before .before .before .before .before .if8 .taken) in let w = carrier-at (known b) (omega (arith, p)) in omega (arith, w .0, w .1)
 
 element-set-from-then-4 : tie.Need-element-set-from-then-4 Inv-loop μ-loop
-element-set-from-then-4 c = let b = c .before .before .before .before .before .before .before .before .before .before .before .before .before in let i = known b in let w = carrier-at i (c .before .before .before .before .before .before .before .before .match .keys7) (omega arith) in omega (arith, w .0, w .1)
+element-set-from-then-4 c = let b = c .before .before .before .before .before .before .before .before .before .before .before .before .before .before .before in let no = c .before .before .before .before .before .before .before .before .before .before .match .rest in let p = seven (x b .kind) (c .before .before .before .before .before .before .before .before .before .if7 .left) (no .0 .0 .0 .0 .0 .1) (no .0 .0 .0 .0 .1) (no .0 .0 .0 .1) (no .0 .0 .1) (no .0 .1) (no .1) in let q : x b .kind ≤ 8 = omega (arith, c .before .before .before .before .before .before .before .before .if8 .taken) in let w = carrier-at (known b) (omega (arith, p)) in omega (arith, w .0, w .1)
 
 cast-k-5 : tie.Need-cast-k-5 Inv-loop μ-loop
 cast-k-5 c = search needs
 
 sub-k-5 : tie.Need-sub-k-5 Inv-loop μ-loop
-sub-k-5 c = let b = c .before .before .before .before .before .before in let i = known b in let w = carrier-at i (c .before .match .keys8) (omega arith) in omega (arith, w .0, w .1)
+sub-k-5 c = let b = c .before .before .before .before .before .before .before .before in let i = known b in let e = nine i (⊎-elim {C = 8 < x b .kind} (λ w. omega (arith, i .low)) (λ w. omega arith) (c .before .before .if7 .came)) in let w = carrier-at (known b) (omega (arith, e)) in omega (arith, w .0, w .1)
 
 mul-c-5 : tie.Need-mul-c-5 Inv-loop μ-loop
-mul-c-5 c = let b = c .before .before .before .before .before .before in let i = known b in let w = carrier-at i (c .before .match .keys8) (omega arith) in omega (arith, w .0, w .1)
+mul-c-5 c = let b = c .before .before .before .before .before .before .before .before in let i = known b in let e = nine i (⊎-elim {C = 8 < x b .kind} (λ w. omega (arith, i .low)) (λ w. omega arith) (c .before .before .if7 .came)) in let w = carrier-at (known b) (omega (arith, e)) in omega (arith, w .0, w .1)
 
 element-copy-out-c-5 : tie.Need-element-copy-out-c-5 Inv-loop μ-loop
-element-copy-out-c-5 c = let b = c .before .before .before .before .before .before in let i = known b in let w = carrier-at i (c .before .match .keys8) (omega arith) in omega (arith, w .0, w .1)
+element-copy-out-c-5 c = let b = c .before .before .before .before .before .before .before .before in let i = known b in let e = nine i (⊎-elim {C = 8 < x b .kind} (λ w. omega (arith, i .low)) (λ w. omega arith) (c .before .before .if7 .came)) in let w = carrier-at (known b) (omega (arith, e)) in omega (arith, w .0, w .1)
 
 ready-requires-2 : tie.Need-ready-requires-2 Inv-loop μ-loop
-ready-requires-2 c κs = let b = c .before .before .before .before .before .before .before in let i = known b in i .at-bed
+ready-requires-2 c κs = let b = c .before .before .before .before .before .before .before .before .before in known b .at-bed
 
 stop-requires-8 : tie.Need-stop-requires-8 Inv-loop μ-loop
 stop-requires-8 c κs = search needs
 
 returns-8 : tie.Need-returns-8 Inv-loop μ-loop
-returns-8 c = let b = c .before .before .before .before .before .before .before .before .before .before in
-    c .stop8 .ensures ∙ halt b (knit-unready (s b) (x b) _ (c .before .before .ready2 .ensures) (c .before .before .before .before .before .match .keys8)) (c .before .if9 .taken)
+returns-8 c = let b = c .before .before .before .before .before .before .before .before .before .before .before .before in let i = known b in let e = nine i (⊎-elim {C = 8 < x b .kind} (λ w. omega (arith, i .low)) (λ w. omega arith) (c .before .before .before .before .before .before .if7 .came)) in 
+    c .stop8 .ensures ∙ halt b (split-unready (s b) (x b) _ (c .before .before .ready2 .ensures) e (c .before .if11 .taken)) (c .before .if11 .taken)
 
-put-requires-2 : tie.Need-put-requires-2 Inv-loop μ-loop
-put-requires-2 c κs = let b = c .before .before .before .before .before .before .before .before .before .before in let i = known b in i .at-bed
-
-attach-requires-2 : tie.Need-attach-requires-2 Inv-loop μ-loop
-attach-requires-2 c κs = let b = c .before .before .before .before .before .before .before .before .before .before .before in let i = known b in i .at-bed
-
-mul-then-5 : tie.Need-mul-then-5 Inv-loop μ-loop
-mul-then-5 c = let b = c .before .before .before .before .before .before .before .before .before .before .before .before in let i = known b in let w = carrier-at i (c .before .before .before .before .before .before .before .match .keys8) (omega arith) in omega (arith, w .0, w .1)
-
-element-set-from-then-5 : tie.Need-element-set-from-then-5 Inv-loop μ-loop
-element-set-from-then-5 c = let b = c .before .before .before .before .before .before .before .before .before .before .before .before in let i = known b in let w = carrier-at i (c .before .before .before .before .before .before .before .match .keys8) (omega arith) in omega (arith, w .0, w .1)
-
-cast-k-6 : tie.Need-cast-k-6 Inv-loop μ-loop
-cast-k-6 c = search needs
-
-sub-k-6 : tie.Need-sub-k-6 Inv-loop μ-loop
-sub-k-6 c = let no = c .before .before .match .rest in let b = c .before .before .before .before .before .before .before in let i = known b in let w = carrier-at i (nine i (no .0 .0 .0 .0 .0 .0 .0 .1) (no .0 .0 .0 .0 .0 .0 .1) (no .0 .0 .0 .0 .0 .1) (no .0 .0 .0 .0 .1) (no .0 .0 .0 .1) (no .0 .0 .1) (no .0 .1) (no .1)) (omega arith) in omega (arith, w .0, w .1)
-
-mul-c-6 : tie.Need-mul-c-6 Inv-loop μ-loop
-mul-c-6 c = let no = c .before .before .match .rest in let b = c .before .before .before .before .before .before .before in let i = known b in let w = carrier-at i (nine i (no .0 .0 .0 .0 .0 .0 .0 .1) (no .0 .0 .0 .0 .0 .0 .1) (no .0 .0 .0 .0 .0 .1) (no .0 .0 .0 .0 .1) (no .0 .0 .0 .1) (no .0 .0 .1) (no .0 .1) (no .1)) (omega arith) in omega (arith, w .0, w .1)
-
-element-copy-out-c-6 : tie.Need-element-copy-out-c-6 Inv-loop μ-loop
-element-copy-out-c-6 c = let no = c .before .before .match .rest in let b = c .before .before .before .before .before .before .before in let i = known b in let w = carrier-at i (nine i (no .0 .0 .0 .0 .0 .0 .0 .1) (no .0 .0 .0 .0 .0 .0 .1) (no .0 .0 .0 .0 .0 .1) (no .0 .0 .0 .0 .1) (no .0 .0 .0 .1) (no .0 .0 .1) (no .0 .1) (no .1)) (omega arith) in omega (arith, w .0, w .1)
-
-ready-requires-3 : tie.Need-ready-requires-3 Inv-loop μ-loop
-ready-requires-3 c κs = let no = c .before .before .before .match .rest in let b = c .before .before .before .before .before .before .before .before in let i = known b in i .at-bed
+transfer-requires-2 : tie.Need-transfer-requires-2 Inv-loop μ-loop
+transfer-requires-2 c κs = let b = c .before .before .before .before .before .before .before .before .before .before .before .before in (known b .at-bed, known b .to-bed)
 
 stop-requires-9 : tie.Need-stop-requires-9 Inv-loop μ-loop
 stop-requires-9 c κs = search needs
 
 returns-9 : tie.Need-returns-9 Inv-loop μ-loop
-returns-9 c = let no = c .before .before .before .before .before .before .match .rest in let b = c .before .before .before .before .before .before .before .before .before .before .before in let i = known b in
-    c .stop9 .ensures ∙ halt b (split-unready (s b) (x b) _ (c .before .before .ready3 .ensures) (nine i (no .0 .0 .0 .0 .0 .0 .0 .1) (no .0 .0 .0 .0 .0 .0 .1) (no .0 .0 .0 .0 .0 .1) (no .0 .0 .0 .0 .1) (no .0 .0 .0 .1) (no .0 .0 .1) (no .0 .1) (no .1)) (c .before .if10 .taken)) (c .before .if10 .taken)
+returns-9 c = let b = c .before .before .before .before .before .before .before .before .before .before .before .before .before .before .before in let i = known b in let e = nine i (⊎-elim {C = 8 < x b .kind} (λ w. omega (arith, i .low)) (λ w. omega arith) (c .before .before .before .before .before .before .before .before .before .if7 .came)) in 
+    c .stop9 .ensures ∙ simp (c .before .before .transfer2 .ensures .1, transfer-kept (s b .loops) (x b .at) (x b .to) (s b .racking) 1 _ (c .before .before .transfer2 .ensures .0) (c .before .if12 .taken)) (halt b (split-stopped (s b) (x b) _ (c .before .before .before .before .before .ready2 .ensures) (c .before .before .before .before .if11 .left) _ e (c .before .before .transfer2 .ensures .0)) (c .before .if12 .taken))
 
-transfer-requires-2 : tie.Need-transfer-requires-2 Inv-loop μ-loop
-transfer-requires-2 c κs = let no = c .before .before .before .before .before .before .match .rest in let b = c .before .before .before .before .before .before .before .before .before .before .before in let i = known b in (i .at-bed, i .to-bed)
-
-stop-requires-10 : tie.Need-stop-requires-10 Inv-loop μ-loop
-stop-requires-10 c κs = search needs
-
-returns-10 : tie.Need-returns-10 Inv-loop μ-loop
-returns-10 c = let no = c .before .before .before .before .before .before .before .before .before .match .rest in let b = c .before .before .before .before .before .before .before .before .before .before .before .before .before .before in let i = known b in
-    c .stop10 .ensures ∙ simp (c .before .before .transfer2 .ensures .1, transfer-kept (s b .loops) (x b .at) (x b .to) (s b .racking) 1 _ (c .before .before .transfer2 .ensures .0) (c .before .if11 .taken)) (halt b (split-stopped (s b) (x b) _ (c .before .before .before .before .before .ready3 .ensures) (c .before .before .before .before .if10 .left) _ (nine i (no .0 .0 .0 .0 .0 .0 .0 .1) (no .0 .0 .0 .0 .0 .0 .1) (no .0 .0 .0 .0 .0 .1) (no .0 .0 .0 .0 .1) (no .0 .0 .0 .1) (no .0 .0 .1) (no .0 .1) (no .1)) (c .before .before .transfer2 .ensures .0)) (c .before .if11 .taken))
-
-attach-requires-3 : tie.Need-attach-requires-3 Inv-loop μ-loop
-attach-requires-3 c κs = let no = c .before .before .before .before .before .before .before .before .match .rest in let b = c .before .before .before .before .before .before .before .before .before .before .before .before .before in let i = known b in i .at-bed
+attach-requires-2 : tie.Need-attach-requires-2 Inv-loop μ-loop
+attach-requires-2 c κs = let b = c .before .before .before .before .before .before .before .before .before .before .before .before .before .before in known b .at-bed
 
 any-attached-requires-2 : tie.Need-any-attached-requires-2 Inv-loop μ-loop
 any-attached-requires-2 c κs = search needs
@@ -314,99 +282,92 @@ attachments-moved-requires-2 : tie.Need-attachments-moved-requires-2 Inv-loop μ
 attachments-moved-requires-2 c κs = search needs
 
 mul-ds : tie.Need-mul-ds Inv-loop μ-loop
-mul-ds c = let no = c .before .before .before .before .before .before .before .before .before .before .before .before .before .match .rest in let b = c .before .before .before .before .before .before .before .before .before .before .before .before .before .before .before .before .before .before in let i = known b in let w = carrier-at i (nine i (no .0 .0 .0 .0 .0 .0 .0 .1) (no .0 .0 .0 .0 .0 .0 .1) (no .0 .0 .0 .0 .0 .1) (no .0 .0 .0 .0 .1) (no .0 .0 .0 .1) (no .0 .0 .1) (no .0 .1) (no .1)) (omega arith) in omega (arith, w .0, w .1)
+mul-ds c = let b = c .before .before .before .before .before .before .before .before .before .before .before .before .before .before .before .before .before .before .before in let i = known b in let e = nine i (⊎-elim {C = 8 < x b .kind} (λ w. omega (arith, i .low)) (λ w. omega arith) (c .before .before .before .before .before .before .before .before .before .before .before .before .before .if7 .came)) in let w = carrier-at (known b) (omega (arith, e)) in omega (arith, w .0, w .1)
 
 array-set-from-ds : tie.Need-array-set-from-ds Inv-loop μ-loop
-array-set-from-ds c = let no = c .before .before .before .before .before .before .before .before .before .before .before .before .before .match .rest in let b = c .before .before .before .before .before .before .before .before .before .before .before .before .before .before .before .before .before .before in let i = known b in let w = carrier-at i (nine i (no .0 .0 .0 .0 .0 .0 .0 .1) (no .0 .0 .0 .0 .0 .0 .1) (no .0 .0 .0 .0 .0 .1) (no .0 .0 .0 .0 .1) (no .0 .0 .0 .1) (no .0 .0 .1) (no .0 .1) (no .1)) (omega arith) in omega (arith, w .0, w .1)
+array-set-from-ds c = let b = c .before .before .before .before .before .before .before .before .before .before .before .before .before .before .before .before .before .before .before in let i = known b in let e = nine i (⊎-elim {C = 8 < x b .kind} (λ w. omega (arith, i .low)) (λ w. omega arith) (c .before .before .before .before .before .before .before .before .before .before .before .before .before .if7 .came)) in let w = carrier-at (known b) (omega (arith, e)) in omega (arith, w .0, w .1)
 
-mul-then-6 : tie.Need-mul-then-6 Inv-loop μ-loop
-mul-then-6 c = let no = c .before .before .before .before .before .before .before .before .before .before .before .before .match .rest in let b = c .before .before .before .before .before .before .before .before .before .before .before .before .before .before .before .before .before in let i = known b in let w = carrier-at i (nine i (no .0 .0 .0 .0 .0 .0 .0 .1) (no .0 .0 .0 .0 .0 .0 .1) (no .0 .0 .0 .0 .0 .1) (no .0 .0 .0 .0 .1) (no .0 .0 .0 .1) (no .0 .0 .1) (no .0 .1) (no .1)) (omega arith) in omega (arith, w .0, w .1)
+mul-then-5 : tie.Need-mul-then-5 Inv-loop μ-loop
+mul-then-5 c = let b = c .before .before .before .before .before .before .before .before .before .before .before .before .before .before .before .before .before .before in let i = known b in let e = nine i (⊎-elim {C = 8 < x b .kind} (λ w. omega (arith, i .low)) (λ w. omega arith) (c .before .before .before .before .before .before .before .before .before .before .before .before .if7 .came)) in let w = carrier-at (known b) (omega (arith, e)) in omega (arith, w .0, w .1)
 
-element-set-from-then-6 : tie.Need-element-set-from-then-6 Inv-loop μ-loop
-element-set-from-then-6 c = let no = c .before .before .before .before .before .before .before .before .before .before .before .before .match .rest in let b = c .before .before .before .before .before .before .before .before .before .before .before .before .before .before .before .before .before in let i = known b in let w = carrier-at i (nine i (no .0 .0 .0 .0 .0 .0 .0 .1) (no .0 .0 .0 .0 .0 .0 .1) (no .0 .0 .0 .0 .0 .1) (no .0 .0 .0 .0 .1) (no .0 .0 .0 .1) (no .0 .0 .1) (no .0 .1) (no .1)) (omega arith) in omega (arith, w .0, w .1)
+element-set-from-then-5 : tie.Need-element-set-from-then-5 Inv-loop μ-loop
+element-set-from-then-5 c = let b = c .before .before .before .before .before .before .before .before .before .before .before .before .before .before .before .before .before .before in let i = known b in let e = nine i (⊎-elim {C = 8 < x b .kind} (λ w. omega (arith, i .low)) (λ w. omega arith) (c .before .before .before .before .before .before .before .before .before .before .before .before .if7 .came)) in let w = carrier-at (known b) (omega (arith, e)) in omega (arith, w .0, w .1)
 
 loop-less : tie.Need-loop-less Inv-loop μ-loop
 loop-less c = let b = c .before .before .before .before .before .before in let z = size b in omega (arith, z .0, z .1, c .before .before .before .before .before .before .before .before .before .before .loop-test .taken)
 
 loop-again : tie.Need-loop-again Inv-loop μ-loop
-loop-again c = let b = c .before .before .before .before .before .before in
-    on b (rack-made (s b) (x b) (c .before .match .keys1))
+loop-again c = let b = c .before .before .before .before .before .before in let e = c .before .match .keys1 in 
+    on b (rack-made (s b) (x b) e)
 
 loop-less-2 : tie.Need-loop-less-2 Inv-loop μ-loop
 loop-less-2 c = let b = c .before .before .before .before .before .before .before in let z = size b in omega (arith, z .0, z .1, c .before .before .before .before .before .before .before .before .before .before .before .loop-test .taken)
 
 loop-again-2 : tie.Need-loop-again-2 Inv-loop μ-loop
-loop-again-2 c = let b = c .before .before .before .before .before .before .before in
-    on b (drop-made (s b) (x b) (c .before .before .match .keys2) _ (c .put .ensures))
+loop-again-2 c = let b = c .before .before .before .before .before .before .before in let e = c .before .before .match .keys2 in 
+    on b (drop-made (s b) (x b) e _ (c .put .ensures))
 
 loop-less-3 : tie.Need-loop-less-3 Inv-loop μ-loop
 loop-less-3 c = let b = c .before .before .before .before .before .before .before .before .before .before .before .before .before in let z = size b in omega (arith, z .0, z .1, c .before .before .before .before .before .before .before .before .before .before .before .before .before .before .before .before .before .loop-test .taken)
 
 loop-again-3 : tie.Need-loop-again-3 Inv-loop μ-loop
-loop-again-3 c = let b = c .before .before .before .before .before .before .before .before .before .before .before .before .before in
-    on b (xfer-made (s b) (x b) (c .before .before .before .before .before .before .before .before .match .keys3) _ (c .before .before .before .before .before .transfer .ensures .0) (c .before .before .before .before .if2 .left) _ _ (c .before .before .before .before .before .transfer .ensures .1) (c .attachments-moved .ensures))
+loop-again-3 c = let b = c .before .before .before .before .before .before .before .before .before .before .before .before .before in let e = c .before .before .before .before .before .before .before .before .match .keys3 in 
+    on b (xfer-made (s b) (x b) e _ (c .before .before .before .before .before .transfer .ensures .0) (c .before .before .before .before .if2 .left) _ _ (c .before .before .before .before .before .transfer .ensures .1) (c .attachments-moved .ensures))
 
 loop-less-4 : tie.Need-loop-less-4 Inv-loop μ-loop
 loop-less-4 c = let b = c .before .before .before .before .before .before .before .before .before .before .before .before in let z = size b in omega (arith, z .0, z .1, c .before .before .before .before .before .before .before .before .before .before .before .before .before .before .before .before .loop-test .taken)
 
 loop-again-4 : tie.Need-loop-again-4 Inv-loop μ-loop
-loop-again-4 c = let b = c .before .before .before .before .before .before .before .before .before .before .before .before in
-    on b (xfer-made (s b) (x b) (c .before .before .before .before .before .before .before .match .keys3) _ (c .before .before .before .before .transfer .ensures .0) (c .before .before .before .if2 .left) _ _ (c .before .before .before .before .transfer .ensures .1) (unmoved (x b .at) (x b .to) (s b .carriers) (sym (c .before .any-attached .ensures) ∙ c .if3 .left)))
+loop-again-4 c = let b = c .before .before .before .before .before .before .before .before .before .before .before .before in let e = c .before .before .before .before .before .before .before .match .keys3 in 
+    on b (xfer-made (s b) (x b) e _ (c .before .before .before .before .transfer .ensures .0) (c .before .before .before .if2 .left) _ _ (c .before .before .before .before .transfer .ensures .1) (unmoved (x b .at) (x b .to) (s b .carriers) (sym (c .before .any-attached .ensures) ∙ c .if3 .left)))
 
 loop-less-5 : tie.Need-loop-less-5 Inv-loop μ-loop
 loop-less-5 c = let b = c .before .before .before .before .before .before .before .before .before .before in let z = size b in omega (arith, z .0, z .1, c .before .before .before .before .before .before .before .before .before .before .before .before .before .before .loop-test .taken)
 
 loop-again-5 : tie.Need-loop-again-5 Inv-loop μ-loop
-loop-again-5 c = let b = c .before .before .before .before .before .before .before .before .before .before in
-    on b (in-made (s b) (x b) (c .before .before .before .before .before .match .keys4) (c .before .if4 .left) _ (c .enter .ensures))
+loop-again-5 c = let b = c .before .before .before .before .before .before .before .before .before .before in let e = c .before .before .before .before .before .match .keys4 in 
+    on b (in-made (s b) (x b) e (c .before .if4 .left) _ (c .enter .ensures))
 
 loop-less-6 : tie.Need-loop-less-6 Inv-loop μ-loop
 loop-less-6 c = let b = c .before .before .before .before .before .before .before .before .before .before .before in let z = size b in omega (arith, z .0, z .1, c .before .before .before .before .before .before .before .before .before .before .before .before .before .before .before .loop-test .taken)
 
 loop-again-6 : tie.Need-loop-again-6 Inv-loop μ-loop
-loop-again-6 c = let b = c .before .before .before .before .before .before .before .before .before .before .before in
-    on b (out-made (s b) (x b) _ _ (c .before .before .parked .ensures) (c .before .before .before .before .before .before .match .keys5) (c .before .before .before .exit .ensures) (c .before .if5 .left) _ (c .inactive .ensures))
+loop-again-6 c = let b = c .before .before .before .before .before .before .before .before .before .before .before in let e = c .before .before .before .before .before .before .match .keys5 in 
+    on b (out-made (s b) (x b) _ _ (c .before .before .parked .ensures) e (c .before .before .before .exit .ensures) (c .before .if5 .left) _ (c .inactive .ensures))
 
 loop-less-7 : tie.Need-loop-less-7 Inv-loop μ-loop
 loop-less-7 c = let b = c .before .before .before .before .before .before .before .before .before .before .before in let z = size b in omega (arith, z .0, z .1, c .before .before .before .before .before .before .before .before .before .before .before .before .before .before .before .loop-test .taken)
 
 loop-again-7 : tie.Need-loop-again-7 Inv-loop μ-loop
-loop-again-7 c = let b = c .before .before .before .before .before .before .before .before .before .before .before in
-    on b (miss-made (s b) (x b) _ _ (c .before .before .parked2 .ensures) (c .before .before .before .before .before .before .match .keys6) (c .before .before .before .entry .ensures) (c .before .if6 .left) _ (c .pass .ensures))
+loop-again-7 c = let b = c .before .before .before .before .before .before .before .before .before .before .before in let e = c .before .before .before .before .before .before .match .keys6 in 
+    on b (miss-made (s b) (x b) _ _ (c .before .before .parked2 .ensures) e (c .before .before .before .entry .ensures) (c .before .if6 .left) _ (c .pass .ensures))
 
 loop-less-8 : tie.Need-loop-less-8 Inv-loop μ-loop
-loop-less-8 c = let b = c .before .before .before .before .before .before .before .before .before .before .before .before .before in let z = size b in omega (arith, z .0, z .1, c .before .before .before .before .before .before .before .before .before .before .before .before .before .before .before .before .before .loop-test .taken)
+loop-less-8 c = let b = c .before .before .before .before .before .before .before .before .before .before .before .before .before .before .before in let z = size b in omega (arith, z .0, z .1, c .before .before .before .before .before .before .before .before .before .before .before .before .before .before .before .before .before .before .before .loop-test .taken)
 
 loop-again-8 : tie.Need-loop-again-8 Inv-loop μ-loop
-loop-again-8 c = let b = c .before .before .before .before .before .before .before .before .before .before .before .before .before in
-    on b (tuck-made-at (s b) (x b) _ (c .before .before .before .before .before .ready .ensures) (c .before .before .before .before .if7 .left) _ (c .attach .ensures) _ (c .before .before .before .before .before .before .before .before .match .keys7) (c .before .before .tuck .ensures .0) (c .before .if8 .left) _ (c .before .before .tuck .ensures .1))
+loop-again-8 c = let b = c .before .before .before .before .before .before .before .before .before .before .before .before .before .before .before in let no = c .before .before .before .before .before .before .before .before .before .before .match .rest in let p = seven (x b .kind) (c .before .before .before .before .before .before .before .before .before .if7 .left) (no .0 .0 .0 .0 .0 .1) (no .0 .0 .0 .0 .1) (no .0 .0 .0 .1) (no .0 .0 .1) (no .0 .1) (no .1) in let q : x b .kind ≤ 8 = omega (arith, c .before .before .before .before .before .before .before .before .if8 .taken) in 
+    on b (form-made (s b) (x b) _ (c .before .before .before .before .before .ready .ensures) (c .before .before .before .before .if9 .left) _ (c .attach .ensures) _ p q (c .before .before .form .ensures .0) (c .before .if10 .left) _ (c .before .before .form .ensures .1))
 
 loop-less-9 : tie.Need-loop-less-9 Inv-loop μ-loop
-loop-less-9 c = let b = c .before .before .before .before .before .before .before .before .before .before .before .before in let z = size b in omega (arith, z .0, z .1, c .before .before .before .before .before .before .before .before .before .before .before .before .before .before .before .before .loop-test .taken)
+loop-less-9 c = let b = c .before .before .before .before .before .before .before .before .before .before .before .before .before .before .before .before .before .before .before in let z = size b in omega (arith, z .0, z .1, c .before .before .before .before .before .before .before .before .before .before .before .before .before .before .before .before .before .before .before .before .before .before .before .loop-test .taken)
 
 loop-again-9 : tie.Need-loop-again-9 Inv-loop μ-loop
-loop-again-9 c = let b = c .before .before .before .before .before .before .before .before .before .before .before .before in
-    on b (knit-made (s b) (x b) _ (c .before .before .before .before .ready2 .ensures) (c .before .before .before .if9 .left) _ (c .attach2 .ensures) (c .before .before .before .before .before .before .before .match .keys8) _ (c .before .put2 .ensures))
+loop-again-9 c = let b = c .before .before .before .before .before .before .before .before .before .before .before .before .before .before .before .before .before .before .before in let i = known b in let e = nine i (⊎-elim {C = 8 < x b .kind} (λ w. omega (arith, i .low)) (λ w. omega arith) (c .before .before .before .before .before .before .before .before .before .before .before .before .before .if7 .came)) in 
+    on b (split-made (s b) (x b) _ (c .before .before .before .before .before .before .before .before .before .ready2 .ensures) (c .before .before .before .before .before .before .before .before .if11 .left) _ (c .before .before .before .before .attach2 .ensures) _ e (c .before .before .before .before .before .before .transfer2 .ensures .0) (c .before .before .before .before .before .if12 .left) _ _ (c .before .before .before .before .before .before .transfer2 .ensures .1) (c .attachments-moved2 .ensures))
 
 loop-less-10 : tie.Need-loop-less-10 Inv-loop μ-loop
-loop-less-10 c = let no = c .before .before .before .before .before .before .before .before .before .before .before .before .before .match .rest in let b = c .before .before .before .before .before .before .before .before .before .before .before .before .before .before .before .before .before .before in let z = size b in omega (arith, z .0, z .1, c .before .before .before .before .before .before .before .before .before .before .before .before .before .before .before .before .before .before .before .before .before .before .loop-test .taken)
+loop-less-10 c = let b = c .before .before .before .before .before .before .before .before .before .before .before .before .before .before .before .before .before .before in let z = size b in omega (arith, z .0, z .1, c .before .before .before .before .before .before .before .before .before .before .before .before .before .before .before .before .before .before .before .before .before .before .loop-test .taken)
 
 loop-again-10 : tie.Need-loop-again-10 Inv-loop μ-loop
-loop-again-10 c = let no = c .before .before .before .before .before .before .before .before .before .before .before .before .before .match .rest in let b = c .before .before .before .before .before .before .before .before .before .before .before .before .before .before .before .before .before .before in let i = known b in
-    on b (split-made (s b) (x b) _ (c .before .before .before .before .before .before .before .before .before .ready3 .ensures) (c .before .before .before .before .before .before .before .before .if10 .left) _ (c .before .before .before .before .attach3 .ensures) _ (nine i (no .0 .0 .0 .0 .0 .0 .0 .1) (no .0 .0 .0 .0 .0 .0 .1) (no .0 .0 .0 .0 .0 .1) (no .0 .0 .0 .0 .1) (no .0 .0 .0 .1) (no .0 .0 .1) (no .0 .1) (no .1)) (c .before .before .before .before .before .before .transfer2 .ensures .0) (c .before .before .before .before .before .if11 .left) _ _ (c .before .before .before .before .before .before .transfer2 .ensures .1) (c .attachments-moved2 .ensures))
+loop-again-10 c = let b = c .before .before .before .before .before .before .before .before .before .before .before .before .before .before .before .before .before .before in let i = known b in let e = nine i (⊎-elim {C = 8 < x b .kind} (λ w. omega (arith, i .low)) (λ w. omega arith) (c .before .before .before .before .before .before .before .before .before .before .before .before .if7 .came)) in 
+    on b (split-made (s b) (x b) _ (c .before .before .before .before .before .before .before .before .ready2 .ensures) (c .before .before .before .before .before .before .before .if11 .left) _ (c .before .before .before .attach2 .ensures) _ e (c .before .before .before .before .before .transfer2 .ensures .0) (c .before .before .before .before .if12 .left) _ _ (c .before .before .before .before .before .transfer2 .ensures .1) (unmoved (x b .at) (x b .to) (s b .carriers) (sym (c .before .any-attached2 .ensures) ∙ c .if13 .left)))
 
-loop-less-11 : tie.Need-loop-less-11 Inv-loop μ-loop
-loop-less-11 c = let no = c .before .before .before .before .before .before .before .before .before .before .before .before .match .rest in let b = c .before .before .before .before .before .before .before .before .before .before .before .before .before .before .before .before .before in let z = size b in omega (arith, z .0, z .1, c .before .before .before .before .before .before .before .before .before .before .before .before .before .before .before .before .before .before .before .before .before .loop-test .taken)
+stop-requires-10 : tie.Need-stop-requires-10 Inv-loop μ-loop
+stop-requires-10 c κs = search needs
 
-loop-again-11 : tie.Need-loop-again-11 Inv-loop μ-loop
-loop-again-11 c = let no = c .before .before .before .before .before .before .before .before .before .before .before .before .match .rest in let b = c .before .before .before .before .before .before .before .before .before .before .before .before .before .before .before .before .before in let i = known b in
-    on b (split-made (s b) (x b) _ (c .before .before .before .before .before .before .before .before .ready3 .ensures) (c .before .before .before .before .before .before .before .if10 .left) _ (c .before .before .before .attach3 .ensures) _ (nine i (no .0 .0 .0 .0 .0 .0 .0 .1) (no .0 .0 .0 .0 .0 .0 .1) (no .0 .0 .0 .0 .0 .1) (no .0 .0 .0 .0 .1) (no .0 .0 .0 .1) (no .0 .0 .1) (no .0 .1) (no .1)) (c .before .before .before .before .before .transfer2 .ensures .0) (c .before .before .before .before .if11 .left) _ _ (c .before .before .before .before .before .transfer2 .ensures .1) (unmoved (x b .at) (x b .to) (s b .carriers) (sym (c .before .any-attached2 .ensures) ∙ c .if12 .left)))
-
-stop-requires-11 : tie.Need-stop-requires-11 Inv-loop μ-loop
-stop-requires-11 c κs = search needs
-
-returns-11 : tie.Need-returns-11 Inv-loop μ-loop
-returns-11 c = c .stop11 .ensures ∙ ended (c .before .before .before .before .args .state) (c .before .before .before .before .args .program .now) (c .before .before .loop .at) (c .before .before .loop .st) (omega arith) (c .before .before .loop .inv .1)
+returns-10 : tie.Need-returns-10 Inv-loop μ-loop
+returns-10 c = c .stop10 .ensures ∙ ended (c .before .before .before .before .args .state) (c .before .before .before .before .args .program .now) (c .before .before .loop .at) (c .before .before .loop .st) (omega arith) (c .before .before .loop .inv .1)
 
 pub run-from-spec : {M : Type 1} → statement M
 run-from-spec =
@@ -466,7 +427,7 @@ run-from-spec =
     ready-requires
     stop-requires-6
     returns-6
-    tuck-requires
+    form-requires
     stop-requires-7
     returns-7
     attach-requires
@@ -479,27 +440,16 @@ run-from-spec =
     ready-requires-2
     stop-requires-8
     returns-8
-    put-requires-2
-    attach-requires-2
-    mul-then-5
-    element-set-from-then-5
-    cast-k-6
-    sub-k-6
-    mul-c-6
-    element-copy-out-c-6
-    ready-requires-3
+    transfer-requires-2
     stop-requires-9
     returns-9
-    transfer-requires-2
-    stop-requires-10
-    returns-10
-    attach-requires-3
+    attach-requires-2
     any-attached-requires-2
     attachments-moved-requires-2
     mul-ds
     array-set-from-ds
-    mul-then-6
-    element-set-from-then-6
+    mul-then-5
+    element-set-from-then-5
     loop-less
     loop-again
     loop-less-2
@@ -520,7 +470,5 @@ run-from-spec =
     loop-again-9
     loop-less-10
     loop-again-10
-    loop-less-11
-    loop-again-11
-    stop-requires-11
-    returns-11)
+    stop-requires-10
+    returns-10)

@@ -12,7 +12,7 @@ use Rattle.machine.specs.declared.Column.{Column}
 use Rattle.machine.specs.declared.Racking.{Racking}
 use Rattle.machine.specs.Machine.{hookOf}
 use Rattle.machine.specs.Geometry.{columnOf, sameColumn}
-use Rattle.run.specs.Leaves.{transferNo, transferredLoops}
+use Rattle.run.specs.Loops.{transferNo, transferredLoops}
 use Rattle.run.proofs.transfer.Statement.{statement}
 use Rattle.run.proofs.transfer.Tie as tie
 

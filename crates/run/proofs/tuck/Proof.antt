@@ -8,7 +8,7 @@ use mathlib.Core.List.{List}
 use lib.ListN.{getD, set}
 use Rattle.machine.specs.declared.Needle.{Needle}
 use Rattle.machine.specs.Machine.{hookOf}
-use Rattle.run.specs.Leaves.{tuckNo, tucked}
+use Rattle.run.specs.Loops.{tuckNo, tucked}
 use Rattle.run.proofs.tuck.Statement.{statement}
 use Rattle.run.proofs.tuck.Tie as tie
 

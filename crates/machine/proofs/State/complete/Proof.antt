@@ -8,7 +8,7 @@ use lib.IntN.{pos}
 use borrow.Author.Tests.{not-true, not-false}
 use Rattle.machine.specs.declared.State.{State}
 use Rattle.machine.specs.Geometry.{eqZ}
-use Rattle.machine.specs.Machine.{noLoops, noneActive, completeOf}
+use Rattle.machine.specs.Machine.{noLoops, allInactive, completeOf}
 use Rattle.machine.proofs.Signed.{fits, is-bits, not-bits}
 use Rattle.machine.proofs.State.complete.Statement.{statement}
 use Rattle.machine.proofs.State.complete.Tie as tie
@@ -23,7 +23,7 @@ module _ (s : State) where
     unfolding completeOf
     looped f = simp (e, f)
 
-    last : noLoops (s .loops) ≡ true → noneActive (s .carriers) ≡ completeOf s
+    last : noLoops (s .loops) ≡ true → allInactive (s .carriers) ≡ completeOf s
     unfolding completeOf
     last f = simp (e, f)
 
@@ -38,13 +38,13 @@ returns-2 : tie.Need-returns-2
 returns-2 c = let s = c .before .before .before .before .before .before .before .before .before .args .t1 in
     looped s (is-bits w8 (s .racking .0) (pos 0) (fits w8 _ (c .before .before .before .before .before .before .struct-told .given .0 .1)) (fits w8 (pos 0) (omega arith)) (c .before .before .before .before .before .if1 .left)) (sym (c .before .no-loops .ensures) ∙ not-true (c .before .no-loops .result) (c .if2 .taken))
 
-none-active-requires : tie.Need-none-active-requires
-none-active-requires c κs = search needs
+all-inactive-requires : tie.Need-all-inactive-requires
+all-inactive-requires c κs = search needs
 
 returns-3 : tie.Need-returns-3
 returns-3 c = let s = c .before .before .before .before .before .before .before .before .before .before .before .args .t1 in
-    c .none-active .ensures ∙ last s (is-bits w8 (s .racking .0) (pos 0) (fits w8 _ (c .before .before .before .before .before .before .before .before .struct-told .given .0 .1)) (fits w8 (pos 0) (omega arith)) (c .before .before .before .before .before .before .before .if1 .left)) (sym (c .before .before .before .no-loops .ensures) ∙ not-false (c .before .before .before .no-loops .result) (c .before .before .if2 .left))
+    c .all-inactive .ensures ∙ last s (is-bits w8 (s .racking .0) (pos 0) (fits w8 _ (c .before .before .before .before .before .before .before .before .struct-told .given .0 .1)) (fits w8 (pos 0) (omega arith)) (c .before .before .before .before .before .before .before .if1 .left)) (sym (c .before .before .before .no-loops .ensures) ∙ not-false (c .before .before .before .no-loops .result) (c .before .before .if2 .left))
 
 pub complete-spec : {M : Type 1} → statement M
 complete-spec =
-    tie.close (tie.spec returns no-loops-requires returns-2 none-active-requires returns-3)
+    tie.close (tie.spec returns no-loops-requires returns-2 all-inactive-requires returns-3)

@@ -6,13 +6,13 @@ use Prim.Native.Nat.{ℕ, _+_, _-_, _≤_, _<_}
 use mathlib.Core.Bool.{true, false}
 use lib.ListN.{length, drop, getD}
 use borrow.Author.Tests.{not-true, not-false}
-use Rattle.machine.specs.Machine.{inactive, noneActive, inactiveCarrier}
+use Rattle.machine.specs.Machine.{inactive, allInactive, inactiveCarrier}
 use Rattle.machine.proofs.Laws.{all-next, all-end}
-use Rattle.machine.proofs.none_active.Statement.{statement}
-use Rattle.machine.proofs.none_active.Tie as tie
+use Rattle.machine.proofs.all_inactive.Statement.{statement}
+use Rattle.machine.proofs.all_inactive.Tie as tie
 
 abbrev Inv-loop : tie.InvT-loop
-Inv-loop carriers k₀ k = (k ≤ 10) × (length carriers ≡ 10) × (noneActive carriers ≡ noneActive (drop k carriers))
+Inv-loop carriers k₀ k = (k ≤ 10) × (length carriers ≡ 10) × (allInactive carriers ≡ allInactive (drop k carriers))
 
 abbrev μ-loop : tie.MeasureT-loop
 μ-loop carriers k₀ k = 10 - k
@@ -46,8 +46,8 @@ loop-again c = let l = c .before .before .before .before .before .args .t1 in le
 returns-2 : tie.Need-returns-2 Inv-loop μ-loop
 returns-2 c = sym (c .before .loop .inv .2 ∙ all-end inactiveCarrier (c .before .before .args .t1) (c .before .loop .k) (omega arith))
 
-pub none-active-spec : {M : Type 1} → statement M
-none-active-spec =
+pub all-inactive-spec : {M : Type 1} → statement M
+all-inactive-spec =
     tie.close
     (tie.spec
     Inv-loop

@@ -1,6 +1,6 @@
--- The parts of a step that work on the loops alone, as the code's small functions make them.
-use Prim.Native.Nat.{ℕ, _+_, _-_, _≤_, _<_}
-use mathlib.Core.Bool.{Bool, cond}
+-- What tuck, knit and transfers make of the loops, and their refusals: the promises of the code's small functions.
+use Prim.Native.Nat.{ℕ, _+_}
+use mathlib.Core.Bool.{cond}
 use mathlib.Core.List.{List}
 use lib.ListN.{getD, set}
 use lib.Dec.{eqb, leb}
@@ -16,7 +16,14 @@ tuckNo here = cond (leb (here + 1) 8) 0 11
 unfoldable pub tucked : List ℕ → Needle → List ℕ
 tucked l n = cond (eqb (tuckNo (getD l (hookOf n) 0)) 0) (set l (hookOf n) (getD l (hookOf n) 0 + 1)) l
 
--- the loops at a go to b and v are left, and its refusal
+-- the loop of a tuck (7) or a knit, and its refusal
+unfoldable pub formNo : ℕ → ℕ → ℕ
+formNo kind here = cond (eqb kind 7) (tuckNo here) 0
+
+unfoldable pub formed : List ℕ → Needle → ℕ → List ℕ
+formed l n kind = cond (eqb kind 7) (tucked l n) (set l (hookOf n) 1)
+
+-- the loops at a go to b, a then holds v, and its refusal
 unfoldable pub transferNo : List ℕ → Needle → Needle → Racking → ℕ
 transferNo l a b r = cond (sameColumn (columnOf a r) (columnOf b r)) (cond (leb (getD l (hookOf a) 0 + getD l (hookOf b) 0) 8) 0 11) 10
 
