@@ -14,7 +14,10 @@ use Rattle.record.proofs.Forms.{Fields, Reads, reads, fields-size, fields-posit
 use Rattle.run.specs.Relation.{Step}
 use Rattle.run.specs.Reason.{Whole, CutShort, fieldsOk, RecordReason, Reason}
 use Rattle.run.specs.Step.{numberAt}
-use Rattle.run.proofs.Sound.{reason-above, step-only, number-reason}
+use Rattle.run.specs.Run.{stepOf}
+use Rattle.run.specs.Claims.{NoStep, StepRefusal}
+use Rattle.run.proofs.Premises.{is}
+use Rattle.run.proofs.Sound.{reason-above, step-only, step-sound, number-reason}
 use Rattle.run.proofs.Least.{number-least}
 
 -- ---- the three reasons of bytes
@@ -89,7 +92,7 @@ record-reason {s = s} {m = m} (Reads.done f a b) i e (Reason.of-record bytes res
 
 -- ---- what is said of a refusal
 pub record Refusal (n : ℕ) (s : State) (l : List ℕ) : Type 0 where
-  pub no-step : (bytes rest : List ℕ) (x : Record) (t : State) → l ≡ bytes ++ rest → Encodes bytes x → Step s x t → ⊥
+  pub no-step : NoStep s l
   pub reason : Reason n s l
   pub least : (m : ℕ) → m < n → Reason m s l → ⊥
 
@@ -107,5 +110,37 @@ step-refusal s l e h = record {
   reason =
       Reason.of-record (take (decodeOf l .size) l) (drop (decodeOf l .size) l) (decodeOf l .what)
       (sym (take-append-drop (decodeOf l .size) l)) (decode-form l e) (number-reason s (decodeOf l .what) (decode-in l e) h);
-  least = λ m k r. omega (arith, number-least s (decodeOf l .what) (decode-in l e) (record-reason (reads l) refl e r));
+  least = λ m k r. omega (arith, number-least s (decodeOf l .what) (decode-in l e) (record-reason (reads l) refl e r) .1);
 }
+
+-- ---- a reason holds exactly where there is no step
+pub reason-no-step : {n : ℕ} {s : State} {l : List ℕ} → Reason n s l → NoStep s l
+reason-no-step {n} {s} {l} r bytes rest x t e form step =
+    let d = front-decode rest e form in
+    let k = record-reason (reads l) refl (ap (λ (y : Decoded). y .number) d) r in
+    let w = number-least s x (form-in form) (subst (λ (y : Record). RecordReason n s y) (ap (λ (y : Decoded). y .what) d) k) in
+    omega (arith, w .0, step-only s x (form-in form) step .0)
+
+pub no-step-reason : (s : State) (l : List ℕ) → NoStep s l → (n : ℕ) × Reason n s l
+no-step-reason s l h =
+    is (decodeOf l .number) 0
+    (λ e. is (numberAt s (decodeOf l .what)) 0
+    (λ z. absurd (h (take (decodeOf l .size) l) (drop (decodeOf l .size) l) (decodeOf l .what) _ (sym (take-append-drop (decodeOf l .size) l))
+    (decode-form l e) (step-sound s (decodeOf l .what) (decode-in l e) z)))
+    (λ d. (_, step-refusal s l e d .reason)))
+    (λ d. (_, bytes-refusal s l d .reason))
+
+-- ---- the step of a slice's first record
+pub step-gives : (s : State) (bytes rest : List ℕ) (x : Record) (t : State) → Encodes bytes x → Step s x t
+    → stepOf s (bytes ++ rest) ≡ record { number = 0; length = length bytes; state = t }
+unfolding stepOf
+step-gives s bytes rest x t form step =
+    let (z, u) = step-only s x (form-in form) step in simp (form-decode form rest) (simp (z, u))
+
+pub step-refuses : (s : State) (l : List ℕ) → (stepOf s l .number ≡ 0 → ⊥) → StepRefusal s l (stepOf s l)
+unfolding stepOf
+step-refuses s l h =
+    is (decodeOf l .number) 0
+    (λ e. is (numberAt s (decodeOf l .what)) 0 (λ z. absurd (h (simp (e, z))))
+    (λ d. let r = step-refusal s l e d in simp (e, ne-eqb (numberAt s (decodeOf l .what)) 0 d) (record { length = refl; state = refl; no-step = r .no-step; reason = r .reason; least = r .least })))
+    (λ d. let r = bytes-refusal s l d in simp (ne-eqb (decodeOf l .number) 0 d) (record { length = refl; state = refl; no-step = r .no-step; reason = r .reason; least = r .least }))

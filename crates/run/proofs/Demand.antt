@@ -2,7 +2,8 @@
 use mathlib.Core.Path.{ap}
 use Rattle.run.specs.declared.Answer.{Answer}
 use Rattle.run.specs.Run.{answerOf}
-use Rattle.run.specs.Claims.{AcceptsExactlyValid, GivesFinalState, TooLongExactly, TooLongAnswer, RefusesFirst, RefusalIsOne, PlaceIsSmall, CompleteIsEmpty}
+use Rattle.run.specs.Claims.{AcceptsExactlyValid, GivesFinalState, TooLongExactly, TooLongAnswer, RefusesFirst, RefusalIsOne, PlaceIsSmall, CompleteIsEmpty, ReasonExactlyNoStep, StepGives, StepRefuses}
+use Rattle.run.proofs.Bytes.{reason-no-step, no-step-reason, step-gives, step-refuses}
 use Rattle.run.proofs.Unique.{one-refusal}
 use Rattle.run.proofs.Answers.{long-run, valid-run, answered, accepted, one-long, first-refusal, place-small, complete-empty}
 
@@ -33,3 +34,12 @@ complete p = complete-empty (answered p)
 
 pub place-bound : PlaceIsSmall
 place-bound p = place-small (answered p)
+
+pub reason-exact : ReasonExactlyNoStep
+reason-exact s l = ((λ (n, r). reason-no-step r), no-step-reason s l)
+
+pub step-done : StepGives
+step-done = step-gives
+
+pub step-refused : StepRefuses
+step-refused = step-refuses

@@ -1,5 +1,5 @@
 -- The number of the step is the least of the reasons that hold. Assumes nothing.
-use Prim.Native.Nat.{ℕ, _≤_}
+use Prim.Native.Nat.{ℕ, _≤_, _<_}
 use mathlib.Core.Path.{_≡_, refl, sym, ap, _∙_}
 use mathlib.Core.Bool.{Bool, true, false, cond}
 use native.Mathlib.Omega.{arith}
@@ -16,7 +16,7 @@ use Rattle.run.specs.Reason.{NotOpposite, HookFull, RecordReason}
 use Rattle.run.specs.Step.{orNumber, parkedNo, floatNo, numberAt}
 use Rattle.run.specs.Loops.{tuckNo}
 use Rattle.run.proofs.ByKind.{or-zero, seen, readyNo, xfer-number, in-number, out-number, miss-number, tuck-number, knit-number, split-number}
-use Rattle.run.proofs.Premises.{up, or-first, or-le, or-some, parked-off, parked-elsewhere, parked-le, in-six, float-over, float-le, tuck-full, carrier, moveNo, move-apart, move-le}
+use Rattle.run.proofs.Premises.{up, or-first, or-le, or-some, parked-off, parked-elsewhere, parked-le, in-six, float-over, float-le, tuck-full, carrier, moveNo, move-apart, move-some, move-le}
 
 or-assoc : (a b n : ℕ) → orNumber (orNumber a b) n ≡ orNumber a (orNumber b n)
 or-assoc a b n = go (eqb a 0) (eqb-false a 0)
@@ -24,6 +24,9 @@ or-assoc a b n = go (eqb a 0) (eqb-false a 0)
     go : (t : Bool) → (t ≡ false → a ≡ 0 → ⊥) → orNumber (cond t b a) n ≡ cond t (orNumber b n) a
     go true f = refl
     go false f = or-first a n (f refl)
+
+positive : (n : ℕ) → (n ≡ 0 → ⊥) → 0 < n
+positive n h = omega arith
 
 module _ (s : State) (x : Record) where
   -- the two numbers of which readyNo is the first
@@ -57,26 +60,33 @@ module _ (s : State) (x : Record) (f : InRange x) where
   parked-bound : 5 ≤ x .kind → (n : ℕ) → parkedNo (seen s x) (slot s x) ≡ n → (n ≡ 0 → ⊥) → numberAt s x ≡ n
   parked-bound h n e d = let (rest, q) = parked-first h in q ∙ ap (λ (m : ℕ). orNumber m rest) e ∙ or-first n rest d
 
-  float-bound : 7 ≤ x .kind → reachNo s x ≡ 9 → numberAt s x ≤ 9
+  float-bound : 7 ≤ x .kind → reachNo s x ≡ 9 → (0 < numberAt s x) × (numberAt s x ≤ 9)
   float-bound h e =
       let (rest, q) = ready-first h in
-      let z : numberAt s x ≡ readyNo s x = q ∙ or-first (readyNo s x) rest (or-some (enterNo s x) (reachNo s x) (λ w. omega arith)) in
-      omega (arith, ready-le s x)
+      let d = or-some (enterNo s x) (reachNo s x) (λ w. omega arith) in
+      let z : numberAt s x ≡ readyNo s x = q ∙ or-first (readyNo s x) rest d in
+      (positive (numberAt s x) (λ w. d (sym z ∙ w)), omega (arith, ready-le s x))
 
-  -- a reason that holds has a number no less than the step's
-  pub number-least : {m : ℕ} → RecordReason m s x → numberAt s x ≤ m
+  -- where tuck or split is refused for its hooks
+  after-ready : (n m : ℕ) → numberAt s x ≡ orNumber (readyNo s x) n → (n ≡ 0 → ⊥) → n ≤ m → 9 ≤ m → (0 < numberAt s x) × (numberAt s x ≤ m)
+  after-ready n m e d h k =
+      (positive (numberAt s x) (λ w. or-some (readyNo s x) n d (sym e ∙ w)), omega (arith, or-le (readyNo s x) n m (omega (arith, ready-le s x)) h))
+
+  -- a reason that holds has a number no less than the step's, which is not 0 then
+  pub number-least : {m : ℕ} → RecordReason m s x → (0 < numberAt s x) × (numberAt s x ≤ m)
   number-least (RecordReason.already-in e a) = omega (arith, in-number s x (a .kind) ∙ in-six (s .racking) (carrier s x) (a .active))
   number-least (RecordReason.not-in e a) =
       omega (arith, parked-bound (a .kind) 7 (parked-off (s .racking) (carrier s x) (slot s x) (a .carrier-off)) (λ q. omega arith))
   number-least (RecordReason.wrong-slot e a) =
       omega (arith, parked-bound (a .kind) 8 (parked-elsewhere (s .racking) (carrier s x) (slot s x) (a .active) (a .elsewhere)) (λ q. omega arith))
   number-least (RecordReason.float-too-long e a) =
-      omega (arith, float-bound (a .kind) (float-over (s .racking) (carrier s x) (columnOf (x .at) (s .racking)) (a .attached) (a .over)))
+      let (p, q) = float-bound (a .kind) (float-over (s .racking) (carrier s x) (columnOf (x .at) (s .racking)) (a .attached) (a .over)) in (p, omega arith)
   number-least (RecordReason.not-opposite e (NotOpposite.xfer k h)) = omega (arith, xfer-number s x k ∙ move-apart s x h)
-  number-least (RecordReason.not-opposite e (NotOpposite.split k h)) =
-      omega (arith, split-number s x k, or-le (readyNo s x) (moveNo s x) 10 (omega (arith, ready-le s x)) (omega (arith, move-apart s x h)))
-  number-least (RecordReason.hook-full e (HookFull.tuck k h)) =
-      omega (arith, tuck-number s x k, or-le (readyNo s x) (tuckNo (loopsOn s (x .at))) 11 (omega (arith, ready-le s x)) (omega (arith, tuck-full (loopsOn s (x .at)) h)))
-  number-least (RecordReason.hook-full e (HookFull.xfer k h)) = omega (arith, xfer-number s x k, move-le s x)
-  number-least (RecordReason.hook-full e (HookFull.split k h)) =
-      omega (arith, split-number s x k, or-le (readyNo s x) (moveNo s x) 11 (omega (arith, ready-le s x)) (move-le s x))
+  number-least {m} (RecordReason.not-opposite e (NotOpposite.split k h)) =
+      let a = move-apart s x h in after-ready (moveNo s x) m (split-number s x k) (λ w. omega arith) (omega arith) (omega arith)
+  number-least {m} (RecordReason.hook-full e (HookFull.tuck k h)) =
+      let a = tuck-full (loopsOn s (x .at)) h in after-ready (tuckNo (loopsOn s (x .at))) m (tuck-number s x k) (λ w. omega arith) (omega arith) (omega arith)
+  number-least (RecordReason.hook-full e (HookFull.xfer k h)) =
+      let n = xfer-number s x k in (positive (numberAt s x) (λ w. move-some s x h (sym n ∙ w)), omega (arith, move-le s x))
+  number-least {m} (RecordReason.hook-full e (HookFull.split k h)) =
+      after-ready (moveNo s x) m (split-number s x k) (move-some s x h) (omega (arith, move-le s x)) (omega arith)

@@ -161,6 +161,9 @@ module _ (s : State) (x : Record) where
   unfolding transferNo
   move-apart h = simp (same-no h)
 
+  pub move-some : 8 < sum → moveNo ≡ 0 → ⊥
+  move-some h e = opposite-cases (λ o. omega (arith, move-full o h)) (λ o. omega (arith, move-apart o))
+
   pub move-le : moveNo ≤ 11
   unfolding transferNo
   move-le =

@@ -1,7 +1,8 @@
--- Demand 2: what the run says of every program, against the validity relation.
+-- Demand 2: what the run and the step say of every program, against the validity relation. The code's `run` equals runOf and its
+-- `step` equals stepOf by their contracts.
 use Prim.Native.Nat.{ℕ, _≤_, _<_}
 use mathlib.Core.Path.{_≡_}
-use mathlib.Core.Bool.{Bool, true}
+use mathlib.Core.Bool.{true}
 use mathlib.Core.List.{List, _++_}
 use mathlib.Core.Logic.{_↔_}
 use lib.ListN.{length, take, drop}
@@ -10,22 +11,23 @@ use Rattle.machine.specs.Machine.{emptyState}
 use Rattle.record.specs.declared.Record.{Record}
 use Rattle.record.specs.Format.{Encodes}
 use Rattle.run.specs.declared.Answer.{Answer}
+use Rattle.run.specs.declared.Stepped.{Stepped}
 use Rattle.run.specs.Relation.{Step, Steps, Valid}
 use Rattle.run.specs.Reason.{Reason}
-use Rattle.run.specs.Run.{runOf}
+use Rattle.run.specs.Run.{runOf, stepOf}
 
 -- the run accepts a program exactly if it is valid
 abbrev pub AcceptsExactlyValid : Type 0
 AcceptsExactlyValid = (p : List ℕ) → (runOf p .number ≡ 0) ↔ ((t : State) × Valid p t)
 
 -- and then gives the relation's final racking, loops, parking and attachments, at place 0
-pub record Done (p : List ℕ) (t : State) (a : Answer) : Type 0 where
+pub record Done (t : State) (a : Answer) : Type 0 where
   pub number : a .number ≡ 0
   pub place : a .place ≡ 0
   pub state : a .state ≡ t
 
 abbrev pub GivesFinalState : Type 0
-GivesFinalState = (p : List ℕ) (t : State) → Valid p t → Done p t (runOf p)
+GivesFinalState = (p : List ℕ) (t : State) → Valid p t → Done t (runOf p)
 
 -- a program that is too long gets 1, and only such a program; place 0, the empty state
 abbrev pub TooLongExactly : Type 0
@@ -34,14 +36,17 @@ TooLongExactly = (p : List ℕ) → (runOf p .number ≡ 1) ↔ (32768 < length 
 abbrev pub TooLongAnswer : Type 0
 TooLongAnswer = (p : List ℕ) → 32768 < length p → runOf p ≡ record { number = 1; place = 0; complete = true; state = emptyState }
 
+-- no record that the bytes begin with has a step
+abbrev pub NoStep : State → List ℕ → Type 0
+NoStep s l = (bytes rest : List ℕ) (x : Record) (t : State) → l ≡ bytes ++ rest → Encodes bytes x → Step s x t → ⊥
+
 -- the first record that has no step, and the first reason that holds
 pub record FirstRefusal (p : List ℕ) (a : Answer) : Type 0 where
   -- there is something at the place
   pub within : a .place < length p
   -- the records before it have their steps, and the state is the one they end in
   pub before : Steps emptyState (take (a .place) p) (a .state)
-  -- no record there has a step
-  pub no-step : (bytes rest : List ℕ) (x : Record) (t : State) → drop (a .place) p ≡ bytes ++ rest → Encodes bytes x → Step (a .state) x t → ⊥
+  pub no-step : NoStep (a .state) (drop (a .place) p)
   -- the number's reason holds there, and no reason of a smaller number does
   pub reason : Reason (a .number) (a .state) (drop (a .place) p)
   pub least : (m : ℕ) → m < a .number → Reason m (a .state) (drop (a .place) p) → ⊥
@@ -54,6 +59,10 @@ abbrev pub RefusalIsOne : Type 0
 RefusalIsOne =
     (p : List ℕ) (a : Answer) → length p ≤ 32768 → FirstRefusal p a → (runOf p .number ≡ a .number) × (runOf p .place ≡ a .place) × (runOf p .state ≡ a .state)
 
+-- a reason holds exactly where there is no step
+abbrev pub ReasonExactlyNoStep : Type 0
+ReasonExactlyNoStep = (s : State) (l : List ℕ) → ((n : ℕ) × Reason n s l) ↔ NoStep s l
+
 -- a place lies within the longest program, so that number and place go into one word
 abbrev pub PlaceIsSmall : Type 0
 PlaceIsSmall = (p : List ℕ) → runOf p .place < 32768
@@ -61,3 +70,20 @@ PlaceIsSmall = (p : List ℕ) → runOf p .place < 32768
 -- complete says whether the state is the empty one, whatever the number
 abbrev pub CompleteIsEmpty : Type 0
 CompleteIsEmpty = (p : List ℕ) → (runOf p .complete ≡ true) ↔ (runOf p .state ≡ emptyState)
+
+-- the step of the first record of a slice: its length and the relation's state
+abbrev pub StepGives : Type 0
+StepGives =
+    (s : State) (bytes rest : List ℕ) (x : Record) (t : State) → Encodes bytes x → Step s x t
+    → stepOf s (bytes ++ rest) ≡ record { number = 0; length = length bytes; state = t }
+
+-- or the least reason, length 0 and the same state
+pub record StepRefusal (s : State) (l : List ℕ) (a : Stepped) : Type 0 where
+  pub length : a .length ≡ 0
+  pub state : a .state ≡ s
+  pub no-step : NoStep s l
+  pub reason : Reason (a .number) s l
+  pub least : (m : ℕ) → m < a .number → Reason m s l → ⊥
+
+abbrev pub StepRefuses : Type 0
+StepRefuses = (s : State) (l : List ℕ) → (stepOf s l .number ≡ 0 → ⊥) → StepRefusal s l (stepOf s l)
