@@ -1,7 +1,14 @@
 -- What the C entries answer.
-use Prim.Native.Nat.{ℕ, _+_, _*_}
+use Prim.Native.Nat.{ℕ, _+_, _*_, _/_, _%_}
+use mathlib.Core.Path.{_≡_}
+use mathlib.Core.List.{List}
 use Rattle.run.specs.declared.Answer.{Answer}
+use Rattle.run.specs.Run.{runOf}
 
 -- number and place in one word (01: "the run's number times 65,536 plus its place")
 unfoldable pub packed : Answer → ℕ
 packed a = a .number * 65536 + a .place
+
+-- both are read back from it, as the header's macros do
+abbrev pub ReadBack : Type 0
+ReadBack = (p : List ℕ) → (packed (runOf p) / 65536 ≡ runOf p .number) × (packed (runOf p) % 65536 ≡ runOf p .place)

@@ -1,6 +1,5 @@
 -- Columns and slots of document 01, 'Machine' (000, Definition 5.2: physical needle and yarn carrier locations).
-use Prim.Native.Nat.{ℕ}
-use mathlib.Core.Bool.{Bool, true, false, cond}
+use mathlib.Core.Bool.{Bool, false, cond}
 use lib.IntN.{ℤ, pos, negsuc, _+ℤ_, _-ℤ_, natAbs}
 use lib.Dec.{eqb, leb}
 use Rattle.machine.specs.declared.Needle.{Needle}
@@ -8,7 +7,7 @@ use Rattle.machine.specs.declared.Column.{Column}
 use Rattle.machine.specs.declared.Racking.{Racking}
 use Rattle.machine.specs.declared.Slot.{Slot}
 
--- equal whole numbers
+-- whether two whole numbers are equal
 unfoldable pub eqZ : ℤ → ℤ → Bool
 eqZ (pos a) (pos b) = eqb a b
 eqZ (pos a) (negsuc b) = false
@@ -19,7 +18,7 @@ eqZ (negsuc a) (negsuc b) = eqb a b
 unfoldable pub columnOf : Needle → Racking → Column
 columnOf n r = record { 0 = cond (eqb (n .0) 0) (pos (n .1)) (pos (n .1) +ℤ r .0) }
 
--- moving right over column z: in at slot z, out at slot z + 1; moving left the other way round
+-- moving right over column z, the entry slot is z and the exit slot z + 1; moving left, the entry is z + 1 and the exit z
 unfoldable pub entryOf : Column → Bool → Slot
 entryOf z right = record { 0 = cond right (z .0) (z .0 +ℤ pos 1) }
 

@@ -1,10 +1,10 @@
 -- The machine of document 01, 'Machine': needles, carriers and the machine state (000, Definition 5.3: r, L, and Y with A as the carriers).
 use Prim.Native.Nat.{ℕ, _+_, _-_, _*_, _<_}
-use mathlib.Core.Bool.{Bool, true, false, _&&_, not, cond}
+use mathlib.Core.Bool.{Bool, true, _&&_, not, cond}
 use mathlib.Core.List.{List, [], _∷_}
-use lib.IntN.{ℤ, pos}
+use lib.IntN.{pos}
 use lib.Dec.{eqb}
-use lib.ListN.{getD, set, replicate}
+use lib.ListN.{getD, replicate}
 use Rattle.machine.specs.Geometry.{eqZ}
 use Rattle.machine.specs.declared.Needle.{Needle}
 use Rattle.machine.specs.declared.Racking.{Racking}
@@ -51,10 +51,11 @@ attachedAt n c = not (eqb (c .side) 0) && sameNeedle (c .needle) n
 unfoldable pub movedTo : Needle → Needle → Carrier → Carrier
 movedTo from to c = cond (attachedAt from c) (record { active = c .active; side = c .side; slot = c .slot; needle = to }) c
 
+-- whether one is attached at the needle: the code then moves attachments, and else need not
 abbrev pub anyAttached : Needle → List Carrier → Bool
 anyAttached n l = not (all (λ (c : Carrier). not (attachedAt n c)) l)
 
--- complete: the state is the empty one
+-- no loop on any hook; every carrier the inactive one, 0 in every field
 abbrev pub noLoops : List ℕ → Bool
 noLoops l = all (λ (n : ℕ). eqb n 0) l
 
@@ -64,5 +65,6 @@ inactiveCarrier c = eqb (c .active) 0 && (eqb (c .side) 0 && (eqZ (c .slot .0) (
 abbrev pub allInactive : List Carrier → Bool
 allInactive l = all inactiveCarrier l
 
+-- complete: the state is the empty one
 unfoldable pub completeOf : State → Bool
 completeOf s = eqZ (s .racking .0) (pos 0) && (noLoops (s .loops) && allInactive (s .carriers))

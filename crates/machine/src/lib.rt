@@ -48,6 +48,7 @@ impl State {
     pub const CARRIERS: usize = 10;
     // the last needle of a bed and the last carrier, as the format names them
     pub const NEEDLE_MOST: u8 = 249;
+
     pub const CARRIER_MOST: u8 = 10;
     // the furthest racking to the left and to the right
     pub const RACKING_LEAST: i8 = -8;
@@ -235,7 +236,7 @@ pub fn no_loops(loops: &[u8]) -> bool
     true
 }
 
-// Whether no carrier is active.
+// Whether every carrier is the inactive one, 0 in every field.
 pub fn all_inactive(carriers: [Carrier; State::CARRIERS]) -> bool
     ensures { λ b. ⌜ b ≡ allInactive carriers ⌝ }
 {

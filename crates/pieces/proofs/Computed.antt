@@ -1,17 +1,17 @@
 -- The pieces hold: one test over all rows, computed, and that the test says so. Assumes nothing.
-use Prim.Native.Nat.{ℕ, _-_}
+use Prim.Native.Nat.{ℕ}
 use mathlib.Core.Path.{_≡_, refl, sym}
 use mathlib.Core.Bool.{Bool, true, false, _&&_, not}
 use mathlib.Core.List.{List, [], _∷_}
 use lib.IntN.{ℤ}
 use lib.Dec.{eqb}
-use lib.ListN.{getD}
 use borrow.Author.Tests.{eqb-true, not-true}
 use Rattle.machine.proofs.Signed.{eqZ-true}
 use Rattle.machine.proofs.Laws.{and-two}
+use Rattle.machine.specs.declared.Needle.{Needle}
 use Rattle.machine.specs.declared.Carrier.{Carrier}
 use Rattle.machine.specs.declared.State.{State}
-use Rattle.machine.specs.Machine.{inactive, emptyState, completeOf, all, inactiveCarrier, movedTo, attachedAt, sameNeedle}
+use Rattle.machine.specs.Machine.{loopsOn, carrierOf, emptyState, completeOf, all, inactiveCarrier, movedTo, attachedAt, sameNeedle}
 use Rattle.machine.specs.Geometry.{eqZ, columnOf, entryOf, exitOf, sameColumn, withinFloat}
 use Rattle.record.specs.Format.{decodeOf, whole, ranged, refusedAs, rackOk, needleOk, workOk, signedOf}
 use Rattle.record.specs.Names.{needleCount, carrierCount, needlesOf, carriersOf}
@@ -57,34 +57,39 @@ each : {A : Type 0} (P : A → Type 0) (f : A → Bool) → ((x : A) → f x ≡
 each P f g [] e = tt
 each P f g (x ∷ l) e = let (p, q) = and-two (f x) (every f l) e in (g x p, each P f g l q)
 
-hooksTest : State → List (ℕ × ℕ) → Bool
-hooksTest s l = every (λ (h : ℕ × ℕ). eqb (getD (s .loops) (h .0) 0) (h .1)) l
+hooksTest : State → List (Needle × ℕ) → Bool
+hooksTest s l = every (λ (h : Needle × ℕ). eqb (loopsOn s (h .0)) (h .1)) l
 
 carriersTest : State → List (ℕ × Carrier) → Bool
-carriersTest s l = every (λ (k : ℕ × Carrier). sameCarrier (getD (s .carriers) (k .0 - 1) inactive) (k .1)) l
+carriersTest s l = every (λ (k : ℕ × Carrier). sameCarrier (carrierOf s (k .0)) (k .1)) l
+
+stateTest : State → Row → Bool
+stateTest s r = eqZ (s .racking .0) (r .racking) && (hooksTest s (r .hooks) && carriersTest s (r .carriers))
 
 test : Row → Bool
 test r =
-    eqb (runOf (r .program) .number) (r .number) && (eqb (runOf (r .program) .place) (r .place) && (sameBool (runOf (r .program) .complete) (r .complete)
-    && (hooksTest (runOf (r .program) .state) (r .hooks) && carriersTest (runOf (r .program) .state) (r .carriers))))
+    eqb (runOf (r .program) .number) (r .number)
+    && (eqb (runOf (r .program) .place) (r .place) && (sameBool (runOf (r .program) .complete) (r .complete) && stateTest (runOf (r .program) .state) r))
 
 test-says : (r : Row) → test r ≡ true → Holds r
-unfolding test hooksTest carriersTest
+unfolding test stateTest hooksTest carriersTest
 test-says r e =
     let (p, e1) = and-two (eqb (runOf (r .program) .number) (r .number)) _ e in
     let (q, e2) = and-two (eqb (runOf (r .program) .place) (r .place)) _ e1 in
     let (t, e3) = and-two (sameBool (runOf (r .program) .complete) (r .complete)) _ e2 in
-    let (u, v) = and-two (hooksTest (runOf (r .program) .state) (r .hooks)) (carriersTest (runOf (r .program) .state) (r .carriers)) e3 in
+    let (w, e4) = and-two (eqZ (runOf (r .program) .state .racking .0) (r .racking)) _ e3 in
+    let (u, v) = and-two (hooksTest (runOf (r .program) .state) (r .hooks)) (carriersTest (runOf (r .program) .state) (r .carriers)) e4 in
     record {
       number = eqb-true _ _ p;
       place = eqb-true _ _ q;
       complete = same-bool _ _ t;
+      racking = eqZ-true _ _ w;
       hooks = each _ _ (λ h f. eqb-true _ _ f) (r .hooks) u;
       carriers = each _ _ (λ k f. same-carrier _ _ f) (r .carriers) v;
     }
 
 computed : every test rows ≡ true
-unfolding test hooksTest carriersTest sameBool sameCarrier runOf runFrom turn answerOf emptyState completeOf all inactiveCarrier movedTo attachedAt sameNeedle eqZ columnOf entryOf exitOf sameColumn withinFloat decodeOf whole ranged refusedAs rackOk needleOk workOk signedOf needleCount carrierCount needlesOf carriersOf lookOf seeOf parkedNo floatNo carrierNo oppositeNo firstAfter secondAfter roomNo numberOf edit actOf acted moveAttachments rackingAfter numberAt applyOf
+unfolding test stateTest hooksTest carriersTest sameBool sameCarrier runOf runFrom turn answerOf emptyState completeOf all inactiveCarrier movedTo attachedAt sameNeedle eqZ columnOf entryOf exitOf sameColumn withinFloat decodeOf whole ranged refusedAs rackOk needleOk workOk signedOf needleCount carrierCount needlesOf carriersOf lookOf seeOf parkedNo floatNo carrierNo oppositeNo firstAfter secondAfter roomNo numberOf edit actOf acted moveAttachments rackingAfter numberAt applyOf
 computed = refl
 
 -- the pieces

@@ -2,21 +2,36 @@
 use Prim.Native.Nat.{ℕ}
 use mathlib.Core.Bool.{Bool, true, false}
 use mathlib.Core.List.{List, [], _∷_, _++_}
-use lib.IntN.{pos}
+use lib.IntN.{ℤ, pos, negsuc}
+use Rattle.machine.specs.declared.Needle.{Needle}
 use Rattle.machine.specs.declared.Carrier.{Carrier}
 
--- some hooks of the final state with their loops, some carriers with their entry
+-- what the run answers: number, place, complete; of the state its racking, some needles with their loops, some carriers
 pub record Row : Type 0 where
   pub program : List ℕ
   pub number : ℕ
   pub place : ℕ
   pub complete : Bool
-  pub hooks : List (ℕ × ℕ)
+  pub racking : ℤ
+  pub hooks : List (Needle × ℕ)
   pub carriers : List (ℕ × Carrier)
 
--- a row that says nothing of the state
+-- a row at racking 0 or another that says nothing of hooks and carriers
+abbrev racked : List ℕ → ℕ → ℕ → Bool → ℤ → Row
+racked p n at done r = record { program = p; number = n; place = at; complete = done; racking = r; hooks = []; carriers = [] }
+
 abbrev row : List ℕ → ℕ → ℕ → Bool → Row
-row p n at done = record { program = p; number = n; place = at; complete = done; hooks = []; carriers = [] }
+row p n at done = racked p n at done (pos 0)
+
+-- a row at racking 0, not complete, with hooks and carriers
+abbrev knitted : List ℕ → ℕ → ℕ → List (Needle × ℕ) → List (ℕ × Carrier) → Row
+knitted p n at hs cs = record { program = p; number = n; place = at; complete = false; racking = pos 0; hooks = hs; carriers = cs }
+
+abbrev f : ℕ → Needle
+f n = record { 0 = 0; 1 = n }
+
+abbrev b : ℕ → Needle
+b n = record { 0 = 1; 1 = n }
 
 -- carrier 3 at front needle n: in right, a tuck or a miss in a direction
 abbrev in-right : ℕ → List ℕ
@@ -42,38 +57,41 @@ misses =
 abbrev P : List ℕ
 P = 4 ∷ 1 ∷ 0 ∷ 10 ∷ 3 ∷ 4 ∷ 1 ∷ 1 ∷ 10 ∷ 4 ∷ 8 ∷ 1 ∷ 0 ∷ 10 ∷ 3 ∷ 8 ∷ 1 ∷ 1 ∷ 10 ∷ 4 ∷ []
 
--- parked at slot z, attached to a needle on a side (1 left, 2 right)
-abbrev attached : ℕ → ℕ → ℕ → ℕ → Carrier
-attached z bed n side = record { active = 1; side = side; slot = record { 0 = pos z }; needle = record { 0 = bed; 1 = n } }
+-- parked at slot z, attached to a needle on a side (1 left, 2 right), or to none
+abbrev attached : ℕ → Needle → ℕ → Carrier
+attached z n side = record { active = 1; side = side; slot = record { 0 = pos z }; needle = n }
+
+abbrev unattached : ℕ → Carrier
+unattached z = attached z (f 0) 0
 
 abbrev pub rows : List Row
 rows =
     -- 1: the empty program
     row [] 0 0 true
     -- 2: rack bytes 08 and F8 pass, 09 and F7 give 5
-    ∷ row (1 ∷ 8 ∷ []) 0 0 false
-    ∷ row (1 ∷ 248 ∷ []) 0 0 false
+    ∷ racked (1 ∷ 8 ∷ []) 0 0 false (pos 8)
+    ∷ racked (1 ∷ 248 ∷ []) 0 0 false (negsuc 7)
     ∷ row (1 ∷ 9 ∷ []) 5 0 true
     ∷ row (1 ∷ 247 ∷ []) 5 0 true
     -- 3: drop f.249 passes, f.250 gives 5
     ∷ row (2 ∷ 0 ∷ 249 ∷ []) 0 0 true
     ∷ row (2 ∷ 0 ∷ 250 ∷ []) 5 0 true
     -- 4: in right f.10, knit left there: 8 at place 5
-    ∷ row (in-right 10 ++ (8 ∷ 0 ∷ 0 ∷ 10 ∷ 3 ∷ [])) 8 5 false
+    ∷ knitted (in-right 10 ++ (8 ∷ 0 ∷ 0 ∷ 10 ∷ 3 ∷ [])) 8 5 ((f 10, 0) ∷ []) ((3, unattached 10) ∷ [])
     -- 5: rack 2: xfer f.12 to b.10 passes, f.8 to b.10 gives 10
-    ∷ row (1 ∷ 2 ∷ 3 ∷ 0 ∷ 12 ∷ 10 ∷ []) 0 0 false
-    ∷ row (1 ∷ 2 ∷ 3 ∷ 0 ∷ 8 ∷ 10 ∷ []) 10 2 false
+    ∷ racked (1 ∷ 2 ∷ 3 ∷ 0 ∷ 12 ∷ 10 ∷ []) 0 0 false (pos 2)
+    ∷ racked (1 ∷ 2 ∷ 3 ∷ 0 ∷ 8 ∷ 10 ∷ []) 10 2 false (pos 2)
     -- 6: eight tucks pass, the ninth gives 11 at 45
-    ∷ record { program = in-right 10 ++ (four-tucks ++ four-tucks); number = 0; place = 0; complete = false; hooks = (10, 8) ∷ []; carriers = (3, attached 10 0 10 1) ∷ [] }
-    ∷ row (in-right 10 ++ (four-tucks ++ (four-tucks ++ tuck 1 10))) 11 45 false
+    ∷ knitted (in-right 10 ++ (four-tucks ++ four-tucks)) 0 0 ((f 10, 8) ∷ []) ((3, attached 10 (f 10) 1) ∷ [])
+    ∷ knitted (in-right 10 ++ (four-tucks ++ (four-tucks ++ tuck 1 10))) 11 45 ((f 10, 8) ∷ []) ((3, attached 10 (f 10) 1) ∷ [])
     -- 7: a float of 20 columns passes, one of 21 gives 9
-    ∷ row (in-right 10 ++ (tuck 1 10 ++ (misses ++ tuck 1 30))) 0 0 false
-    ∷ row (in-right 10 ++ (tuck 1 10 ++ (misses ++ (miss 30 ++ tuck 1 31)))) 9 110 false
+    ∷ knitted (in-right 10 ++ (tuck 1 10 ++ (misses ++ tuck 1 30))) 0 0 ((f 10, 1) ∷ (f 30, 1) ∷ []) ((3, attached 31 (f 30) 2) ∷ [])
+    ∷ knitted (in-right 10 ++ (tuck 1 10 ++ (misses ++ (miss 30 ++ tuck 1 31)))) 9 110 ((f 31, 0) ∷ []) ((3, attached 31 (f 10) 2) ∷ [])
     -- 8: P runs to the state that 01 lists
-    ∷ record { program = P; number = 0; place = 0; complete = false; hooks = (10, 1) ∷ (260, 1) ∷ []; carriers = (3, attached 11 0 10 2) ∷ (4, attached 11 1 10 2) ∷ [] }
+    ∷ knitted P 0 0 ((f 10, 1) ∷ (b 10, 1) ∷ []) ((3, attached 11 (f 10) 2) ∷ (4, attached 11 (b 10) 2) ∷ [])
     -- 9: in right f.10, out left f.10, in right f.50: runs
-    ∷ row (in-right 10 ++ ((5 ∷ 0 ∷ 0 ∷ 10 ∷ 3 ∷ []) ++ in-right 50)) 0 0 false
+    ∷ knitted (in-right 10 ++ ((5 ∷ 0 ∷ 0 ∷ 10 ∷ 3 ∷ []) ++ in-right 50)) 0 0 [] ((3, unattached 50) ∷ [])
     -- besides: an xfer takes a loop and an attachment along; a split does so and forms a loop
-    ∷ record { program = in-right 10 ++ (tuck 1 10 ++ (3 ∷ 0 ∷ 10 ∷ 10 ∷ [])); number = 0; place = 0; complete = false; hooks = (10, 0) ∷ (260, 1) ∷ []; carriers = (3, attached 11 1 10 2) ∷ [] }
-    ∷ record { program = in-right 10 ++ (tuck 1 10 ++ (9 ∷ 0 ∷ 0 ∷ 10 ∷ 3 ∷ 10 ∷ [])); number = 0; place = 0; complete = false; hooks = (10, 1) ∷ (260, 1) ∷ []; carriers = (3, attached 10 0 10 1) ∷ [] }
+    ∷ knitted (in-right 10 ++ (tuck 1 10 ++ (3 ∷ 0 ∷ 10 ∷ 10 ∷ []))) 0 0 ((f 10, 0) ∷ (b 10, 1) ∷ []) ((3, attached 11 (b 10) 2) ∷ [])
+    ∷ knitted (in-right 10 ++ (tuck 1 10 ++ (9 ∷ 0 ∷ 0 ∷ 10 ∷ 3 ∷ 10 ∷ []))) 0 0 ((f 10, 1) ∷ (b 10, 1) ∷ []) ((3, attached 10 (f 10) 1) ∷ [])
     ∷ []

@@ -1,7 +1,6 @@
 -- The byte format of document 01, 'Records': lengths, fields and their ranges, and the record that bytes say.
-use Prim.Native.Nat.{ℕ, _-_, _≤_, _<_}
-use mathlib.Core.Path.{_≡_}
-use mathlib.Core.Bool.{Bool, true, false, _&&_, cond}
+use Prim.Native.Nat.{ℕ, _-_, _≤_}
+use mathlib.Core.Bool.{Bool, false, _&&_, cond}
 use mathlib.Core.List.{List, [], _∷_}
 use lib.IntN.{ℤ, pos, negsuc, natAbs}
 use lib.ListN.{getD, length}
@@ -20,7 +19,7 @@ sizeOf k =
     (cond (leb 4 k && leb k 8) 5
     (cond (eqb k 9) 6 0))))
 
--- a byte in two's complement
+-- a byte, below 256, in two's complement
 unfoldable pub signedOf : ℕ → ℤ
 signedOf b = cond (ltb b 128) (pos b) (negsuc (255 - b))
 
@@ -57,7 +56,7 @@ workRecord kind right a k = record { kind = kind; racking = record { 0 = pos 0 }
 abbrev pub splitRecord : Bool → Needle → ℕ → Needle → Record
 splitRecord right a k b = record { kind = 9; racking = record { 0 = pos 0 }; right = right; at = a; carrier = k; to = b }
 
--- the bytes of a whole record with its fields in range, and the record they say
+-- the bytes of a whole record, with its fields in range, encode the record
 pub data Encodes : List ℕ → Record → Type 0 where
   rack : {b : ℕ} → natAbs (signedOf b) ≤ 8 → Encodes (1 ∷ b ∷ []) (rackRecord (signedOf b))
   drop : {bed n : ℕ} → bed ≤ 1 → n ≤ 249 → Encodes (2 ∷ bed ∷ n ∷ []) (dropRecord (needle bed n))

@@ -32,6 +32,7 @@ seven k h n1 n2 n3 n4 n5 n6 = high k (low k h n1 n2 n3) n4 n5 n6
   where
     low : (k : ℕ) → 1 ≤ k → (k ≡ 1 → ⊥) → (k ≡ 2 → ⊥) → (k ≡ 3 → ⊥) → 4 ≤ k
     low k h a b c = omega arith
+
     high : (k : ℕ) → 4 ≤ k → (k ≡ 4 → ⊥) → (k ≡ 5 → ⊥) → (k ≡ 6 → ⊥) → 7 ≤ k
     high k h a b c = omega arith
 
@@ -138,11 +139,12 @@ module _ (s : State) (x : Record) where
         unfolding formNo formed
         form-made p w f g l t =
             up (x .kind) 7 p
-            (λ e. let f' : m ≡ tuckNo (loopsOn s (x .at)) = f ∙ (simp e) in let t' : l ≡ tucked (s .loops) (x .at) = t ∙ (simp e) in
-              (tuck-number s x e ∙ sym (after (readyNo s x) (tuckNo (loopsOn s (x .at))) m (sym is ∙ h) f') ∙ g,
-              tuck-state s x e ∙ simp (t' ∙ tuck-made (s .loops) (x .at) m f' g, q)))
+            (λ e. let f' : m ≡ tuckNo (loopsOn s (x .at)) = f ∙ (simp e) in let t' : l ≡ tucked (s .loops) (x .at) = t ∙ (simp e) in (
+              tuck-number s x e ∙ sym (after (readyNo s x) (tuckNo (loopsOn s (x .at))) m (sym is ∙ h) f') ∙ g,
+              tuck-state s x e ∙ simp (t' ∙ tuck-made (s .loops) (x .at) m f' g, q),
+            ))
             (λ u. let e : x .kind ≡ 8 = omega arith in let t' : l ≡ set (s .loops) (hookOf (x .at)) 1 = t ∙ (simp e) in
-              (knit-number s x e ∙ sym is ∙ h, knit-state s x e ∙ simp (t', q)))
+            (knit-number s x e ∙ sym is ∙ h, knit-state s x e ∙ simp (t', q)))
 
         pub split-made : x .kind ≡ 9 → m ≡ transferNo (s .loops) (x .at) (x .to) (s .racking) → m ≡ 0 → (l : List ℕ) (cs : List Carrier)
             → l ≡ transferredLoops (s .loops) (x .at) (x .to) (s .racking) 1 → cs ≡ map (movedTo (x .at) (x .to)) (s .carriers)

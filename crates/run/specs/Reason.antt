@@ -1,19 +1,17 @@
 -- Why a record has no step: the rows 3 to 11 of document 01's table, each said by itself.
 use Prim.Native.Nat.{ℕ, _+_, _≤_, _<_}
 use mathlib.Core.Path.{_≡_}
-use mathlib.Core.Bool.{Bool, true, false, _&&_, cond}
-use mathlib.Core.List.{List, [], _∷_, _++_}
-use lib.Dec.{eqb, leb}
-use lib.IntN.{_-ℤ_, natAbs}
+use mathlib.Core.Bool.{Bool, false, _&&_, cond}
+use mathlib.Core.List.{List, _++_}
+use lib.Dec.{eqb}
 use lib.ListN.{length}
 use Rattle.machine.specs.declared.Slot.{Slot}
 use Rattle.machine.specs.declared.Carrier.{Carrier}
 use Rattle.machine.specs.declared.State.{State}
 use Rattle.machine.specs.Machine.{loopsOn, carrierOf}
-use Rattle.machine.specs.Geometry.{columnOf}
 use Rattle.record.specs.declared.Record.{Record}
 use Rattle.record.specs.Format.{Encodes, sizeOf, byte, rackOk, needleOk, numberOk, workOk}
-use Rattle.run.specs.Relation.{Active, Inactive, Attached, ParkedAt, Opposite, entrySlot, exitSlot}
+use Rattle.run.specs.Relation.{Active, Inactive, Attached, Opposite, entrySlot, exitSlot, floatOf}
 
 -- a known kind with all its bytes there
 pub record Whole (l : List ℕ) : Type 0 where
@@ -55,7 +53,7 @@ module _ (s : State) (x : Record) where
     pub kind : 5 ≤ x .kind
     pub carrier-off : Inactive (carrierOf s (x .carrier))
 
-  -- 8, elsewhere: parked at the wrong slot, which is not the exit slot for out and not the entry slot for the rest
+  -- 8, elsewhere: parked at the wrong slot; out needs the exit slot, the rest the entry slot
   pub record WrongSlot : Type 0 where
     pub kind : 5 ≤ x .kind
     pub active : Active (carrierOf s (x .carrier))
@@ -65,7 +63,7 @@ module _ (s : State) (x : Record) where
   pub record FloatTooLong : Type 0 where
     pub kind : 7 ≤ x .kind
     pub attached : Attached (carrierOf s (x .carrier))
-    pub over : 20 < natAbs (columnOf (carrierOf s (x .carrier) .needle) (s .racking) .0 -ℤ columnOf (x .at) (s .racking) .0)
+    pub over : 20 < floatOf s x
 
   -- 10, not opposite: columns differ, for xfer and split
   pub data NotOpposite : Type 0 where

@@ -1,9 +1,9 @@
 -- The validity relation, in the shape of 000 (Definition 5.4, Figure 11): one rule for each kind of record, with the premises of document 01, 'Steps'.
-use Prim.Native.Nat.{ℕ, _+_, _-_, _≤_, _<_}
+use Prim.Native.Nat.{ℕ, _+_, _-_, _≤_}
 use mathlib.Core.Path.{_≡_}
 use mathlib.Core.Bool.{Bool, cond}
-use mathlib.Core.List.{List, [], _∷_, _++_, map}
-use lib.IntN.{pos, _-ℤ_, natAbs}
+use mathlib.Core.List.{List, [], _++_, map}
+use lib.IntN.{_-ℤ_, natAbs}
 use lib.ListN.{set, length}
 use Rattle.machine.specs.declared.Needle.{Needle}
 use Rattle.machine.specs.declared.Racking.{Racking}
@@ -41,7 +41,7 @@ entrySlot s x = entryOf (columnOf (x .at) (s .racking)) (x .right)
 abbrev pub exitSlot : State → Record → Slot
 exitSlot s x = exitOf (columnOf (x .at) (s .racking)) (x .right)
 
--- a carrier that parks unattached; one that is parked elsewhere, its attachment kept; one that is attached on the side it moved to
+-- a carrier that parks unattached; one that parks anew and keeps its attachment; one that is attached on the side it moved to
 abbrev pub unattached : Slot → Carrier
 unattached z = record { active = 1; side = 0; slot = z; needle = record { 0 = 0; 1 = 0 } }
 
@@ -65,9 +65,13 @@ pub record ParkedAt (c : Carrier) (z : Slot) : Type 0 where
   pub active : Active c
   pub here : c .slot ≡ z
 
+-- how many columns the record's carrier floats: from its attachment's needle to the needle worked, both at the current racking
+abbrev pub floatOf : State → Record → ℕ
+floatOf s x = natAbs (columnOf (carrierOf s (x .carrier) .needle) (s .racking) .0 -ℤ columnOf (x .at) (s .racking) .0)
+
 -- an attached carrier's needle is at most 20 columns from the needle worked
 abbrev pub FloatInReach : State → Record → Type 0
-FloatInReach s x = Attached (carrierOf s (x .carrier)) → natAbs (columnOf (carrierOf s (x .carrier) .needle) (s .racking) .0 -ℤ columnOf (x .at) (s .racking) .0) ≤ 20
+FloatInReach s x = Attached (carrierOf s (x .carrier)) → floatOf s x ≤ 20
 
 -- both needles have the same column
 abbrev pub Opposite : State → Record → Type 0
@@ -103,5 +107,6 @@ pub data Steps : State → List ℕ → State → Type 0 where
 
 -- a valid program and its final state
 pub record Valid (p : List ℕ) (t : State) : Type 0 where
+  -- 01: a program is at most 32,768 bytes
   pub short : length p ≤ 32768
   pub steps : Steps emptyState p t

@@ -1,7 +1,7 @@
--- The step as code makes it: what a record sees, what it decides, what is stored. One shape for every kind.
-use Prim.Native.Nat.{ℕ, _+_, _-_, _≤_, _<_}
-use mathlib.Core.Path.{_≡_}
-use mathlib.Core.Bool.{Bool, true, false, _&&_, not, cond}
+-- The step as a definition that computes, which the contracts cite: what a record sees of the state, what it decides, what is stored.
+-- One shape for every kind; Claims.antt ties it to the relation.
+use Prim.Native.Nat.{ℕ, _+_, _-_}
+use mathlib.Core.Bool.{Bool, true, false, not, cond}
 use mathlib.Core.List.{List, [], _∷_, map}
 use lib.IntN.{pos}
 use lib.ListN.{getD, set}
@@ -61,7 +61,7 @@ carrierNo x r c =
 unfoldable pub oppositeNo : Record → Racking → ℕ
 oppositeNo x r = cond (eqb (needleCount (x .kind)) 2) (cond (sameColumn (columnOf (x .at) r) (columnOf (x .to) r)) 0 10) 0
 
--- the loops on the first needle and on the second, afterwards
+-- the loops on the first needle and on the second, afterwards; 0, and not stored, for a kind that works no such hook
 unfoldable pub firstAfter : ℕ → ℕ → ℕ
 firstAfter kind here = cond (eqb kind 7) (here + 1) (cond (leb kind 7) 0 1)
 
@@ -85,7 +85,7 @@ module _ {A W : Type 0} (act : W → A → A) (d : A) where
 abbrev pub stored : ℕ → ℕ → ℕ
 stored v old = v
 
--- what becomes of a carrier: parked or not, its attachment kept or replaced
+-- what becomes of the carrier that a record names: parked or not, its attachment kept or replaced
 pub record Act : Type 0 where
   pub active : ℕ
   pub slot : Slot

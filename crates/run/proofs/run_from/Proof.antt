@@ -94,7 +94,7 @@ stop-requires-2 : tie.Need-stop-requires-2 Inv-loop μ-loop
 stop-requires-2 c κs = search needs
 
 returns-2 : tie.Need-returns-2 Inv-loop μ-loop
-returns-2 c = let b = c .before .before .before .before .before .before .before .before .before .before in let e = c .before .before .before .before .before .match .keys3 in 
+returns-2 c = let b = c .before .before .before .before .before .before .before .before .before .before in let e = c .before .before .before .before .before .match .keys3 in
     c .stop2 .ensures ∙ simp (c .before .before .transfer .ensures .1, transfer-kept (s b .loops) (x b .at) (x b .to) (s b .racking) 0 _ (c .before .before .transfer .ensures .0) (c .before .if2 .taken)) (halt b (xfer-stopped (s b) (x b) e _ (c .before .before .transfer .ensures .0)) (c .before .if2 .taken))
 
 any-attached-requires : tie.Need-any-attached-requires Inv-loop μ-loop
@@ -119,7 +119,7 @@ stop-requires-3 : tie.Need-stop-requires-3 Inv-loop μ-loop
 stop-requires-3 c κs = search needs
 
 returns-3 : tie.Need-returns-3 Inv-loop μ-loop
-returns-3 c = let b = c .before .before .before .before .before .before .before .before .before .before in let e = c .before .before .before .before .before .match .keys4 in 
+returns-3 c = let b = c .before .before .before .before .before .before .before .before .before .before in let e = c .before .before .before .before .before .match .keys4 in
     c .stop3 .ensures ∙ halt b (in-stopped (s b) (x b) e (c .before .if4 .taken)) (λ f. omega arith)
 
 enter-requires : tie.Need-enter-requires Inv-loop μ-loop
@@ -153,7 +153,7 @@ stop-requires-4 : tie.Need-stop-requires-4 Inv-loop μ-loop
 stop-requires-4 c κs = search needs
 
 returns-4 : tie.Need-returns-4 Inv-loop μ-loop
-returns-4 c = let b = c .before .before .before .before .before .before .before .before .before .before .before in let e = c .before .before .before .before .before .before .match .keys5 in 
+returns-4 c = let b = c .before .before .before .before .before .before .before .before .before .before .before in let e = c .before .before .before .before .before .before .match .keys5 in
     c .stop4 .ensures ∙ halt b (out-stopped (s b) (x b) _ _ (c .before .before .parked .ensures) e (c .before .before .before .exit .ensures)) (c .before .if5 .taken)
 
 inactive-requires : tie.Need-inactive-requires Inv-loop μ-loop
@@ -187,7 +187,7 @@ stop-requires-5 : tie.Need-stop-requires-5 Inv-loop μ-loop
 stop-requires-5 c κs = search needs
 
 returns-5 : tie.Need-returns-5 Inv-loop μ-loop
-returns-5 c = let b = c .before .before .before .before .before .before .before .before .before .before .before in let e = c .before .before .before .before .before .before .match .keys6 in 
+returns-5 c = let b = c .before .before .before .before .before .before .before .before .before .before .before in let e = c .before .before .before .before .before .before .match .keys6 in
     c .stop5 .ensures ∙ halt b (miss-stopped (s b) (x b) _ _ (c .before .before .parked2 .ensures) e (c .before .before .before .entry .ensures)) (c .before .if6 .taken)
 
 pass-requires : tie.Need-pass-requires Inv-loop μ-loop
@@ -218,7 +218,7 @@ stop-requires-6 : tie.Need-stop-requires-6 Inv-loop μ-loop
 stop-requires-6 c κs = search needs
 
 returns-6 : tie.Need-returns-6 Inv-loop μ-loop
-returns-6 c = let b = c .before .before .before .before .before .before .before .before .before .before .before .before in let no = c .before .before .before .before .before .before .before .match .rest in let p = seven (x b .kind) (c .before .before .before .before .before .before .if7 .left) (no .0 .0 .0 .0 .0 .1) (no .0 .0 .0 .0 .1) (no .0 .0 .0 .1) (no .0 .0 .1) (no .0 .1) (no .1) in let q : x b .kind ≤ 8 = omega (arith, c .before .before .before .before .before .if8 .taken) in 
+returns-6 c = let b = c .before .before .before .before .before .before .before .before .before .before .before .before in let no = c .before .before .before .before .before .before .before .match .rest in let p = seven (x b .kind) (c .before .before .before .before .before .before .if7 .left) (no .0 .0 .0 .0 .0 .1) (no .0 .0 .0 .0 .1) (no .0 .0 .0 .1) (no .0 .0 .1) (no .0 .1) (no .1) in let q : x b .kind ≤ 8 = omega (arith, c .before .before .before .before .before .if8 .taken) in
     c .stop6 .ensures ∙ halt b (form-unready (s b) (x b) _ (c .before .before .ready .ensures) p q (c .before .if9 .taken)) (c .before .if9 .taken)
 
 form-requires : tie.Need-form-requires Inv-loop μ-loop
@@ -228,7 +228,7 @@ stop-requires-7 : tie.Need-stop-requires-7 Inv-loop μ-loop
 stop-requires-7 c κs = search needs
 
 returns-7 : tie.Need-returns-7 Inv-loop μ-loop
-returns-7 c = let b = c .before .before .before .before .before .before .before .before .before .before .before .before .before .before .before in let no = c .before .before .before .before .before .before .before .before .before .before .match .rest in let p = seven (x b .kind) (c .before .before .before .before .before .before .before .before .before .if7 .left) (no .0 .0 .0 .0 .0 .1) (no .0 .0 .0 .0 .1) (no .0 .0 .0 .1) (no .0 .0 .1) (no .0 .1) (no .1) in let q : x b .kind ≤ 8 = omega (arith, c .before .before .before .before .before .before .before .before .if8 .taken) in 
+returns-7 c = let b = c .before .before .before .before .before .before .before .before .before .before .before .before .before .before .before in let no = c .before .before .before .before .before .before .before .before .before .before .match .rest in let p = seven (x b .kind) (c .before .before .before .before .before .before .before .before .before .if7 .left) (no .0 .0 .0 .0 .0 .1) (no .0 .0 .0 .0 .1) (no .0 .0 .0 .1) (no .0 .0 .1) (no .0 .1) (no .1) in let q : x b .kind ≤ 8 = omega (arith, c .before .before .before .before .before .before .before .before .if8 .taken) in
     c .stop7 .ensures ∙ simp (c .before .before .form .ensures .1, form-kept (s b .loops) (x b .at) (x b .kind) _ (c .before .before .form .ensures .0) (c .before .if10 .taken)) (halt b (form-stopped (s b) (x b) _ (c .before .before .before .before .before .ready .ensures) (c .before .before .before .before .if9 .left) _ p q (c .before .before .form .ensures .0) (c .before .if10 .taken)) (c .before .if10 .taken))
 
 attach-requires : tie.Need-attach-requires Inv-loop μ-loop
@@ -259,7 +259,7 @@ stop-requires-8 : tie.Need-stop-requires-8 Inv-loop μ-loop
 stop-requires-8 c κs = search needs
 
 returns-8 : tie.Need-returns-8 Inv-loop μ-loop
-returns-8 c = let b = c .before .before .before .before .before .before .before .before .before .before .before .before in let i = known b in let e = nine i (⊎-elim {C = 8 < x b .kind} (λ w. omega (arith, i .low)) (λ w. omega arith) (c .before .before .before .before .before .before .if7 .came)) in 
+returns-8 c = let b = c .before .before .before .before .before .before .before .before .before .before .before .before in let i = known b in let e = nine i (⊎-elim {C = 8 < x b .kind} (λ w. omega (arith, i .low)) (λ w. omega arith) (c .before .before .before .before .before .before .if7 .came)) in
     c .stop8 .ensures ∙ halt b (split-unready (s b) (x b) _ (c .before .before .ready2 .ensures) e (c .before .if11 .taken)) (c .before .if11 .taken)
 
 transfer-requires-2 : tie.Need-transfer-requires-2 Inv-loop μ-loop
@@ -269,7 +269,7 @@ stop-requires-9 : tie.Need-stop-requires-9 Inv-loop μ-loop
 stop-requires-9 c κs = search needs
 
 returns-9 : tie.Need-returns-9 Inv-loop μ-loop
-returns-9 c = let b = c .before .before .before .before .before .before .before .before .before .before .before .before .before .before .before in let i = known b in let e = nine i (⊎-elim {C = 8 < x b .kind} (λ w. omega (arith, i .low)) (λ w. omega arith) (c .before .before .before .before .before .before .before .before .before .if7 .came)) in 
+returns-9 c = let b = c .before .before .before .before .before .before .before .before .before .before .before .before .before .before .before in let i = known b in let e = nine i (⊎-elim {C = 8 < x b .kind} (λ w. omega (arith, i .low)) (λ w. omega arith) (c .before .before .before .before .before .before .before .before .before .if7 .came)) in
     c .stop9 .ensures ∙ simp (c .before .before .transfer2 .ensures .1, transfer-kept (s b .loops) (x b .at) (x b .to) (s b .racking) 1 _ (c .before .before .transfer2 .ensures .0) (c .before .if12 .taken)) (halt b (split-stopped (s b) (x b) _ (c .before .before .before .before .before .ready2 .ensures) (c .before .before .before .before .if11 .left) _ e (c .before .before .transfer2 .ensures .0)) (c .before .if12 .taken))
 
 attach-requires-2 : tie.Need-attach-requires-2 Inv-loop μ-loop
@@ -297,70 +297,70 @@ loop-less : tie.Need-loop-less Inv-loop μ-loop
 loop-less c = let b = c .before .before .before .before .before .before in let z = size b in omega (arith, z .0, z .1, c .before .before .before .before .before .before .before .before .before .before .loop-test .taken)
 
 loop-again : tie.Need-loop-again Inv-loop μ-loop
-loop-again c = let b = c .before .before .before .before .before .before in let e = c .before .match .keys1 in 
+loop-again c = let b = c .before .before .before .before .before .before in let e = c .before .match .keys1 in
     on b (rack-made (s b) (x b) e)
 
 loop-less-2 : tie.Need-loop-less-2 Inv-loop μ-loop
 loop-less-2 c = let b = c .before .before .before .before .before .before .before in let z = size b in omega (arith, z .0, z .1, c .before .before .before .before .before .before .before .before .before .before .before .loop-test .taken)
 
 loop-again-2 : tie.Need-loop-again-2 Inv-loop μ-loop
-loop-again-2 c = let b = c .before .before .before .before .before .before .before in let e = c .before .before .match .keys2 in 
+loop-again-2 c = let b = c .before .before .before .before .before .before .before in let e = c .before .before .match .keys2 in
     on b (drop-made (s b) (x b) e _ (c .put .ensures))
 
 loop-less-3 : tie.Need-loop-less-3 Inv-loop μ-loop
 loop-less-3 c = let b = c .before .before .before .before .before .before .before .before .before .before .before .before .before in let z = size b in omega (arith, z .0, z .1, c .before .before .before .before .before .before .before .before .before .before .before .before .before .before .before .before .before .loop-test .taken)
 
 loop-again-3 : tie.Need-loop-again-3 Inv-loop μ-loop
-loop-again-3 c = let b = c .before .before .before .before .before .before .before .before .before .before .before .before .before in let e = c .before .before .before .before .before .before .before .before .match .keys3 in 
+loop-again-3 c = let b = c .before .before .before .before .before .before .before .before .before .before .before .before .before in let e = c .before .before .before .before .before .before .before .before .match .keys3 in
     on b (xfer-made (s b) (x b) e _ (c .before .before .before .before .before .transfer .ensures .0) (c .before .before .before .before .if2 .left) _ _ (c .before .before .before .before .before .transfer .ensures .1) (c .attachments-moved .ensures))
 
 loop-less-4 : tie.Need-loop-less-4 Inv-loop μ-loop
 loop-less-4 c = let b = c .before .before .before .before .before .before .before .before .before .before .before .before in let z = size b in omega (arith, z .0, z .1, c .before .before .before .before .before .before .before .before .before .before .before .before .before .before .before .before .loop-test .taken)
 
 loop-again-4 : tie.Need-loop-again-4 Inv-loop μ-loop
-loop-again-4 c = let b = c .before .before .before .before .before .before .before .before .before .before .before .before in let e = c .before .before .before .before .before .before .before .match .keys3 in 
+loop-again-4 c = let b = c .before .before .before .before .before .before .before .before .before .before .before .before in let e = c .before .before .before .before .before .before .before .match .keys3 in
     on b (xfer-made (s b) (x b) e _ (c .before .before .before .before .transfer .ensures .0) (c .before .before .before .if2 .left) _ _ (c .before .before .before .before .transfer .ensures .1) (unmoved (x b .at) (x b .to) (s b .carriers) (sym (c .before .any-attached .ensures) ∙ c .if3 .left)))
 
 loop-less-5 : tie.Need-loop-less-5 Inv-loop μ-loop
 loop-less-5 c = let b = c .before .before .before .before .before .before .before .before .before .before in let z = size b in omega (arith, z .0, z .1, c .before .before .before .before .before .before .before .before .before .before .before .before .before .before .loop-test .taken)
 
 loop-again-5 : tie.Need-loop-again-5 Inv-loop μ-loop
-loop-again-5 c = let b = c .before .before .before .before .before .before .before .before .before .before in let e = c .before .before .before .before .before .match .keys4 in 
+loop-again-5 c = let b = c .before .before .before .before .before .before .before .before .before .before in let e = c .before .before .before .before .before .match .keys4 in
     on b (in-made (s b) (x b) e (c .before .if4 .left) _ (c .enter .ensures))
 
 loop-less-6 : tie.Need-loop-less-6 Inv-loop μ-loop
 loop-less-6 c = let b = c .before .before .before .before .before .before .before .before .before .before .before in let z = size b in omega (arith, z .0, z .1, c .before .before .before .before .before .before .before .before .before .before .before .before .before .before .before .loop-test .taken)
 
 loop-again-6 : tie.Need-loop-again-6 Inv-loop μ-loop
-loop-again-6 c = let b = c .before .before .before .before .before .before .before .before .before .before .before in let e = c .before .before .before .before .before .before .match .keys5 in 
+loop-again-6 c = let b = c .before .before .before .before .before .before .before .before .before .before .before in let e = c .before .before .before .before .before .before .match .keys5 in
     on b (out-made (s b) (x b) _ _ (c .before .before .parked .ensures) e (c .before .before .before .exit .ensures) (c .before .if5 .left) _ (c .inactive .ensures))
 
 loop-less-7 : tie.Need-loop-less-7 Inv-loop μ-loop
 loop-less-7 c = let b = c .before .before .before .before .before .before .before .before .before .before .before in let z = size b in omega (arith, z .0, z .1, c .before .before .before .before .before .before .before .before .before .before .before .before .before .before .before .loop-test .taken)
 
 loop-again-7 : tie.Need-loop-again-7 Inv-loop μ-loop
-loop-again-7 c = let b = c .before .before .before .before .before .before .before .before .before .before .before in let e = c .before .before .before .before .before .before .match .keys6 in 
+loop-again-7 c = let b = c .before .before .before .before .before .before .before .before .before .before .before in let e = c .before .before .before .before .before .before .match .keys6 in
     on b (miss-made (s b) (x b) _ _ (c .before .before .parked2 .ensures) e (c .before .before .before .entry .ensures) (c .before .if6 .left) _ (c .pass .ensures))
 
 loop-less-8 : tie.Need-loop-less-8 Inv-loop μ-loop
 loop-less-8 c = let b = c .before .before .before .before .before .before .before .before .before .before .before .before .before .before .before in let z = size b in omega (arith, z .0, z .1, c .before .before .before .before .before .before .before .before .before .before .before .before .before .before .before .before .before .before .before .loop-test .taken)
 
 loop-again-8 : tie.Need-loop-again-8 Inv-loop μ-loop
-loop-again-8 c = let b = c .before .before .before .before .before .before .before .before .before .before .before .before .before .before .before in let no = c .before .before .before .before .before .before .before .before .before .before .match .rest in let p = seven (x b .kind) (c .before .before .before .before .before .before .before .before .before .if7 .left) (no .0 .0 .0 .0 .0 .1) (no .0 .0 .0 .0 .1) (no .0 .0 .0 .1) (no .0 .0 .1) (no .0 .1) (no .1) in let q : x b .kind ≤ 8 = omega (arith, c .before .before .before .before .before .before .before .before .if8 .taken) in 
+loop-again-8 c = let b = c .before .before .before .before .before .before .before .before .before .before .before .before .before .before .before in let no = c .before .before .before .before .before .before .before .before .before .before .match .rest in let p = seven (x b .kind) (c .before .before .before .before .before .before .before .before .before .if7 .left) (no .0 .0 .0 .0 .0 .1) (no .0 .0 .0 .0 .1) (no .0 .0 .0 .1) (no .0 .0 .1) (no .0 .1) (no .1) in let q : x b .kind ≤ 8 = omega (arith, c .before .before .before .before .before .before .before .before .if8 .taken) in
     on b (form-made (s b) (x b) _ (c .before .before .before .before .before .ready .ensures) (c .before .before .before .before .if9 .left) _ (c .attach .ensures) _ p q (c .before .before .form .ensures .0) (c .before .if10 .left) _ (c .before .before .form .ensures .1))
 
 loop-less-9 : tie.Need-loop-less-9 Inv-loop μ-loop
 loop-less-9 c = let b = c .before .before .before .before .before .before .before .before .before .before .before .before .before .before .before .before .before .before .before in let z = size b in omega (arith, z .0, z .1, c .before .before .before .before .before .before .before .before .before .before .before .before .before .before .before .before .before .before .before .before .before .before .before .loop-test .taken)
 
 loop-again-9 : tie.Need-loop-again-9 Inv-loop μ-loop
-loop-again-9 c = let b = c .before .before .before .before .before .before .before .before .before .before .before .before .before .before .before .before .before .before .before in let i = known b in let e = nine i (⊎-elim {C = 8 < x b .kind} (λ w. omega (arith, i .low)) (λ w. omega arith) (c .before .before .before .before .before .before .before .before .before .before .before .before .before .if7 .came)) in 
+loop-again-9 c = let b = c .before .before .before .before .before .before .before .before .before .before .before .before .before .before .before .before .before .before .before in let i = known b in let e = nine i (⊎-elim {C = 8 < x b .kind} (λ w. omega (arith, i .low)) (λ w. omega arith) (c .before .before .before .before .before .before .before .before .before .before .before .before .before .if7 .came)) in
     on b (split-made (s b) (x b) _ (c .before .before .before .before .before .before .before .before .before .ready2 .ensures) (c .before .before .before .before .before .before .before .before .if11 .left) _ (c .before .before .before .before .attach2 .ensures) _ e (c .before .before .before .before .before .before .transfer2 .ensures .0) (c .before .before .before .before .before .if12 .left) _ _ (c .before .before .before .before .before .before .transfer2 .ensures .1) (c .attachments-moved2 .ensures))
 
 loop-less-10 : tie.Need-loop-less-10 Inv-loop μ-loop
 loop-less-10 c = let b = c .before .before .before .before .before .before .before .before .before .before .before .before .before .before .before .before .before .before in let z = size b in omega (arith, z .0, z .1, c .before .before .before .before .before .before .before .before .before .before .before .before .before .before .before .before .before .before .before .before .before .before .loop-test .taken)
 
 loop-again-10 : tie.Need-loop-again-10 Inv-loop μ-loop
-loop-again-10 c = let b = c .before .before .before .before .before .before .before .before .before .before .before .before .before .before .before .before .before .before in let i = known b in let e = nine i (⊎-elim {C = 8 < x b .kind} (λ w. omega (arith, i .low)) (λ w. omega arith) (c .before .before .before .before .before .before .before .before .before .before .before .before .if7 .came)) in 
+loop-again-10 c = let b = c .before .before .before .before .before .before .before .before .before .before .before .before .before .before .before .before .before .before in let i = known b in let e = nine i (⊎-elim {C = 8 < x b .kind} (λ w. omega (arith, i .low)) (λ w. omega arith) (c .before .before .before .before .before .before .before .before .before .before .before .before .if7 .came)) in
     on b (split-made (s b) (x b) _ (c .before .before .before .before .before .before .before .before .ready2 .ensures) (c .before .before .before .before .before .before .before .if11 .left) _ (c .before .before .before .attach2 .ensures) _ e (c .before .before .before .before .before .transfer2 .ensures .0) (c .before .before .before .before .if12 .left) _ _ (c .before .before .before .before .before .transfer2 .ensures .1) (unmoved (x b .at) (x b .to) (s b .carriers) (sym (c .before .any-attached2 .ensures) ∙ c .if13 .left)))
 
 stop-requires-10 : tie.Need-stop-requires-10 Inv-loop μ-loop
