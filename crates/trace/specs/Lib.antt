@@ -1,0 +1,6 @@
+pub mod Lists
+pub mod Records
+pub mod Swaps
+pub mod Order
+pub mod Machine
+pub mod Claims
