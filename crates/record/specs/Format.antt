@@ -1,4 +1,4 @@
--- The byte format of document 01, 'Records': lengths, fields and their ranges, and the record that bytes say.
+-- The byte format of document 01, 'Records': lengths, fields and their ranges, and the record that bytes encode.
 use Prim.Native.Nat.{ℕ, _-_, _≤_}
 use mathlib.Core.Bool.{Bool, false, _&&_, cond}
 use mathlib.Core.List.{List, [], _∷_}
