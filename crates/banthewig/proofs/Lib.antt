@@ -1,1 +1,2 @@
+-- Laws of the C entries.
 pub mod Words

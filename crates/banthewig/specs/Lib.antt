@@ -1,1 +1,2 @@
+-- What the C entries answer.
 pub mod Entries

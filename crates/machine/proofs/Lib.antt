@@ -1,3 +1,4 @@
+-- Laws of the machine.
 pub mod Signed
 pub mod Lists
 pub mod Laws

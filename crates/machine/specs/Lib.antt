@@ -1,2 +1,3 @@
+-- The machine, in reading order.
 pub mod Machine
 pub mod Geometry

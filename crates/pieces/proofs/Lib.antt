@@ -1,1 +1,2 @@
+-- The proof of the pieces.
 pub mod Computed

@@ -1,2 +1,3 @@
+-- The pieces to try.
 pub mod Rows
 pub mod Pieces

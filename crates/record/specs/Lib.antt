@@ -1,2 +1,3 @@
+-- The byte format, in reading order.
 pub mod Format
 pub mod Names

@@ -1,3 +1,4 @@
+-- Laws of the step and the run; the theorems are in Demand.
 pub mod Looks
 pub mod ByKind
 pub mod Arms

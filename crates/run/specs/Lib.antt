@@ -1,3 +1,4 @@
+-- The run, in reading order: the relation, the reasons, the definitions that compute, the claims.
 pub mod Relation
 pub mod Reason
 pub mod Step

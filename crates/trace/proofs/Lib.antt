@@ -1,3 +1,4 @@
+-- Laws of swaps; the theorems are in Theorems.
 pub mod Tests
 pub mod Lists
 pub mod Positions

@@ -1,3 +1,4 @@
+-- The theory of swaps, in reading order.
 pub mod Lists
 pub mod Records
 pub mod Swaps
