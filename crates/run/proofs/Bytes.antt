@@ -3,6 +3,7 @@ use Prim.Native.Nat.{ℕ, _≤_, _<_}
 use mathlib.Core.Path.{_≡_, refl, sym, ap, subst, _∙_}
 use mathlib.Core.Bool.{Bool, true≢false}
 use mathlib.Core.List.{List, _++_}
+use mathlib.Core.Logic.{_↔_}
 use native.Mathlib.Omega.{arith}
 use lib.ListN.{length, take, drop, take-append-drop}
 use borrow.Author.Tests.{ne-eqb}
@@ -14,8 +15,9 @@ use Rattle.record.proofs.Forms.{Fields, Reads, reads, fields-size, fields-posit
 use Rattle.run.specs.Relation.{Step}
 use Rattle.run.specs.Reason.{Whole, CutShort, fieldsOk, RecordReason, Reason}
 use Rattle.run.specs.Step.{numberAt}
+use Rattle.run.specs.declared.Stepped.{Stepped}
 use Rattle.run.specs.Run.{stepOf}
-use Rattle.run.specs.Claims.{NoStep, StepRefusal}
+use Rattle.run.specs.Claims.{NoStep, HasStep, StepRefusal}
 use Rattle.run.proofs.Premises.{is}
 use Rattle.run.proofs.Sound.{reason-above, step-only, step-sound, number-reason}
 use Rattle.run.proofs.Least.{number-least}
@@ -144,3 +146,16 @@ step-refuses s l h =
     (λ e. is (numberAt s (decodeOf l .what)) 0 (λ z. absurd (h (simp (e, z))))
     (λ d. let r = step-refusal s l e d in simp (e, ne-eqb (numberAt s (decodeOf l .what)) 0 d) (record { length = refl; state = refl; no-step = r .no-step; reason = r .reason; least = r .least })))
     (λ d. let r = bytes-refusal s l d in simp (ne-eqb (decodeOf l .number) 0 d) (record { length = refl; state = refl; no-step = r .no-step; reason = r .reason; least = r .least }))
+
+step-has : (s : State) (l : List ℕ) → stepOf s l .number ≡ 0 → HasStep s l
+unfolding stepOf
+step-has s l z =
+    is (decodeOf l .number) 0
+    (λ e. is (numberAt s (decodeOf l .what)) 0
+    (λ k. (take (decodeOf l .size) l, drop (decodeOf l .size) l, decodeOf l .what, _, sym (take-append-drop (decodeOf l .size) l), decode-form l e, step-sound s (decodeOf l .what) (decode-in l e) k))
+    (λ d. absurd (d (simp (e, ne-eqb (numberAt s (decodeOf l .what)) 0 d) at z))))
+    (λ d. absurd (d (simp (ne-eqb (decodeOf l .number) 0 d) at z)))
+
+pub step-exact : (s : State) (l : List ℕ) → (stepOf s l .number ≡ 0) ↔ HasStep s l
+step-exact s l =
+    (step-has s l, λ (bytes, rest, x, t, e, form, step). ap (λ (a : Stepped). a .number) (ap (stepOf s) e ∙ step-gives s bytes rest x t form step))

@@ -2,8 +2,8 @@
 use mathlib.Core.Path.{ap}
 use Rattle.run.specs.declared.Answer.{Answer}
 use Rattle.run.specs.Run.{answerOf}
-use Rattle.run.specs.Claims.{AcceptsExactlyValid, GivesFinalState, TooLongExactly, TooLongAnswer, RefusesFirst, RefusalIsOne, PlaceIsSmall, CompleteIsEmpty, ReasonExactlyNoStep, StepGives, StepRefuses}
-use Rattle.run.proofs.Bytes.{reason-no-step, no-step-reason, step-gives, step-refuses}
+use Rattle.run.specs.Claims.{AcceptsExactlyValid, GivesFinalState, TooLongExactly, TooLongAnswer, RefusesFirst, RefusalIsOne, PlaceIsSmall, CompleteIsEmpty, ReasonExactlyNoStep, StepAcceptsExactly, StepGives, StepRefuses}
+use Rattle.run.proofs.Bytes.{reason-no-step, no-step-reason, step-exact, step-gives, step-refuses}
 use Rattle.run.proofs.Unique.{one-refusal}
 use Rattle.run.proofs.Answers.{long-run, valid-run, answered, accepted, one-long, first-refusal, place-small, complete-empty}
 
@@ -37,6 +37,9 @@ place-bound p = place-small (answered p)
 
 pub reason-exact : ReasonExactlyNoStep
 reason-exact s l = ((λ (n, r). reason-no-step r), no-step-reason s l)
+
+pub step-accepts : StepAcceptsExactly
+step-accepts = step-exact
 
 pub step-done : StepGives
 step-done = step-gives

@@ -40,6 +40,10 @@ TooLongAnswer = (p : List ℕ) → 32768 < length p → runOf p ≡ record { num
 abbrev pub NoStep : State → List ℕ → Type 0
 NoStep s l = (bytes rest : List ℕ) (x : Record) (t : State) → l ≡ bytes ++ rest → Encodes bytes x → Step s x t → ⊥
 
+-- the bytes begin with a record that has a step
+abbrev pub HasStep : State → List ℕ → Type 0
+HasStep s l = (bytes : List ℕ) × (rest : List ℕ) × (x : Record) × (t : State) × (l ≡ bytes ++ rest) × Encodes bytes x × Step s x t
+
 -- the first record that has no step, and the first reason that holds
 pub record FirstRefusal (p : List ℕ) (a : Answer) : Type 0 where
   -- there is something at the place
@@ -71,13 +75,17 @@ PlaceIsSmall = (p : List ℕ) → runOf p .place < 32768
 abbrev pub CompleteIsEmpty : Type 0
 CompleteIsEmpty = (p : List ℕ) → (runOf p .complete ≡ true) ↔ (runOf p .state ≡ emptyState)
 
--- the step of the first record of a slice: its length and the relation's state
+-- the step accepts a slice exactly if it begins with a record that has a step
+abbrev pub StepAcceptsExactly : Type 0
+StepAcceptsExactly = (s : State) (l : List ℕ) → (stepOf s l .number ≡ 0) ↔ HasStep s l
+
+-- and then gives that record's length and the relation's state
 abbrev pub StepGives : Type 0
 StepGives =
     (s : State) (bytes rest : List ℕ) (x : Record) (t : State) → Encodes bytes x → Step s x t
     → stepOf s (bytes ++ rest) ≡ record { number = 0; length = length bytes; state = t }
 
--- or the least reason, length 0 and the same state
+-- otherwise it gives the least reason, length 0 and the same state
 pub record StepRefusal (s : State) (l : List ℕ) (a : Stepped) : Type 0 where
   pub length : a .length ≡ 0
   pub state : a .state ≡ s

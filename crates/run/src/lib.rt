@@ -125,7 +125,7 @@ fn attach(n: Needle, r: Racking, right: bool) -> Carrier
     }
 }
 
-// Loops v loops on the needle's hook.
+// Puts v loops on the needle's hook.
 fn put(loops: &mut [u8; State::HOOKS], n: Needle, v: u8)
     requires { ⌜ OnBed n ⌝ }
     ensures { λ _. ⌜ now (loops .exit) ≡ set (now (loops .entry)) (hookOf n) v ⌝ }
