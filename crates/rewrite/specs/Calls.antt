@@ -1,0 +1,57 @@
+-- Lists of rewriter calls (document 01, 'Extents and ties'): what each is lent, and the program that is handed on.
+use Prim.Native.Nat.{ℕ, _/_, _%_, _<_}
+use mathlib.Core.Path.{_≡_}
+use mathlib.Core.Bool.{cond, _&&_}
+use mathlib.Core.List.{List, [], _∷_, _++_}
+use lib.Dec.{leb}
+use lib.ListN.{length, take}
+use Rattle.trace.specs.Swaps.{Swaps}
+use Rattle.rewrite.specs.Programs.{recordsOf, knitting}
+use Rattle.rewrite.specs.Rewrite.{noRacking, Rewritten, rewriteOf}
+
+-- every element is below n
+abbrev pub Below : ℕ → List ℕ → Type 0
+Below n [] = Unit {0}
+Below n (x ∷ l) = (x < n) × Below n l
+
+-- 'each call is lent any log, output and work area', of bytes and of 16-bit offsets
+pub record Call : Type 0 where
+  pub log : List ℕ
+  pub output : List ℕ
+  pub work : List ℕ
+  pub log-bytes : Below 256 log
+  pub output-bytes : Below 256 output
+  pub work-offsets : Below 65536 work
+
+-- the call on a program
+abbrev pub callOf : List ℕ → Call → Rewritten
+callOf p c = rewriteOf p (c .log) (c .output) (c .work)
+
+abbrev pub numberOf : List ℕ → Call → ℕ
+numberOf p c = callOf p c .answer .number
+
+-- the next call's program: 'the one at the front of the output that the last call wrote'; 'after a number that writes nothing' (1 to 11) 'it is the same program again'
+abbrev pub handedOn : List ℕ → Call → List ℕ
+handedOn p c = cond (leb 1 (numberOf p c) && leb (numberOf p c) 11) p (take (length p) (callOf p c .output))
+
+-- the program after a list of calls; a call more or less is another list, so that what is said of every list is said after every call
+abbrev pub after : List ℕ → List Call → List ℕ
+after p [] = p
+after p (c ∷ cs) = after (handedOn p c) cs
+
+-- a log of swaps at these positions
+abbrev pub logOf : List ℕ → List ℕ
+logOf [] = []
+logOf (i ∷ is) = 64 ∷ i / 256 ∷ i % 256 ∷ logOf is
+
+-- a call that answers 0, its log accepted swaps alone
+pub record Accepted (p : List ℕ) (c : Call) : Type 0 where
+  pub done : numberOf p c ≡ 0
+  pub positions : List ℕ
+  pub log : c .log ≡ logOf positions
+  pub swaps : Swaps knitting noRacking positions (recordsOf p) (recordsOf (handedOn p c))
+
+-- and a list of such calls
+abbrev pub AllAccepted : List ℕ → List Call → Type 0
+AllAccepted p [] = Unit {0}
+AllAccepted p (c ∷ cs) = Accepted p c × AllAccepted (handedOn p c) cs

@@ -1,0 +1,79 @@
+-- Extents and ties of document 01, 'Extents and ties'.
+use Prim.Native.Nat.{ℕ, _≤_}
+use mathlib.Core.Path.{_≡_}
+use mathlib.Core.Bool.{Bool, true, false, cond, _&&_, _||_}
+use mathlib.Core.List.{List, [], _∷_}
+use lib.IntN.{ℤ, pos, _+ℤ_, _-ℤ_}
+use lib.Signed.{leZ}
+use lib.Dec.{eqb, leb}
+use Rattle.machine.specs.declared.Needle.{Needle}
+use Rattle.machine.specs.declared.Racking.{Racking}
+use Rattle.machine.specs.Geometry.{columnOf}
+use Rattle.record.specs.declared.Record.{Record}
+use Rattle.record.specs.Names.{carriersOf}
+use Rattle.rewrite.specs.declared.Extent.{Extent}
+
+-- column z is half column 2z
+unfoldable pub halfColumn : Needle → Racking → ℤ
+halfColumn n r = columnOf n r .0 +ℤ columnOf n r .0
+
+-- layer 0 is the front bed, 11 the back bed, 1 to 10 are carriers
+unfoldable pub layerOf : Needle → ℕ
+layerOf n = cond (eqb (n .0) 0) 0 11
+
+-- half column h alone, or h − 1 to h + 1; layers low to high
+abbrev pub narrow : ℤ → ℕ → ℕ → Extent
+narrow h low high = record { left = h; right = h; low = low; high = high }
+
+abbrev pub broad : ℤ → ℕ → ℕ → Extent
+broad h low high = record { left = h -ℤ pos 1; right = h +ℤ pos 1; low = low; high = high }
+
+-- a front tuck or knit with carrier k covers layers 0 to k, a back one k to 11
+abbrev pub formExtent : ℤ → Needle → ℕ → Extent
+formExtent h n k = cond (eqb (n .0) 0) (broad h 0 k) (broad h k 11)
+
+-- a record's extent at the racking in force: drop (2), xfer (3), in to miss (4 to 6), tuck and knit (7, 8), split (9); a rack has none, and none is asked for
+unfoldable pub extentOf : Racking → Record → Extent
+extentOf r x =
+    cond (eqb (x .kind) 2) (narrow (halfColumn (x .at) r) (layerOf (x .at)) (layerOf (x .at)))
+    (cond (eqb (x .kind) 3) (narrow (halfColumn (x .at) r) 0 11)
+    (cond (leb 4 (x .kind) && leb (x .kind) 6) (broad (halfColumn (x .at) r) (x .carrier) (x .carrier))
+    (cond (leb 7 (x .kind) && leb (x .kind) 8) (formExtent (halfColumn (x .at) r) (x .at) (x .carrier))
+    (broad (halfColumn (x .at) r) 0 11))))
+
+-- a point that an extent covers: a half column and a layer
+pub record Covers (e : Extent) (h : ℤ) (layer : ℕ) : Type 0 where
+  pub left : leZ (e .left) h ≡ true
+  pub right : leZ h (e .right) ≡ true
+  pub low : e .low ≤ layer
+  pub high : layer ≤ e .high
+
+-- 'Extents meet if they share a half column and a layer'; the test for it that code makes
+abbrev pub Share : Extent → Extent → Type 0
+Share a b = (h : ℤ) × (layer : ℕ) × Covers a h layer × Covers b h layer
+
+unfoldable pub meets : Extent → Extent → Bool
+meets a b = (leZ (a .left) (b .right) && leZ (b .left) (a .right)) && (leb (a .low) (b .high) && leb (b .low) (a .high))
+
+-- two records name one carrier
+unfoldable pub member : ℕ → List ℕ → Bool
+member i [] = false
+member i (j ∷ l) = eqb i j || member i l
+
+unfoldable pub common : List ℕ → List ℕ → Bool
+common [] js = false
+common (i ∷ is) js = member i js || common is js
+
+abbrev pub shareCarrier : Record → Record → Bool
+shareCarrier x y = common (carriersOf x) (carriersOf y)
+
+abbrev pub isRack : Record → Bool
+isRack x = eqb (x .kind) 1
+
+-- the racking in force after a record
+abbrev pub rackingAfter : Racking → Record → Racking
+rackingAfter r x = cond (isRack x) (x .racking) r
+
+-- 'Two records are tied if either is a rack, if they name one carrier, or if their extents meet', at one racking in force
+unfoldable pub tiedAt : Racking → Record → Record → Bool
+tiedAt r x y = isRack x || (isRack y || (shareCarrier x y || meets (extentOf r x) (extentOf r y)))

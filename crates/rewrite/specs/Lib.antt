@@ -1,0 +1,6 @@
+-- The rewriter, in reading order.
+pub mod Extents
+pub mod Programs
+pub mod Rewrite
+pub mod Calls
+pub mod Claims

@@ -1,0 +1,76 @@
+-- The rewriter as a definition that computes (document 01, 'Calls'), which its contract cites: answer, output and work area, for every program, log and loan.
+use Prim.Native.Nat.{ℕ, _+_, _*_, _/_}
+use mathlib.Core.Bool.{Bool, cond, _||_}
+use mathlib.Core.List.{List, [], _∷_, _++_}
+use lib.Dec.{eqb, ltb}
+use lib.IntN.{pos}
+use lib.ListN.{length, drop}
+use Rattle.machine.specs.declared.Racking.{Racking}
+use Rattle.machine.specs.Machine.{emptyState}
+use Rattle.run.specs.declared.Answer.{Answer}
+use Rattle.run.specs.Run.{reached, answerOf, runOf}
+use Rattle.trace.specs.Swaps.{Outcome, no-pair, is-tied, made, swapAt}
+use Rattle.rewrite.specs.Programs.{flat, recordsOf, startsOf, knitting}
+
+-- every program starts at racking 0
+abbrev pub noRacking : Racking
+noRacking = record { 0 = pos 0 }
+
+-- a swap of records i and i + 1 of a program
+abbrev pub swapOf : ℕ → List (List ℕ) → Outcome (List ℕ)
+swapOf i l = swapAt knitting noRacking i l
+
+-- where a log ended: 0 and 0, or the number and place of the log record that was refused; and the records as the swaps made left them
+pub record Replay : Type 0 where
+  pub number : ℕ
+  pub place : ℕ
+  pub left : List (List ℕ)
+
+abbrev pub ended : ℕ → ℕ → List (List ℕ) → Replay
+ended n at l = record { number = n; place = at; left = l }
+
+-- 12 (no pair), 13 (tied), or on with the swap made
+abbrev pub onOutcome : Outcome (List ℕ) → ℕ → List (List ℕ) → (List (List ℕ) → Replay) → Replay
+onOutcome no-pair at l more = ended 12 at l
+onOutcome is-tied at l more = ended 13 at l
+onOutcome (made m) at l more = more m
+
+-- 'makes the swaps in order': a log that stands at a place, three bytes a record, 40 hexadecimal and a position high byte first; else 14 (torn log)
+unfoldable pub replay : List ℕ → ℕ → List (List ℕ) → Replay
+replay [] at l = ended 0 0 l
+replay (k ∷ []) at l = ended 14 at l
+replay (k ∷ high ∷ []) at l = ended 14 at l
+replay (k ∷ high ∷ low ∷ log) at l = cond (eqb k 64) (onOutcome (swapOf (high * 256 + low) l) at l (λ m. replay log (at + 3) m)) (ended 14 at l)
+
+-- 1 (too long), 2 (01: no bench), or 0, by the lengths of program, log, output and work area
+unfoldable pub lentNo : ℕ → ℕ → ℕ → ℕ → ℕ
+lentNo program log output work =
+    cond (ltb 32768 program || ltb 32768 log) 1
+    (cond (ltb output program || ltb work (program / 2)) 2 0)
+
+-- what a call gives and leaves
+pub record Rewritten : Type 0 where
+  pub answer : Answer
+  pub output : List ℕ
+  pub work : List ℕ
+
+-- numbers 1 to 11 write nothing
+abbrev pub refused : Answer → List ℕ → List ℕ → Rewritten
+refused a output work = record { answer = a; output = output; work = work }
+
+-- 0 and 12 to 14: the program's final state; the records at the front of the output, their starts at the front of the work area, the rest kept
+abbrev pub written : List ℕ → Replay → List ℕ → List ℕ → Rewritten
+written program r output work =
+    record {
+      answer = record { number = r .number; place = r .place; complete = runOf program .complete; state = runOf program .state };
+      output = flat (r .left) ++ drop (length program) output;
+      work = startsOf 0 (r .left) ++ drop (length (r .left)) work;
+    }
+
+unfoldable pub rewriteOf : List ℕ → List ℕ → List ℕ → List ℕ → Rewritten
+rewriteOf program log output work =
+    cond (eqb (lentNo (length program) (length log) (length output) (length work)) 0)
+    (cond (eqb (runOf program .number) 0)
+    (written program (replay log 0 (recordsOf program)) output work)
+    (refused (runOf program) output work))
+    (refused (answerOf (reached (lentNo (length program) (length log) (length output) (length work)) 0 emptyState)) output work)
