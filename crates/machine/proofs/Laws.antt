@@ -24,7 +24,7 @@ use Rattle.machine.specs.Machine.{OnBed, all, attachedAt, movedTo, noLoo
 use Rattle.machine.proofs.Signed.{mag-sum, eqZ-true, back, fits, fits-sum, cast-back}
 
 -- how far a column reaches
-column-reach : (n : Needle) (r : Racking) → mag (r .0) < 128 → mag (columnOf n r .0) ≤ n .1 + 129
+pub column-reach : (n : Needle) (r : Racking) → mag (r .0) < 128 → mag (columnOf n r .0) ≤ n .1 + 129
 unfolding columnOf
 column-reach n r k = go (eqb (n .0) 0)
   where

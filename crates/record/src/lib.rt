@@ -47,7 +47,7 @@ pub fn size_of(kind: u8) -> usize
 }
 
 // A byte in two's complement.
-fn signed(b: u8) -> i8
+pub fn signed(b: u8) -> i8
     ensures { λ z. ⌜ z ≡ signedOf b ⌝ }
 {
     if b < 128 {

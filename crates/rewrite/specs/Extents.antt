@@ -73,7 +73,3 @@ isRack x = eqb (x .kind) 1
 -- the racking in force after a record
 abbrev pub rackingAfter : Racking → Record → Racking
 rackingAfter r x = cond (isRack x) (x .racking) r
-
--- 'Two records are tied if either is a rack, if they name one carrier, or if their extents meet', at one racking in force
-unfoldable pub tiedAt : Racking → Record → Record → Bool
-tiedAt r x y = isRack x || (isRack y || (shareCarrier x y || meets (extentOf r x) (extentOf r y)))

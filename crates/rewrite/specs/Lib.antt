@@ -4,3 +4,4 @@ pub mod Programs
 pub mod Rewrite
 pub mod Calls
 pub mod Claims
+pub mod Laid

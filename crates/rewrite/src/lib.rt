@@ -1,5 +1,19 @@
 // The rewriter: extents and ties, starts, and swaps made in the lent output only where the rule lets them.
 ghost use mathlib.Core.Path.{_≡_};
+ghost use mathlib.Core.List.{_++_};
+ghost use Prim.Native.Nat.{_+_, _-_, _*_, _/_, _≤_, _<_};
+ghost use lib.ListN.{length, take, drop, getD, set};
+ghost use Rattle.rewrite.specs.Extents.{halfColumn, layerOf, narrow, broad, formExtent, extentOf, meets, shareCarrier};
+ghost use Rattle.rewrite.specs.Programs.{flat, recordsOf, startsOf, what};
+ghost use Rattle.rewrite.specs.Rewrite.{swapOf, replay, rewriteOf};
+ghost use Rattle.rewrite.specs.Laid.{tiedAt, Sound, Laid, Marked, rackByte, swapNo, leftBy, exchanged, part};
+ghost use Rattle.record.specs.Format.{signedOf};
+use machine::Column;
+use machine::Needle;
+use machine::Racking;
+use machine::State;
+use record::Record;
+use run::Answer;
 
 // What a record covers: half columns from left to right, layers from low to high.
 pub struct Extent {
@@ -7,4 +21,303 @@ pub struct Extent {
     pub right: i32,
     pub low: u8,
     pub high: u8,
+}
+
+// Where a log ended: the refusal's number and the log record's start, or 0 and 0.
+pub struct Replayed {
+    pub number: u8,
+    pub place: usize,
+}
+
+// The numbers of refusals, besides those of the run.
+pub const NO_ROOM: u8 = 2;
+
+pub const NO_PAIR: u8 = 12;
+
+pub const TIED: u8 = 13;
+
+pub const TORN_LOG: u8 = 14;
+
+// The layer of the back bed; the front bed's is 0, carriers lie between.
+pub const BACK: u8 = 11;
+
+// A log: its kind, the length of its records, and its bytes at most.
+pub const SWAP: u8 = 64;
+
+pub const SWAP_SIZE: usize = 3;
+
+pub const LOG_MOST: usize = 32768;
+
+// The racking is kept of every 64th record.
+pub const STRIDE: usize = 64;
+
+pub const MARKS: usize = 256;
+
+// The needle's half column alone.
+fn narrow(n: Needle, r: Racking, low: u8, high: u8) -> Extent
+    ensures { λ e. ⌜ e ≡ narrow (halfColumn n r) low high ⌝ }
+{
+    let z = n.column(r);
+    let h = z.0 + z.0;
+    Extent {
+        left: h,
+        right: h,
+        low,
+        high,
+    }
+}
+
+// The needle's half column and one to each side.
+fn broad(n: Needle, r: Racking, low: u8, high: u8) -> Extent
+    ensures { λ e. ⌜ e ≡ broad (halfColumn n r) low high ⌝ }
+{
+    let z = n.column(r);
+    let h = z.0 + z.0;
+    Extent {
+        left: h - 1,
+        right: h + 1,
+        low,
+        high,
+    }
+}
+
+// The layer of the needle's bed.
+fn layer(n: Needle) -> u8
+    ensures { λ k. ⌜ k ≡ layerOf n ⌝ }
+{
+    if n.0 == 0 { 0 } else { BACK }
+}
+
+// From the needle's bed to the carrier.
+fn form(n: Needle, r: Racking, k: u8) -> Extent
+    ensures { λ e. ⌜ e ≡ formExtent (halfColumn n r) n k ⌝ }
+{
+    if n.0 == 0 {
+        return broad(n, r, 0, k);
+    }
+    broad(n, r, k, BACK)
+}
+
+// A record's extent at the racking in force.
+pub fn extent_of(x: Record, r: Racking) -> Extent
+    ensures { λ e. ⌜ e ≡ extentOf r x ⌝ }
+{
+    let n = x.at;
+    let kind = x.kind;
+    match kind {
+        // drop
+        2 => {
+            let k = layer(n);
+            narrow(n, r, k, k)
+        }
+        // xfer
+        3 => narrow(n, r, 0, BACK),
+        // in, out, miss
+        4..=6 => broad(n, r, x.carrier, x.carrier),
+        // tuck, knit
+        7..=8 => form(n, r, x.carrier),
+        // split
+        _ => broad(n, r, 0, BACK),
+    }
+}
+
+impl Extent {
+    // Whether the two share a half column and a layer.
+    pub fn meets(self, other: Extent) -> bool
+        ensures { λ b. ⌜ b ≡ meets self other ⌝ }
+    {
+        if other.right < self.left {
+            return false;
+        }
+        if self.right < other.left {
+            return false;
+        }
+        if other.high < self.low {
+            return false;
+        }
+        other.low <= self.high
+    }
+}
+
+// Whether the two name one carrier.
+fn share_carrier(x: Record, y: Record) -> bool
+    ensures { λ b. ⌜ b ≡ shareCarrier x y ⌝ }
+{
+    if x.kind <= 3 {
+        return false;
+    }
+    if y.kind <= 3 {
+        return false;
+    }
+    x.carrier == y.carrier
+}
+
+// Whether the two are tied at the racking in force.
+pub fn tied(x: Record, y: Record, r: Racking) -> bool
+    ensures { λ b. ⌜ b ≡ tiedAt r x y ⌝ }
+{
+    if x.kind == 1 {
+        return true;
+    }
+    if y.kind == 1 {
+        return true;
+    }
+    if share_carrier(x, y) {
+        return true;
+    }
+    let e = extent_of(x, r);
+    e.meets(extent_of(y, r))
+}
+
+// Whether the records from a to b and from b to e of the output are tied.
+fn tied_at(output: &[u8], a: usize, b: usize, e: usize, r: Racking) -> bool
+    requires { ⌜ (a ≤ b) × (b ≤ e) × (e ≤ length (now output)) ⌝ }
+    ensures { λ t. ⌜ t ≡ tiedAt r (what (part (now (output .entry)) a b)) (what (part (now (output .entry)) b e)) ⌝ }
+{
+    let x = record::decode(&output[a..b]);
+    let y = record::decode(&output[b..e]);
+    tied(x.what, y.what, r)
+}
+
+// Moves the first k bytes of a short part behind the others.
+fn rotate(part: &mut [u8], k: usize)
+    requires { ⌜ (k ≤ length (now part)) × (length (now part) ≤ 12) ⌝ }
+    ensures { λ _. ⌜ now (part .exit) ≡ drop k (now (part .entry)) ++ take k (now (part .entry)) ⌝ }
+{
+    let mut old = [0u8; 12];
+    let n = part.len();
+    bytes::copy(part, &mut old);
+    bytes::copy(&old[k..n], part);
+    let m = n - k;
+    bytes::copy(&old[..k], &mut part[m..]);
+}
+
+// The records from a to b and from b to e change places.
+fn exchange(output: &mut [u8], a: usize, b: usize, e: usize)
+    requires { ⌜ (a ≤ b) × (b ≤ e) × (e ≤ length (now output)) × (e - a ≤ 12) ⌝ }
+    ensures { λ _. ⌜ now (output .exit) ≡ exchanged (now (output .entry)) a b e ⌝ }
+{
+    let k = b - a;
+    rotate(&mut output[a..e], k);
+}
+
+// Writes each record's start into the front of the work area and answers how many there are.
+fn starts(program: &[u8], work: &mut [u16]) -> usize
+    requires { ⌜ (Sound (now program)) × (length (now program) / 2 ≤ length (now work)) ⌝ }
+    ensures { λ n. ⌜ (n ≡ length (recordsOf (now (program .entry)))) × (now (work .exit) ≡ startsOf 0 (recordsOf (now (program .entry))) ++ drop n (now (work .entry))) ⌝ }
+{
+    let mut n: usize = 0;
+    let mut at: usize = 0;
+    while at < program.len() {
+        work[n] = at as u16;
+        n += 1;
+        at += record::size_of(program[at]);
+    }
+    n
+}
+
+// The racking byte after the records from i to n, where it was r before them.
+fn racking_after(program: &[u8], work: &[u16], i: usize, n: usize, r: u8) -> u8
+    requires { ⌜ (Laid (now program) (now work)) × (i ≤ n) × (n ≤ length (now work)) ⌝ }
+    ensures { λ b. ⌜ b ≡ rackByte r (take (n - i) (drop i (recordsOf (now (program .entry))))) ⌝ }
+{
+    let mut b = r;
+    let mut j = i;
+    while j < n {
+        let at = work[j] as usize;
+        if program[at] == 1 {
+            b = program[at + 1];
+        }
+        j += 1;
+    }
+    b
+}
+
+// The racking byte in force at every 64th record.
+fn marks(program: &[u8], work: &[u16], table: &mut [u8])
+    requires { ⌜ (Laid (now program) (now work)) × (length (now table) ≡ 256) ⌝ }
+    ensures { λ _. ⌜ Marked (now (program .entry)) (now (table .exit)) ⌝ }
+{
+    let n = work.len();
+    let mut j: usize = 0;
+    let mut i: usize = 0;
+    let mut b: u8 = 0;
+    while i + STRIDE < n {
+        table[j] = b;
+        b = racking_after(program, work, i, i + STRIDE, b);
+        i += STRIDE;
+        j += 1;
+    }
+    if i < n {
+        table[j] = b;
+    }
+}
+
+// The racking in force at record i: at most 63 records are looked at.
+fn racking_at(program: &[u8], work: &[u16], table: &[u8], i: usize) -> Racking
+    requires { ⌜ (Laid (now program) (now work)) × (Marked (now program) (now table)) × (i < length (now work)) ⌝ }
+    ensures { λ r. ⌜ r ≡ record { 0 = signedOf (rackByte 0 (take i (recordsOf (now (program .entry))))) } ⌝ }
+{
+    let j = i / STRIDE;
+    let b = racking_after(program, work, j * STRIDE, i, table[j]);
+    Racking(record::signed(b))
+}
+
+// Swaps records i and i + 1, or answers 12 or 13.
+fn swap(output: &mut [u8], work: &mut [u16], table: &[u8], i: usize) -> u8
+    requires { ⌜ (Laid (now output) (now work)) × (Marked (now output) (now table)) × (i < 65536) ⌝ }
+    ensures number { λ k. ⌜ k ≡ swapNo (swapOf i (recordsOf (now (output .entry)))) ⌝ }
+    ensures bytes { λ _. ⌜ now (output .exit) ≡ flat (leftBy (swapOf i (recordsOf (now (output .entry)))) (recordsOf (now (output .entry)))) ⌝ }
+    ensures starts { λ _. ⌜ now (work .exit) ≡ startsOf 0 (leftBy (swapOf i (recordsOf (now (output .entry)))) (recordsOf (now (output .entry)))) ⌝ }
+{
+    if work.len() <= i + 1 {
+        return NO_PAIR;
+    }
+    let a = work[i] as usize;
+    let b = work[i + 1] as usize;
+    let e = b + record::size_of(output[b]);
+    let r = racking_at(output, work, table, i);
+    if tied_at(output, a, b, e, r) {
+        return TIED;
+    }
+    exchange(output, a, b, e);
+    work[i + 1] = (a + (e - b)) as u16;
+    0
+}
+
+// Makes the swaps of a log in order, up to the first that it refuses.
+fn replay(log: &[u8], output: &mut [u8], work: &mut [u16], table: &[u8]) -> Replayed
+    requires { ⌜ (Laid (now output) (now work)) × (Marked (now output) (now table)) ⌝ }
+    ensures number { λ d. ⌜ (d .number ≡ replay (now (log .entry)) 0 (recordsOf (now (output .entry))) .number) × (d .place ≡ replay (now (log .entry)) 0 (recordsOf (now (output .entry))) .place) ⌝ }
+    ensures bytes { λ _. ⌜ now (output .exit) ≡ flat (replay (now (log .entry)) 0 (recordsOf (now (output .entry))) .left) ⌝ }
+    ensures starts { λ _. ⌜ now (work .exit) ≡ startsOf 0 (replay (now (log .entry)) 0 (recordsOf (now (output .entry))) .left) ⌝ }
+{
+    let mut at: usize = 0;
+    while at < log.len() {
+        if log.len() - at < SWAP_SIZE {
+            return Replayed {
+                number: TORN_LOG,
+                place: at,
+            };
+        }
+        if log[at] != SWAP {
+            return Replayed {
+                number: TORN_LOG,
+                place: at,
+            };
+        }
+        let i = (log[at + 1] as usize) * 256 + (log[at + 2] as usize);
+        let number = swap(output, work, table, i);
+        if number != 0 {
+            return Replayed {
+                number,
+                place: at,
+            };
+        }
+        at += SWAP_SIZE;
+    }
+    Replayed {
+        number: 0,
+        place: 0,
+    }
 }

@@ -1,0 +1,253 @@
+-- Footprints: extents by kind, what they cover and when they meet; each hook that a record works lies inside its extent. Assumes nothing.
+use Prim.Native.Nat.{ℕ, _-_, _≤_}
+use mathlib.Core.Path.{_≡_, refl, sym, subst, _∙_}
+use mathlib.Core.Bool.{Bool, true, false, _&&_, _||_, true≢false}
+use mathlib.Core.List.{List, [], _∷_, map}
+use native.Mathlib.Omega.{arith}
+use lib.IntN.{ℤ, _+ℤ_}
+use lib.Signed.{leZ}
+use lib.ListN.{take}
+use lib.Dec.{eqb, leb}
+use borrow.Author.Tests.{ne-eqb, eqb-false, leb-true, leb-false, le-leb, lt-leb}
+use Rattle.machine.specs.declared.Needle.{Needle}
+use Rattle.machine.specs.declared.Column.{Column}
+use Rattle.machine.specs.declared.Racking.{Racking}
+use Rattle.machine.specs.Machine.{OnBed, hookOf}
+use Rattle.machine.specs.Geometry.{columnOf}
+use Rattle.machine.proofs.Laws.{and-two}
+use Rattle.record.specs.declared.Record.{Record}
+use Rattle.record.specs.Names.{needleCount, carrierCount, needlesOf, carriersOf}
+use Rattle.record.proofs.Ranges.{InRange}
+use Rattle.record.proofs.Forms.{cond-cases}
+use Rattle.trace.proofs.Tests.{by-test}
+use Rattle.rewrite.specs.declared.Extent.{Extent}
+use Rattle.rewrite.specs.Extents.{halfColumn, layerOf, narrow, broad, formExtent, extentOf, Covers, Share, meets, member, common, shareCarrier}
+use Rattle.rewrite.proofs.Edits.{Each, Away, Apart}
+use Rattle.rewrite.proofs.Signed.{le-trans, le-self, le-next, le-before, later, higher}
+
+-- ---- extents that meet
+-- extents that cover one point meet
+pub share-meets : (a b : Extent) (h : ℤ) (layer : ℕ) → Covers a h layer → Covers b h layer → meets a b ≡ true
+unfolding meets
+share-meets a b h layer p q =
+    simp (
+      le-trans (a .left) h (b .right) (p .left) (q .right),
+      le-trans (b .left) h (a .right) (q .left) (p .right),
+      le-leb (a .low) (b .high) (omega arith),
+      le-leb (b .low) (a .high) (omega arith),
+    )
+
+-- extents that meet, each with a point that it covers, cover one point: the later left end, on the higher of the lowest layers
+pub meets-share : (a b : Extent) (h i : ℤ) (k m : ℕ) → Covers a h k → Covers b i m → meets a b ≡ true → Share a b
+unfolding meets
+meets-share a b h i k m p q e =
+    let (columns, layers) = and-two (leZ (a .left) (b .right) && leZ (b .left) (a .right)) (leb (a .low) (b .high) && leb (b .low) (a .high)) e in
+    let (ab, ba) = and-two (leZ (a .left) (b .right)) (leZ (b .left) (a .right)) columns in
+    let (lab, lba) = and-two (leb (a .low) (b .high)) (leb (b .low) (a .high)) layers in
+    let (z, za, zb, zc) = later (a .left) (b .left) in
+    let (n, na, nb, nc) = higher (a .low) (b .low) in (
+      z,
+      n,
+      record { left = za; right = zc (a .right) (le-trans (a .left) h (a .right) (p .left) (p .right)) ba; low = na; high = nc (a .high) (omega arith) (leb-true (b .low) (a .high) lba) },
+      record { left = zb; right = zc (b .right) ab (le-trans (b .left) i (b .right) (q .left) (q .right)); low = nb; high = nc (b .high) (leb-true (a .low) (b .high) lab) (omega arith) },
+    )
+
+-- ---- a record's footprint: how many hooks it works, and its extent
+pub data Footprint (h : ℤ) (n : Needle) (k : ℕ) : ℕ → Extent → Type 0 where
+  rack : Footprint h n k 0 (broad h 0 11)
+  drop : Footprint h n k 1 (narrow h (layerOf n) (layerOf n))
+  xfer : Footprint h n k 2 (narrow h 0 11)
+  pass : Footprint h n k 0 (broad h k k)
+  form : Footprint h n k 1 (formExtent h n k)
+  split : Footprint h n k 2 (broad h 0 11)
+
+module _ (r : Racking) (x : Record) where
+  pub footprint : Footprint (halfColumn (x .at) r) (x .at) (x .carrier) (needleCount (x .kind)) (extentOf r x)
+  unfolding needleCount extentOf
+  footprint =
+      let k = x .kind in
+      by-test (leb k 1)
+      (λ a. let h = leb-true k 1 a in simp (a, ne-eqb k 2 (λ q. omega arith), ne-eqb k 3 (λ q. omega arith), lt-leb 4 k (omega arith), lt-leb 7 k (omega arith)) rack)
+      (λ a. by-test (eqb k 2) (λ b. simp (a, b) drop)
+      (λ b. by-test (eqb k 3) (λ c. simp (a, b, c) xfer)
+      (λ c. let low = le-leb 4 k (omega (arith, leb-false k 1 a, eqb-false k 2 b, eqb-false k 3 c)) in
+      by-test (leb k 6) (λ d. simp (a, b, c, low, d) pass)
+      (λ d. let next = le-leb 7 k (omega (arith, leb-false k 6 d)) in
+      by-test (leb k 8) (λ e. simp (a, b, c, low, d, next, e) form) (λ e. simp (a, b, c, low, d, next, e) split)))))
+
+on-narrow : (h : ℤ) {low high layer : ℕ} → low ≤ layer → layer ≤ high → Covers (narrow h low high) h layer
+on-narrow h a b = record { left = le-self h; right = le-self h; low = a; high = b }
+
+on-broad : (h : ℤ) {low high layer : ℕ} → low ≤ layer → layer ≤ high → Covers (broad h low high) h layer
+on-broad h a b = record { left = le-before h; right = le-next h; low = a; high = b }
+
+layer-high : (n : Needle) → layerOf n ≤ 11
+unfolding layerOf
+layer-high n = cond-cases (λ (m : ℕ). m ≤ 11) (eqb (n .0) 0) (λ e. omega arith) (λ e. omega arith)
+
+-- a tuck or knit covers its needle's bed
+on-form : (h : ℤ) (n : Needle) (k : ℕ) → k ≤ 10 → Covers (formExtent h n k) h (layerOf n)
+unfolding layerOf
+on-form h n k le = by-test (eqb (n .0) 0) (λ e. simp e (on-broad h (omega arith) (omega arith))) (λ e. simp e (on-broad h (omega arith) (omega arith)))
+
+module _ {h : ℤ} {n : Needle} {k : ℕ} where
+  -- every extent covers something
+  pub some-layer : {m : ℕ} {e : Extent} → Footprint h n k m e → k ≤ 10 → (layer : ℕ) × Covers e h layer
+  some-layer rack le = (0, on-broad h (omega arith) (omega arith))
+  some-layer drop le = (layerOf n, on-narrow h (omega arith) (omega arith))
+  some-layer xfer le = (0, on-narrow h (omega arith) (omega arith))
+  some-layer pass le = (k, on-broad h (omega arith) (omega arith))
+  some-layer form le = (layerOf n, on-form h n k le)
+  some-layer split le = (0, on-broad h (omega arith) (omega arith))
+
+  -- that of a record which works a hook covers its first needle; that of one which works two covers both beds
+  first-covered : {m : ℕ} {e : Extent} → Footprint h n k m e → k ≤ 10 → 1 ≤ m → Covers e h (layerOf n)
+  first-covered rack le t = absurd (omega arith)
+  first-covered drop le t = on-narrow h (omega arith) (omega arith)
+  first-covered xfer le t = on-narrow h (omega arith) (layer-high n)
+  first-covered pass le t = absurd (omega arith)
+  first-covered form le t = on-form h n k le
+  first-covered split le t = on-broad h (omega arith) (layer-high n)
+
+  both-covered : {m : ℕ} {e : Extent} → Footprint h n k m e → m ≡ 2 → (layer : ℕ) → layer ≤ 11 → Covers e h layer
+  both-covered rack t layer le = absurd (omega arith)
+  both-covered drop t layer le = absurd (omega arith)
+  both-covered xfer t layer le = on-narrow h (omega arith) le
+  both-covered pass t layer le = absurd (omega arith)
+  both-covered form t layer le = absurd (omega arith)
+  both-covered split t layer le = on-broad h (omega arith) le
+
+-- ---- the needles that a record works
+data Count : ℕ → Type 0 where
+  none : Count 0
+  one : Count 1
+  two : Count 2
+
+count : (kind : ℕ) → Count (needleCount kind)
+unfolding needleCount
+count k =
+    cond-cases Count (leb k 1) (λ a. none)
+    (λ a. cond-cases Count (eqb k 2) (λ b. one)
+    (λ b. cond-cases Count (eqb k 3) (λ c. two)
+    (λ c. cond-cases Count (leb k 6) (λ d. none)
+    (λ d. cond-cases Count (leb k 8) (λ e. one) (λ e. two)))))
+
+each-counted : {A : Type 0} (P : A → Type 0) (a b : A) {n : ℕ} → Count n → (1 ≤ n → P a) → (n ≡ 2 → P b) → Each P (take n (a ∷ b ∷ []))
+each-counted P a b none f g = tt
+each-counted P a b one f g = (f (omega arith), tt)
+each-counted P a b two f g = (f (omega arith), (g refl, tt))
+
+first-counted : {A B : Type 0} (f : A → B) (P : B → Type 0) (a b : A) {n : ℕ} → Count n → Each P (map f (take n (a ∷ b ∷ []))) → 1 ≤ n → P (f a)
+first-counted f P a b none e t = absurd (omega arith)
+first-counted f P a b one e t = e .0
+first-counted f P a b two e t = e .0
+
+second-counted : {A B : Type 0} (f : A → B) (P : B → Type 0) (a b : A) {n : ℕ} → Count n → Each P (map f (take n (a ∷ b ∷ []))) → n ≡ 2 → P (f b)
+second-counted f P a b none e t = absurd (omega arith)
+second-counted f P a b one e t = absurd (omega arith)
+second-counted f P a b two e t = e .1 .0
+
+-- the places of its hooks and of its carriers
+abbrev pub hooksOf : Record → List ℕ
+hooksOf x = map hookOf (needlesOf x)
+
+abbrev pub placesOf : Record → List ℕ
+placesOf x = map (λ (k : ℕ). k - 1) (carriersOf x)
+
+module _ (P : ℕ → Type 0) (x : Record) where
+  pub first-hook : Each P (hooksOf x) → 1 ≤ needleCount (x .kind) → P (hookOf (x .at))
+  unfolding needlesOf
+  first-hook e t = first-counted hookOf P (x .at) (x .to) (count (x .kind)) e t
+
+  pub second-hook : Each P (hooksOf x) → needleCount (x .kind) ≡ 2 → P (hookOf (x .to))
+  unfolding needlesOf
+  second-hook e t = second-counted hookOf P (x .at) (x .to) (count (x .kind)) e t
+
+  pub carrier-place : leb (x .kind) 3 ≡ false → Each P (placesOf x) → P (x .carrier - 1)
+  unfolding carriersOf carrierCount
+  carrier-place t = simp t (λ e. e .0)
+
+-- ---- the law of footprints
+-- fields in range, and two needles opposite: what a record must have before the state is looked at
+pub record Settled (r : Racking) (x : Record) : Type 0 where
+  pub in-range : InRange x
+  pub opposite : needleCount (x .kind) ≡ 2 → columnOf (x .at) r ≡ columnOf (x .to) r
+
+-- a needle inside an extent
+pub record Inside (r : Racking) (e : Extent) (n : Needle) : Type 0 where
+  pub on-bed : OnBed n
+  pub covered : Covers e (halfColumn n r) (layerOf n)
+
+module _ (r : Racking) (x : Record) (S : Settled r x) where
+  to-covered : needleCount (x .kind) ≡ 2 → Covers (extentOf r x) (halfColumn (x .to) r) (layerOf (x .to))
+  unfolding halfColumn
+  to-covered t =
+      subst (λ (z : Column). Covers (extentOf r x) (z .0 +ℤ z .0) (layerOf (x .to))) (S .opposite t)
+      (both-covered (footprint r x) t (layerOf (x .to)) (layer-high (x .to)))
+
+  -- each needle that a settled record works lies inside its extent
+  pub inside : Each (Inside r (extentOf r x)) (needlesOf x)
+  unfolding needlesOf
+  inside =
+      each-counted (Inside r (extentOf r x)) (x .at) (x .to) (count (x .kind))
+      (λ t. record { on-bed = S .in-range .at-bed; covered = first-covered (footprint r x) (S .in-range .carrier-high) t })
+      (λ t. record { on-bed = S .in-range .to-bed; covered = to-covered t })
+
+-- one hook is one needle
+same-bed : (n m : Needle) → OnBed n → OnBed m → hookOf n ≡ hookOf m → n .0 ≡ m .0
+same-bed n m p q e = omega arith
+
+same-number : (n m : Needle) → OnBed n → OnBed m → hookOf n ≡ hookOf m → n .1 ≡ m .1
+same-number n m p q e = omega (arith, same-bed n m p q e)
+
+one-needle : (n m : Needle) → OnBed n → OnBed m → hookOf n ≡ hookOf m → n ≡ m
+one-needle n m p q e = let a = same-bed n m p q e in let b = same-number n m p q e in λ i. record { 0 = a i; 1 = b i }
+
+-- extents with one needle inside meet
+pub inside-meets : (r : Racking) (a b : Extent) (n m : Needle) → Inside r a n → Inside r b m → n ≡ m → meets a b ≡ true
+inside-meets r a b n m p q e =
+    share-meets a b (halfColumn m r) (layerOf m) (subst (λ (l : Needle). Covers a (halfColumn l r) (layerOf l)) e (p .covered)) (q .covered)
+
+each-hook : {P : Needle → Type 0} (Q : ℕ → Type 0) → ((n : Needle) → P n → Q (hookOf n)) → (l : List Needle) → Each P l → Each Q (map hookOf l)
+each-hook Q f [] e = tt
+each-hook Q f (n ∷ l) e = (f n (e .0), each-hook Q f l (e .1))
+
+-- where extents do not meet, hooks are apart
+pub hooks-apart : (r : Racking) (x y : Record) → Settled r x → Settled r y → meets (extentOf r x) (extentOf r y) ≡ false → Apart (hooksOf x) (hooksOf y)
+hooks-apart r x y S T clear =
+    each-hook (λ (i : ℕ). Away i (hooksOf y))
+    (λ n p. each-hook (λ (j : ℕ). hookOf n ≡ j → ⊥)
+    (λ m q e. true≢false (sym (inside-meets r (extentOf r x) (extentOf r y) n m p q (one-needle n m (p .on-bed) (q .on-bed) e)) ∙ clear))
+    (needlesOf y) (inside r y T))
+    (needlesOf x) (inside r x S)
+
+-- ---- carriers
+or-false : (a b : Bool) → (a || b) ≡ false → (a ≡ false) × (b ≡ false)
+or-false true b e = absurd (true≢false e)
+or-false false b e = (refl, e)
+
+abbrev Numbered : List ℕ → Type 0
+Numbered l = Each (λ (k : ℕ). 1 ≤ k) l
+
+numbered : (x : Record) → InRange x → Numbered (carriersOf x)
+unfolding carriersOf carrierCount
+numbered x h = by-test (leb (x .kind) 3) (λ e. simp e tt) (λ e. simp e (h .carrier-low (omega (arith, leb-false (x .kind) 3 e)), tt))
+
+member-away : (i : ℕ) (l : List ℕ) → 1 ≤ i → Numbered l → member i l ≡ false → Away (i - 1) (map (λ (k : ℕ). k - 1) l)
+unfolding member
+member-away i [] a b e = tt
+member-away i (j ∷ l) a b e =
+    let (here, rest) = or-false (eqb i j) (member i l) e in
+    let low = b .0 in
+    ((λ q. eqb-false i j here (omega arith)), member-away i l a (b .1) rest)
+
+common-apart : (is js : List ℕ) → Numbered is → Numbered js → common is js ≡ false → Apart (map (λ (k : ℕ). k - 1) is) (map (λ (k : ℕ). k - 1) js)
+unfolding common
+common-apart [] js a b e = tt
+common-apart (i ∷ is) js a b e =
+    let (here, rest) = or-false (member i js) (common is js) e in
+    (member-away i js (a .0) b here, common-apart is js (a .1) b rest)
+
+-- records that name no carrier in common work different ones
+pub carriers-apart : (x y : Record) → InRange x → InRange y → shareCarrier x y ≡ false → Apart (placesOf x) (placesOf y)
+carriers-apart x y g h e = common-apart (carriersOf x) (carriersOf y) (numbered x g) (numbered y h) e

@@ -1,0 +1,132 @@
+-- One call on a valid program: the program that it hands on, and one swap as a call of its own. Assumes nothing.
+use Prim.Native.Nat.{ℕ, zero, suc, _/_, _≤_, _<_}
+use mathlib.Core.Path.{_≡_, refl, ap, _∙_}
+use mathlib.Core.Bool.{false, _&&_, _||_}
+use mathlib.Core.List.{List, [], _∷_}
+use native.Mathlib.Omega.{arith}
+use lib.Dec.{leb, ltb}
+use lib.ListN.{length, take, drop, replicate, length-replicate}
+use lib.Seq.{take-at}
+use borrow.Author.Tests.{eq-eqb, ne-eqb, le-leb, le-ltb}
+use Rattle.machine.specs.declared.State.{State}
+use Rattle.machine.specs.Machine.{emptyState}
+use Rattle.run.specs.Relation.{Valid}
+use Rattle.run.specs.Run.{reached, answerOf, runOf}
+use Rattle.run.proofs.Premises.{by, is}
+use Rattle.run.proofs.Demand.{final}
+use Rattle.trace.specs.Swaps.{made, Swaps, no-swap, swap-first}
+use Rattle.rewrite.specs.Programs.{flat, recordsOf, knitting}
+use Rattle.rewrite.specs.Rewrite.{noRacking, swapOf, Replay, ended, replay, lentNo, Rewritten, refused, written, rewriteOf}
+use Rattle.rewrite.specs.Calls.{Below, Call, callOf, numberOf, handedOn, logOf, Accepted}
+use Rattle.rewrite.proofs.Records.{Whole, records-flat, flat-records, steps-whole, whole-length}
+use Rattle.rewrite.proofs.Replays.{Moved, swaps-moved, made-pair, replay-swaps, replay-moved, replay-number, replay-log}
+
+-- ---- one call on a valid program
+-- 1 or 2 by the lengths of what it is lent, or 0
+abbrev lent : List ℕ → Call → ℕ
+lent p c = lentNo (length p) (length (c .log)) (length (c .output)) (length (c .work))
+
+lent-number : (p : List ℕ) (c : Call) → lent p c ≤ 2
+unfolding lentNo
+lent-number p c =
+    by (ltb 32768 (length p) || ltb 32768 (length (c .log))) (λ a. simp a (omega arith))
+    (λ a. by (ltb (length (c .output)) (length p) || ltb (length (c .work)) (length p / 2)) (λ b. simp (a, b) (omega arith)) (λ b. simp (a, b) (omega arith)))
+
+-- 1 and 2 hand the same program on
+call-refused : (p : List ℕ) (c : Call) → (lent p c ≡ 0 → ⊥) → callOf p c ≡ refused (answerOf (reached (lent p c) 0 emptyState)) (c .output) (c .work)
+unfolding rewriteOf
+call-refused p c h = simp (ne-eqb (lent p c) 0 h)
+
+refused-number : (p : List ℕ) (c : Call) → (lent p c ≡ 0 → ⊥) → numberOf p c ≡ lent p c
+unfolding answerOf
+refused-number p c h = ap (λ (w : Rewritten). w .answer .number) (call-refused p c h)
+
+kept-program : (p : List ℕ) (c : Call) → (lent p c ≡ 0 → ⊥) → handedOn p c ≡ p
+kept-program p c h = simp (refused-number p c h, le-leb 1 (lent p c) (omega arith), le-leb (lent p c) 11 (omega (arith, lent-number p c)))
+
+module _ {p : List ℕ} {t : State} (v : Valid p t) where
+  -- with 0 the log is replayed
+  pub call-written : (c : Call) → lent p c ≡ 0 → callOf p c ≡ written p (replay (c .log) 0 (recordsOf p)) (c .output) (c .work)
+  unfolding rewriteOf
+  call-written c e = simp (eq-eqb (lent p c) 0 e, eq-eqb (runOf p .number) 0 (final p t v .number))
+
+  valid-whole : Whole (recordsOf p)
+  valid-whole = steps-whole (v .steps)
+
+  -- what swaps of its records leave is as long
+  pub moved-length : {m : List (List ℕ)} → Moved (recordsOf p) m → length (flat m) ≡ length p
+  moved-length s = s .bytes ∙ ap length (records-flat p)
+
+  -- and the records that it leaves are handed on
+  written-program : (c : Call) → lent p c ≡ 0 → handedOn p c ≡ flat (replay (c .log) 0 (recordsOf p) .left)
+  written-program c e =
+      let r = replay (c .log) 0 (recordsOf p) in
+      let f = call-written c e in
+      let n : numberOf p c ≡ r .number = ap (λ (w : Rewritten). w .answer .number) f in
+      let test : (leb 1 (numberOf p c) && leb (numberOf p c) 11) ≡ false = rw n (replay-number (c .log) 0 (recordsOf p)) in
+      simp test
+      (ap (λ (w : Rewritten). take (length p) (w .output)) f
+      ∙ take-at (flat (r .left)) (drop (length p) (c .output)) (length p) (moved-length (replay-moved (c .log) 0 (recordsOf p))))
+
+  -- so that every call hands on what swaps reach
+  pub handed-on : (c : Call) → (is : List ℕ) × Swaps knitting noRacking is (recordsOf p) (recordsOf (handedOn p c))
+  handed-on c =
+      is (lent p c) 0
+      (λ e. let (js, s) = replay-swaps (c .log) 0 (recordsOf p) in
+      let w = replay-moved (c .log) 0 (recordsOf p) .whole valid-whole in
+      (js, rw (written-program c e, flat-records (replay (c .log) 0 (recordsOf p) .left) w) s))
+      (λ h. ([], rw (kept-program p c h) no-swap))
+
+-- ---- one swap as a call of its own
+zeros-below : (k n : ℕ) → 0 < k → Below k (replicate n 0)
+zeros-below k zero h = tt
+zeros-below k (suc n) h = (h, zeros-below k n h)
+
+swapCall : (n i : ℕ) → i < 65536 → Call
+swapCall n i h =
+    record {
+      log = logOf (i ∷ []);
+      output = replicate n 0;
+      work = replicate n 0;
+      log-bytes = (omega arith, (omega arith, (omega arith, tt)));
+      output-bytes = zeros-below 256 n (omega arith);
+      work-offsets = zeros-below 65536 n (omega arith);
+    }
+
+swap-lent : (p : List ℕ) (i : ℕ) (h : i < 65536) → length p ≤ 32768 → lent p (swapCall (length p) i h) ≡ 0
+unfolding lentNo swapCall
+swap-lent p i h k =
+    let n = length p in
+    let a : length (replicate {A = ℕ} n 0) ≡ n = length-replicate n 0 in
+    simp (le-ltb 32768 n k, a, le-ltb n n (omega arith), le-ltb n (n / 2) (omega arith))
+
+module _ {p : List ℕ} {t : State} (v : Valid p t) (i : ℕ) {m : List (List ℕ)} (e : swapOf i (recordsOf p) ≡ made m) where
+  -- a position is a 16-bit number: a program has at most 16,384 records
+  small : i < 65536
+  small = omega (arith, made-pair knitting (recordsOf p) m noRacking i e, whole-length (recordsOf p) (valid-whole v), ap length (records-flat p), v .short)
+
+  -- its call, which answers 0 and hands on the records with the swap made
+  abbrev one : Call
+  one = swapCall (length p) i small
+
+  one-swap : Swaps knitting noRacking (i ∷ []) (recordsOf p) m
+  one-swap = swap-first e no-swap
+
+  one-replay : replay (one .log) 0 (recordsOf p) ≡ ended 0 0 m
+  unfolding swapCall
+  one-replay = replay-log one-swap 0
+
+  one-done : numberOf p one ≡ 0
+  one-done = ap (λ (r : Rewritten). r .answer .number) (call-written v one (swap-lent p i small (v .short))) ∙ ap (λ (r : Replay). r .number) one-replay
+
+  one-records : recordsOf (handedOn p one) ≡ m
+  one-records =
+      ap recordsOf (written-program v one (swap-lent p i small (v .short)) ∙ ap (λ (r : Replay). flat (r .left)) one-replay)
+      ∙ flat-records m (swaps-moved knitting one-swap .whole (valid-whole v))
+
+  one-accepted : Accepted p one
+  unfolding swapCall
+  one-accepted = record { done = one-done; positions = i ∷ []; log = refl; swaps = rw one-records one-swap }
+
+  pub call-of-swap : (c : Call) × Accepted p c × (recordsOf (handedOn p c) ≡ m)
+  call-of-swap = (one, one-accepted, one-records)

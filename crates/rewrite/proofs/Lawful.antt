@@ -1,0 +1,215 @@
+-- The laws that the theory of swaps (crate trace) asks of records and of the machine, and two claims of extents. Assumes nothing.
+use Prim.Native.Nat.{ℕ, _≤_}
+use mathlib.Core.Path.{_≡_, refl, sym, ap, subst, _∙_}
+use mathlib.Core.Bool.{Bool, true, false, _||_, true≢false, and-comm}
+use mathlib.Core.List.{List, [], _∷_}
+use mathlib.Core.Option.{Option, none, some}
+use native.Mathlib.Omega.{arith}
+use lib.Signed.{leZ}
+use lib.Dec.{eqb, leb}
+use lib.ListN.{length}
+use borrow.Author.Tests.{eq-eqb, ne-eqb, eqb-true, eqb-false}
+use Rattle.machine.specs.declared.Needle.{Needle}
+use Rattle.machine.specs.declared.Racking.{Racking}
+use Rattle.machine.specs.declared.State.{State}
+use Rattle.machine.specs.Machine.{sameNeedle}
+use Rattle.machine.proofs.Signed.{eqZ-yes, eqZ-true}
+use Rattle.machine.proofs.Laws.{and-two}
+use Rattle.record.specs.declared.Record.{Record}
+use Rattle.record.specs.declared.Decoded.{Decoded}
+use Rattle.record.specs.Format.{decodeOf, refusedAs}
+use Rattle.record.specs.Names.{needlesOf, carriersOf}
+use Rattle.record.proofs.Ranges.{InRange}
+use Rattle.record.proofs.Forms.{Reads, reads, decode-in}
+use Rattle.run.specs.Step.{numberAt, applyOf}
+use Rattle.trace.specs.Records.{Lawful, tied}
+use Rattle.trace.specs.Machine.{andThen, Orderly}
+use Rattle.trace.proofs.Tests.{by-test}
+use Rattle.rewrite.specs.declared.Extent.{Extent}
+use Rattle.rewrite.specs.Extents.{halfColumn, extentOf, meets, member, common, shareCarrier, isRack, rackingAfter}
+use Rattle.rewrite.specs.Programs.{what, sameBytes, knitting, memberNeedle, Named, needle, carrier, names}
+use Rattle.rewrite.specs.Claims.{MeetsExactly, EqualRecordsTied}
+use Rattle.rewrite.proofs.Machine.{whole, machine, Good}
+use Rattle.rewrite.proofs.Edits.{Each}
+use Rattle.rewrite.proofs.Footprints.{footprint, some-layer, share-meets, meets-share, Settled, Inside, inside, inside-meets}
+use Rattle.rewrite.proofs.Commute.{needle-eq, racking-left, number-settled, racking-applied, untied-commute}
+
+-- ---- extents
+pub meets-exactly : MeetsExactly
+meets-exactly r x y g h =
+    let (k, p) = some-layer (footprint r x) g in let (m, q) = some-layer (footprint r y) h in (
+      meets-share (extentOf r x) (extentOf r y) (halfColumn (x .at) r) (halfColumn (y .at) r) k m p q,
+      λ (z, layer, a, b). share-meets (extentOf r x) (extentOf r y) z layer a b,
+    )
+
+meets-sym : (a b : Extent) → meets a b ≡ meets b a
+unfolding meets
+meets-sym a b = cc (and-comm (leZ (a .left) (b .right)) (leZ (b .left) (a .right)), and-comm (leb (a .low) (b .high)) (leb (b .low) (a .high)))
+
+meets-self : (r : Racking) (x : Record) → x .carrier ≤ 10 → meets (extentOf r x) (extentOf r x) ≡ true
+meets-self r x h = let (k, p) = some-layer (footprint r x) h in share-meets (extentOf r x) (extentOf r x) (halfColumn (x .at) r) k p p
+
+-- whatever the bytes, the carrier that they name is at most 10
+read-carrier : {x : List ℕ} {d : Decoded} → Reads x d → (d .number ≡ 0 → InRange (d .what)) → d .what .carrier ≤ 10
+unfolding refusedAs
+read-carrier (Reads.none a) h = omega arith
+read-carrier (Reads.strange a b) h = omega arith
+read-carrier (Reads.short f a b) h = omega arith
+read-carrier (Reads.outside f a b) h = omega arith
+read-carrier (Reads.done f a b) h = h refl .carrier-high
+
+pub carrier-high : (x : List ℕ) → what x .carrier ≤ 10
+carrier-high x = read-carrier (reads x) (decode-in x)
+
+bytes-meet : (r : Racking) (x : List ℕ) → meets (extentOf r (what x)) (extentOf r (what x)) ≡ true
+bytes-meet r x = meets-self r (what x) (carrier-high x)
+
+-- ---- carriers in common
+eqb-sym : (m n : ℕ) → eqb m n ≡ eqb n m
+eqb-sym m n = by-test (eqb m n) (λ e. e ∙ sym (eq-eqb n m (sym (eqb-true m n e)))) (λ e. e ∙ sym (ne-eqb n m (λ q. eqb-false m n e (sym q))))
+
+common-none : (l : List ℕ) → common l [] ≡ false
+unfolding common member
+common-none [] = refl
+common-none (i ∷ l) = common-none l
+
+common-more : (l : List ℕ) (j : ℕ) (js : List ℕ) → common l (j ∷ js) ≡ (member j l || common l js)
+unfolding common member
+common-more [] j js = refl
+common-more (i ∷ l) j js = turn (eqb i j) (eqb j i) (member i js) (common l (j ∷ js)) (member j l) (common l js) (eqb-sym i j) (common-more l j js)
+  where
+    turn : (a a' b c d e : Bool) → a ≡ a' → c ≡ (d || e) → ((a || b) || c) ≡ ((a' || d) || (b || e))
+    turn true a' b c d e p q = rw (sym p)
+    turn false a' true c true e p q = rw (sym p)
+    turn false a' true c false e p q = rw (sym p)
+    turn false a' false c true e p q = rw (sym p, q)
+    turn false a' false c false e p q = rw (sym p, q)
+
+common-sym : (is js : List ℕ) → common is js ≡ common js is
+unfolding common
+common-sym is [] = common-none is
+common-sym is (j ∷ js) = common-more is j js ∙ ap (λ (b : Bool). member j is || b) (common-sym is js)
+
+common-member : (i : ℕ) (is js : List ℕ) → member i is ≡ true → member i js ≡ true → common is js ≡ true
+unfolding common member
+common-member i [] js e f = absurd (true≢false (sym e))
+common-member i (j ∷ is) js e f =
+    by-test (eqb i j) (λ q. let p : member j js ≡ true = subst (λ (n : ℕ). member n js ≡ true) (eqb-true i j q) f in simp p)
+    (λ q. let p = common-member i is js (sym (simp q) ∙ e) f in by-test (member j js) (λ m. simp m) (λ m. simp (m, p)))
+
+-- ---- the laws of records
+same-self : (x : List ℕ) → sameBytes x x ≡ true
+unfolding sameBytes
+same-self [] = refl
+same-self (a ∷ x) = simp (eq-eqb a a refl, same-self x)
+
+same-eq : (x y : List ℕ) → sameBytes x y ≡ true → x ≡ y
+unfolding sameBytes
+same-eq [] [] e = refl
+same-eq [] (b ∷ y) e = absurd (true≢false (sym e))
+same-eq (a ∷ x) [] e = absurd (true≢false (sym e))
+same-eq (a ∷ x) (b ∷ y) e = let (p, q) = and-two (eqb a b) (sameBytes x y) e in cc (eqb-true a b p, same-eq x y q)
+
+pub lawful : Lawful knitting
+lawful =
+    record {
+      same-refl = same-self;
+      same-eq = same-eq;
+      racking-refl = λ r. eqZ-yes (r .0) (r .0) refl;
+      racking-eq = λ r s e. let q = eqZ-true (r .0) (s .0) e in λ i. record { 0 = q i };
+      after-other = λ r x e. simp e;
+      share-sym = λ x y. common-sym (carriersOf (what x)) (carriersOf (what y));
+      meet-sym = λ r x y. meets-sym (extentOf r (what x)) (extentOf r (what y));
+      meet-refl = λ r x e f. bytes-meet r x;
+    }
+
+-- ---- ties
+or-parts : (a b c d : Bool) → (a || (b || (c || d))) ≡ false → (a ≡ false) × (b ≡ false) × (c ≡ false) × (d ≡ false)
+or-parts true b c d e = absurd (true≢false e)
+or-parts false true c d e = absurd (true≢false e)
+or-parts false false true d e = absurd (true≢false e)
+or-parts false false false d e = (refl, refl, refl, e)
+
+-- two records are tied if, where the first is no rack, they name one carrier or their extents meet
+tied-by : (a b c d : Bool) → (a ≡ false → (c || d) ≡ true) → (a || (b || (c || d))) ≡ true
+tied-by true b c d f = refl
+tied-by false true c d f = refl
+tied-by false false c d f = f refl
+
+or-true : (c d : Bool) → d ≡ true → (c || d) ≡ true
+or-true true d e = refl
+or-true false d e = e
+
+pub equal-tied : EqualRecordsTied
+equal-tied r x =
+    tied-by (isRack (what x)) (isRack (what x)) (shareCarrier (what x) (what x)) (meets (extentOf r (what x)) (extentOf r (what x)))
+    (λ a. or-true (shareCarrier (what x) (what x)) (meets (extentOf r (what x)) (extentOf r (what x))) (bytes-meet r x))
+
+-- ---- the laws of the machine
+whole-in : (x : List ℕ) → whole x ≡ true → InRange (what x)
+whole-in x e = decode-in x (eqb-true (decodeOf x .number) 0 (and-two (eqb (decodeOf x .number) 0) (eqb (decodeOf x .size) (length x)) e .0))
+
+-- what a step that is had says of its record
+record Had (s t : State) (x : List ℕ) : Type 0 where
+  in-range : InRange (what x)
+  number : numberAt s (what x) ≡ 0
+  state : applyOf s (what x) ≡ t
+
+had : (s t : State) (x : List ℕ) → machine .step s x ≡ some t → Had s t x
+had s t x e =
+    by-test (whole x)
+    (λ w. by-test (eqb (numberAt s (what x)) 0)
+    (λ n. record { in-range = whole-in x w; number = eqb-true (numberAt s (what x)) 0 n; state = cc })
+    (λ n. absurd (true≢false (cc))))
+    (λ w. absurd (true≢false (cc)))
+
+racking-step : (s t : State) (x : List ℕ) → machine .step s x ≡ some t → t .racking ≡ rackingAfter (s .racking) (what x)
+racking-step s t x e =
+    let h = had s t x e in
+    ap (λ (u : State). u .racking) (sym (h .state)) ∙ racking-applied s (what x) ∙ racking-left (what x) (s .racking) (h .in-range)
+
+-- a step after none, and none after a step
+none-after : (o : Option State) → andThen o (λ (t : State). none) ≡ none
+none-after none = refl
+none-after (some s) = refl
+
+commute : (s : State) (x y : List ℕ) → tied knitting (s .racking) x y ≡ false
+    → andThen (machine .step s x) (λ t. machine .step t y) ≡ andThen (machine .step s y) (λ t. machine .step t x)
+commute s x y t =
+    let (a, b, c, d) = or-parts (isRack (what x)) (isRack (what y)) (shareCarrier (what x) (what y)) (meets (extentOf (s .racking) (what x)) (extentOf (s .racking) (what y))) t in
+    by-test (whole x)
+    (λ v. by-test (whole y) (λ w. simp (v, w) (untied-commute s (what x) (what y) (whole-in x v) (whole-in y w) a b c d)) (λ w. simp (v, w, none-after)))
+    (λ v. by-test (whole y) (λ w. simp (v, w, none-after)) (λ w. simp (v, w)))
+
+member-each : (P : Needle → Type 0) (n : Needle) (l : List Needle) → memberNeedle n l ≡ true → Each P l → P n
+unfolding memberNeedle
+member-each P n [] e h = absurd (true≢false (sym e))
+member-each P n (m ∷ l) e h = by-test (sameNeedle n m) (λ q. subst P (sym (needle-eq n m q)) (h .0)) (λ q. member-each P n l (sym (simp q) ∙ e) (h .1))
+
+-- settled records that name one needle or carrier
+named-both : (n : Named) (r : Racking) (x y : List ℕ) → Settled r (what x) → Settled r (what y) → names n x ≡ true → names n y ≡ true
+    → (shareCarrier (what x) (what y) || meets (extentOf r (what x)) (extentOf r (what y))) ≡ true
+named-both (needle n) r x y S T p q =
+    or-true (shareCarrier (what x) (what y)) (meets (extentOf r (what x)) (extentOf r (what y)))
+    (inside-meets r (extentOf r (what x)) (extentOf r (what y)) n n
+    (member-each (Inside r (extentOf r (what x))) n (needlesOf (what x)) p (inside r (what x) S))
+    (member-each (Inside r (extentOf r (what y))) n (needlesOf (what y)) q (inside r (what y) T)) refl)
+named-both (carrier k) r x y S T p q = simp (common-member k (carriersOf (what x)) (carriersOf (what y)) p q)
+
+named : (n : Named) (s t u : State) (x y : List ℕ) → machine .step s x ≡ some t → machine .step t y ≡ some u → names n x ≡ true → names n y ≡ true
+    → tied knitting (s .racking) x y ≡ true
+named n s t u x y e f p q =
+    let r = s .racking in let g = had s t x e in let h = had t u y f in
+    tied-by (isRack (what x)) (isRack (what y)) (shareCarrier (what x) (what y)) (meets (extentOf r (what x)) (extentOf r (what y)))
+    (λ a. let kept : t .racking ≡ r = racking-step s t x e ∙ simp a in
+    named-both n r x y (number-settled s (what x) (g .in-range) (g .number))
+    (subst (λ (z : Racking). Settled z (what y)) kept (number-settled t (what y) (h .in-range) (h .number))) p q)
+
+pub orderly : Orderly knitting machine names Good
+orderly =
+    record {
+      good-step = λ s t x g e. tt;
+      racking-step = racking-step;
+      commute = λ s x y g t. commute s x y t;
+      named = λ n s t u x y g e f p q. named n s t u x y e f p q;
+    }

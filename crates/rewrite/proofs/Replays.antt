@@ -1,0 +1,146 @@
+-- What a log makes of a list of records: swaps that are made one after another, up to its end or to the log record that is refused. Assumes nothing.
+use Prim.Native.Nat.{ℕ, zero, suc, _+_, _*_, _/_, _%_, _≤_, _<_}
+use mathlib.Core.Path.{_≡_, refl, ap, _∙_}
+use mathlib.Core.Bool.{false, true≢false, _&&_}
+use mathlib.Core.List.{List, [], _∷_, _++_}
+use native.Mathlib.Omega.{arith}
+use native.Mathlib.Nat.{div-add-mod'}
+use lib.Dec.{eqb, leb}
+use lib.ListN.{length, length-append}
+use borrow.Author.Tests.{eqb-true, le-leb, lt-leb}
+use Rattle.run.proofs.Premises.{by}
+use Rattle.trace.specs.Records.{Records}
+use Rattle.trace.specs.Swaps.{Outcome, no-pair, is-tied, made, swapAt, Swaps, no-swap, swap-first}
+use Rattle.trace.proofs.Swaps.{behind-made, front-made}
+use Rattle.rewrite.specs.Programs.{flat, knitting}
+use Rattle.rewrite.specs.Rewrite.{noRacking, swapOf, Replay, ended, onOutcome, replay}
+use Rattle.rewrite.specs.Calls.{logOf}
+use Rattle.rewrite.proofs.Records.{Whole}
+
+-- ---- a swap moves whole records and changes none
+pub record Moved (l m : List (List ℕ)) : Type 0 where
+  pub records : length m ≡ length l
+  pub bytes : length (flat m) ≡ length (flat l)
+  pub whole : Whole l → Whole m
+
+-- two neighbours change places
+neighbours : (x y : List ℕ) (l : List (List ℕ)) → Moved (x ∷ y ∷ l) (y ∷ x ∷ l)
+neighbours x y l =
+    record {
+      records = refl;
+      bytes = omega (arith, length-append x (y ++ flat l), length-append y (flat l), length-append y (x ++ flat l), length-append x (flat l));
+      whole = λ (a, (b, c)). (b, (a, c));
+    }
+
+-- and behind a record that stays
+stays : (x : List ℕ) {l m : List (List ℕ)} → Moved l m → Moved (x ∷ l) (x ∷ m)
+stays x {l} {m} s =
+    record {
+      records = ap suc (s .records);
+      bytes = omega (arith, s .bytes, length-append x (flat l), length-append x (flat m));
+      whole = λ (a, b). (a, s .whole b);
+    }
+
+module _ {R : Type 0} (K : Records (List ℕ) R) where
+  pub made-moved : (l m : List (List ℕ)) (r : R) (i : ℕ) → swapAt K r i l ≡ made m → Moved l m
+  made-moved [] m r i e = absurd (true≢false (cc))
+  made-moved (x ∷ []) m r zero e = absurd (true≢false (cc))
+  made-moved (x ∷ y ∷ l) m r zero e = rw (front-made K r x y l m e .1) (neighbours x y l)
+  made-moved (x ∷ l) m r (suc i) e =
+      let (n, f, g) = behind-made x (swapAt K (K .after r x) i l) m e in
+      rw g (stays x (made-moved l n (K .after r x) i f))
+
+  pub swaps-moved : {r : R} {is : List ℕ} {l m : List (List ℕ)} → Swaps K r is l m → Moved l m
+  swaps-moved no-swap = record { records = refl; bytes = refl; whole = λ w. w }
+  swaps-moved {r} (swap-first {i} {is} {l} {m} {n} e t) =
+      let a = made-moved l m r i e in
+      let b = swaps-moved t in
+      record { records = b .records ∙ a .records; bytes = b .bytes ∙ a .bytes; whole = λ w. b .whole (a .whole w) }
+
+  -- a swap that is made has its two records
+  pub made-pair : (l m : List (List ℕ)) (r : R) (i : ℕ) → swapAt K r i l ≡ made m → suc i < length l
+  made-pair [] m r i e = absurd (true≢false (cc))
+  made-pair (x ∷ []) m r zero e = absurd (true≢false (cc))
+  made-pair (x ∷ y ∷ l) m r zero e = omega arith
+  made-pair (x ∷ l) m r (suc i) e =
+      let (n, f, g) = behind-made x (swapAt K (K .after r x) i l) m e in
+      omega (arith, made-pair l n (K .after r x) i f)
+
+-- ---- one log record: its swap is made, or the two are tied
+pub replay-made : (high low : ℕ) (log : List ℕ) (at : ℕ) (l m : List (List ℕ)) → swapOf (high * 256 + low) l ≡ made m → replay (64 ∷ high ∷ low ∷ log) at l ≡ replay log (at + 3) m
+unfolding replay
+replay-made high low log at l m e = rw e
+
+pub replay-tied : (high low : ℕ) (log : List ℕ) (at : ℕ) (l : List (List ℕ)) → swapOf (high * 256 + low) l ≡ is-tied → replay (64 ∷ high ∷ low ∷ log) at l ≡ ended 13 at l
+unfolding replay
+replay-tied high low log at l e = rw e
+
+-- ---- every replay goes through its log or stops at a log record with 12, 13 or 14
+data Replayed : List ℕ → ℕ → List (List ℕ) → Replay → Type 0 where
+  through : {at : ℕ} {l : List (List ℕ)} → Replayed [] at l (ended 0 0 l)
+  stopped : {log : List ℕ} {at : ℕ} {l : List (List ℕ)} (n : ℕ) → 12 ≤ n → n ≤ 14 → Replayed log at l (ended n at l)
+  next : {high low at : ℕ} {log : List ℕ} {l m : List (List ℕ)} {r : Replay} → swapOf (high * 256 + low) l ≡ made m → Replayed log (at + 3) m r → Replayed (64 ∷ high ∷ low ∷ log) at l r
+
+replayed : (log : List ℕ) (at : ℕ) (l : List (List ℕ)) → Replayed log at l (replay log at l)
+unfolding replay
+replayed [] at l = Replayed.through
+replayed (k ∷ []) at l = Replayed.stopped 14 (omega arith) (omega arith)
+replayed (k ∷ high ∷ []) at l = Replayed.stopped 14 (omega arith) (omega arith)
+replayed (k ∷ high ∷ low ∷ log) at l =
+    by (eqb k 64) (λ e. rw (e, eqb-true k 64 e) (go (swapOf (high * 256 + low) l) refl (replayed log (at + 3)))) (λ e. rw e (Replayed.stopped 14 (omega arith) (omega arith)))
+  where
+    go : (o : Outcome (List ℕ)) → swapOf (high * 256 + low) l ≡ o → ((m : List (List ℕ)) → Replayed log (at + 3) m (replay log (at + 3) m))
+        → Replayed (64 ∷ high ∷ low ∷ log) at l (onOutcome o at l (λ m. replay log (at + 3) m))
+    go no-pair e more = Replayed.stopped 12 (omega arith) (omega arith)
+    go is-tied e more = Replayed.stopped 13 (omega arith) (omega arith)
+    go (made m) e more = Replayed.next e (more m)
+
+-- the records that it leaves are reached by swaps that are made
+left-by-swaps : {log : List ℕ} {at : ℕ} {l : List (List ℕ)} {r : Replay} → Replayed log at l r → (is : List ℕ) × Swaps knitting noRacking is l (r .left)
+left-by-swaps Replayed.through = ([], no-swap)
+left-by-swaps (Replayed.stopped n h i) = ([], no-swap)
+left-by-swaps (Replayed.next {high} {low} e more) = let (is, s) = left-by-swaps more in ((high * 256 + low) ∷ is, swap-first e s)
+
+pub replay-swaps : (log : List ℕ) (at : ℕ) (l : List (List ℕ)) → (is : List ℕ) × Swaps knitting noRacking is l (replay log at l .left)
+replay-swaps log at l = left-by-swaps (replayed log at l)
+
+pub replay-moved : (log : List ℕ) (at : ℕ) (l : List (List ℕ)) → Moved l (replay log at l .left)
+replay-moved log at l = swaps-moved knitting (replay-swaps log at l .1)
+
+-- its number is 0, or 12 to 14; a number that is not 0 has its place in the log
+pub replay-number : (log : List ℕ) (at : ℕ) (l : List (List ℕ)) → (leb 1 (replay log at l .number) && leb (replay log at l .number) 11) ≡ false
+replay-number log at l = go (replayed log at l)
+  where
+    go : {log : List ℕ} {at : ℕ} {l : List (List ℕ)} {r : Replay} → Replayed log at l r → (leb 1 (r .number) && leb (r .number) 11) ≡ false
+    go Replayed.through = refl
+    go (Replayed.stopped n h i) = simp (le-leb 1 n (omega arith), lt-leb n 11 (omega arith))
+    go (Replayed.next e more) = go more
+
+pub replay-place : (log : List ℕ) (at : ℕ) (l : List (List ℕ)) → (replay log at l .number ≡ 0 → ⊥) → at ≤ replay log at l .place
+replay-place log at l = go (replayed log at l)
+  where
+    go : {log : List ℕ} {at : ℕ} {l : List (List ℕ)} {r : Replay} → Replayed log at l r → (r .number ≡ 0 → ⊥) → at ≤ r .place
+    go Replayed.through h = absurd (h refl)
+    go (Replayed.stopped n a b) h = omega arith
+    go (Replayed.next e more) h = omega (arith, go more h)
+
+-- ---- a log whose front goes through goes on behind it
+goes-on : {front : List ℕ} {at : ℕ} {l : List (List ℕ)} {r : Replay} → Replayed front at l r → r .number ≡ 0 → (rest : List ℕ) (from : ℕ)
+    → replay (front ++ rest) from l ≡ replay rest (from + length front) (r .left)
+goes-on (Replayed.through {l = l}) z rest from = let e : from ≡ from + 0 = omega arith in ap (λ (n : ℕ). replay rest n l) e
+goes-on (Replayed.stopped n a b) z rest from = absurd (omega arith)
+goes-on (Replayed.next {high} {low} {at} {log} {l} {m} {r} e more) z rest from =
+    let f : from + 3 + length log ≡ from + length (64 ∷ high ∷ low ∷ log) = omega arith in
+    replay-made high low (log ++ rest) from l m e ∙ goes-on more z rest (from + 3) ∙ ap (λ (n : ℕ). replay rest n (r .left)) f
+
+pub replay-front : (front rest : List ℕ) (at from : ℕ) (l m : List (List ℕ)) → replay front at l ≡ ended 0 0 m → replay (front ++ rest) from l ≡ replay rest (from + length front) m
+replay-front front rest at from l m e =
+    goes-on (replayed front at l) (ap (λ (r : Replay). r .number) e) rest from
+    ∙ ap (λ (r : Replay). replay rest (from + length front) (r .left)) e
+
+-- ---- a log of swaps that are made goes through
+pub replay-log : {is : List ℕ} {l m : List (List ℕ)} → Swaps knitting noRacking is l m → (at : ℕ) → replay (logOf is) at l ≡ ended 0 0 m
+unfolding replay
+replay-log no-swap at = refl
+replay-log (swap-first {i} {is} {l} {m} {n} e t) at =
+    replay-made (i / 256) (i % 256) (logOf is) at l m (ap (λ (j : ℕ). swapOf j l) (div-add-mod' i 256) ∙ e) ∙ replay-log t (at + 3)

@@ -1,0 +1,64 @@
+-- How a program is laid in the lent areas between swaps: what the rewriter's private functions ask and promise. No part of the claims.
+use Prim.Native.Nat.{ℕ, _+_, _-_, _*_, _≤_, _<_}
+use mathlib.Core.Path.{_≡_}
+use mathlib.Core.Bool.{Bool, true, cond, _&&_, _||_}
+use mathlib.Core.List.{List, [], _∷_, _++_}
+use lib.Dec.{eqb}
+use lib.ListN.{length, take, drop, getD, set}
+use Rattle.machine.specs.declared.Racking.{Racking}
+use Rattle.record.specs.declared.Record.{Record}
+use Rattle.record.specs.Format.{byte, decodeOf}
+use Rattle.trace.specs.Swaps.{Outcome, no-pair, is-tied, made}
+use Rattle.rewrite.specs.Extents.{extentOf, meets, shareCarrier, isRack}
+use Rattle.rewrite.specs.Programs.{recordsOf, startsOf}
+
+-- a tie, of records that were decoded: crate trace's `tied` over `knitting` is this of their bytes
+unfoldable pub tiedAt : Racking → Record → Record → Bool
+tiedAt r x y = isRack x || (isRack y || (shareCarrier x y || meets (extentOf r x) (extentOf r y)))
+
+-- a record's bytes and no more: known kind, fields in range
+abbrev pub whole : List ℕ → Bool
+whole x = eqb (decodeOf x .number) 0 && eqb (decodeOf x .size) (length x)
+
+abbrev pub Whole : List (List ℕ) → Type 0
+Whole [] = Unit {0}
+Whole (x ∷ l) = (whole x ≡ true) × Whole l
+
+-- a short program of whole records
+pub record Sound (program : List ℕ) : Type 0 where
+  pub whole : Whole (recordsOf program)
+  pub short : length program ≤ 32768
+
+-- the racking in force after records, as the byte that a rack gave it
+unfoldable pub rackByte : ℕ → List (List ℕ) → ℕ
+rackByte b [] = b
+rackByte b (x ∷ l) = rackByte (cond (eqb (byte x 0) 1) (byte x 1) b) l
+
+-- the program in the output and its starts, and no more than these, in the work area
+pub record Laid (program work : List ℕ) : Type 0 where
+  pub sound : Sound program
+  pub starts : work ≡ startsOf 0 (recordsOf program)
+
+-- and the byte of the racking in force at every 64th record in the table
+pub record Marked (program table : List ℕ) : Type 0 where
+  pub long : length table ≡ 256
+  pub marks : (j : ℕ) → j * 64 < length (recordsOf program) → getD table j 0 ≡ rackByte 0 (take (j * 64) (recordsOf program))
+
+-- what a swap answers and leaves
+unfoldable pub swapNo : Outcome (List ℕ) → ℕ
+swapNo no-pair = 12
+swapNo is-tied = 13
+swapNo (made m) = 0
+
+unfoldable pub leftBy : Outcome (List ℕ) → List (List ℕ) → List (List ℕ)
+leftBy no-pair l = l
+leftBy is-tied l = l
+leftBy (made m) l = m
+
+-- the records from a to b and from b to e change places
+unfoldable pub exchanged : List ℕ → ℕ → ℕ → ℕ → List ℕ
+exchanged o a b e = take a o ++ (take (e - b) (drop b o) ++ (take (b - a) (drop a o) ++ drop e o))
+
+-- what lies from a to b
+abbrev pub part : List ℕ → ℕ → ℕ → List ℕ
+part o a b = take (b - a) (drop a o)
