@@ -18,7 +18,8 @@ use Rattle.trace.specs.Swaps.{made, Swaps, no-swap, swap-first}
 use Rattle.rewrite.specs.Programs.{flat, recordsOf, knitting}
 use Rattle.rewrite.specs.Rewrite.{noRacking, swapOf, Replay, ended, replay, lentNo, Rewritten, refused, written, rewriteOf}
 use Rattle.rewrite.specs.Calls.{Below, Call, callOf, numberOf, handedOn, logOf, Accepted}
-use Rattle.rewrite.proofs.Records.{Whole, records-flat, flat-records, steps-whole, whole-length}
+use Rattle.rewrite.specs.Laid.{Whole}
+use Rattle.rewrite.proofs.Records.{records-flat, flat-records, steps-whole, whole-length}
 use Rattle.rewrite.proofs.Replays.{Moved, swaps-moved, made-pair, replay-swaps, replay-moved, replay-number, replay-log}
 
 -- ---- one call on a valid program

@@ -18,7 +18,8 @@ use Rattle.run.proofs.Premises.{by}
 use Rattle.run.proofs.Sound.{step-only, step-sound}
 use Rattle.trace.specs.Machine.{Ends}
 use Rattle.rewrite.specs.Programs.{flat, cut, recordsOf, what}
-use Rattle.rewrite.proofs.Machine.{whole, stepped, machine}
+use Rattle.rewrite.specs.Laid.{whole}
+use Rattle.rewrite.proofs.Machine.{stepped, machine}
 use Rattle.rewrite.proofs.Records.{records-flat, whole-form, form-whole, form-what, records-next}
 
 -- ---- one record

@@ -29,7 +29,8 @@ use Rattle.rewrite.specs.declared.Extent.{Extent}
 use Rattle.rewrite.specs.Extents.{halfColumn, extentOf, meets, member, common, shareCarrier, isRack, rackingAfter}
 use Rattle.rewrite.specs.Programs.{what, sameBytes, knitting, memberNeedle, Named, needle, carrier, names}
 use Rattle.rewrite.specs.Claims.{MeetsExactly, EqualRecordsTied}
-use Rattle.rewrite.proofs.Machine.{whole, machine, Good}
+use Rattle.rewrite.specs.Laid.{whole}
+use Rattle.rewrite.proofs.Machine.{machine, Good}
 use Rattle.rewrite.proofs.Edits.{Each}
 use Rattle.rewrite.proofs.Footprints.{footprint, some-layer, share-meets, meets-share, Settled, Inside, inside, inside-meets}
 use Rattle.rewrite.proofs.Commute.{needle-eq, racking-left, number-settled, racking-applied, untied-commute}

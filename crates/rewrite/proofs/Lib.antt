@@ -13,3 +13,5 @@ pub mod Demand
 pub mod Halves
 pub mod Extents
 pub mod Rotations
+pub mod Laying
+pub mod Rackings

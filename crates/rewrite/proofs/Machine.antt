@@ -1,21 +1,16 @@
 -- The machine that runs records by their bytes: what the theory of swaps (crate trace) asks for. Assumes nothing.
 use Prim.Native.Nat.{ℕ}
-use mathlib.Core.Bool.{Bool, cond, _&&_}
+use mathlib.Core.Bool.{cond}
 use mathlib.Core.List.{List}
 use mathlib.Core.Option.{Option, none, some}
 use lib.Dec.{eqb}
-use lib.ListN.{length}
 use Rattle.machine.specs.declared.Racking.{Racking}
 use Rattle.machine.specs.declared.State.{State}
 use Rattle.record.specs.declared.Record.{Record}
-use Rattle.record.specs.Format.{decodeOf}
 use Rattle.run.specs.Step.{numberAt, applyOf}
 use Rattle.trace.specs.Machine.{Machine}
 use Rattle.rewrite.specs.Programs.{what}
-
--- a record's bytes, and no more: known kind, fields in range
-abbrev pub whole : List ℕ → Bool
-whole x = eqb (decodeOf x .number) 0 && eqb (decodeOf x .size) (length x)
+use Rattle.rewrite.specs.Laid.{whole}
 
 -- the step of a record, where it has one
 abbrev pub stepped : State → Record → Option State

@@ -19,7 +19,7 @@ use Rattle.run.specs.Run.{runOf}
 use Rattle.run.proofs.Demand.{accepts}
 use Rattle.rewrite.specs.Programs.{flat, cut, recordsOf, what}
 use Rattle.rewrite.specs.Claims.{RecordsEndToEnd}
-use Rattle.rewrite.proofs.Machine.{whole}
+use Rattle.rewrite.specs.Laid.{whole, Whole}
 
 -- ---- records that are cut and joined again
 flat-cut : (n : ℕ) (p : List ℕ) → length p ≤ n → flat (cut n p) ≡ p
@@ -72,11 +72,6 @@ form-size (Encodes.split c d e f g h) = record { least = omega arith; most = ome
 
 pub whole-size : (x : List ℕ) → whole x ≡ true → Sized x
 whole-size x w = form-size (whole-form x w)
-
--- every record of a list is whole
-abbrev pub Whole : List (List ℕ) → Type 0
-Whole [] = Unit {0}
-Whole (x ∷ l) = (whole x ≡ true) × Whole l
 
 -- each has two bytes at least
 pub whole-length : (l : List (List ℕ)) → Whole l → length l * 2 ≤ length (flat l)

@@ -15,7 +15,7 @@ use Rattle.trace.proofs.Swaps.{behind-made, front-made}
 use Rattle.rewrite.specs.Programs.{flat, knitting}
 use Rattle.rewrite.specs.Rewrite.{noRacking, swapOf, Replay, ended, onOutcome, replay}
 use Rattle.rewrite.specs.Calls.{logOf}
-use Rattle.rewrite.proofs.Records.{Whole}
+use Rattle.rewrite.specs.Laid.{Whole}
 
 -- ---- a swap moves whole records and changes none
 pub record Moved (l m : List (List ℕ)) : Type 0 where

@@ -1,57 +1,82 @@
+-- A walk along the records between. Assumes nothing.
+use Prim.Native.Nat.{ℕ, _+_, _-_, _≤_, _<_}
+use native.Mathlib.Omega.{arith}
+use mathlib.Core.Path.{_≡_, refl, sym, ap, _∙_}
+use mathlib.Core.List.{List}
+use mathlib.Core.Logic.{⊎-elim}
+use lib.ListN.{length, take, drop, getD}
+use borrow.Author.Tests.{eq-eqb, ne-eqb}
+use Rattle.record.specs.Format.{byte}
+use Rattle.rewrite.specs.Programs.{recordsOf}
+use Rattle.rewrite.specs.Laid.{rackByte}
+use Rattle.rewrite.proofs.Laying.{Stands, nth, work-length, stands, byte-at, kind-at}
+use Rattle.rewrite.proofs.Rackings.{byteAfter, rack-next, rack-end}
+use borrow.Author.Needs.{needs}
 use Rattle.rewrite.proofs.racking_after.Statement.{statement}
 use Rattle.rewrite.proofs.racking_after.Tie as tie
-use Rattle.rewrite.proofs.racking_after.Reads as reads
-use Rattle.rewrite.proofs.racking_after.Lts as lts
 
 abbrev Inv-loop : tie.InvT-loop
-Inv-loop program work i n r b₀ j₀ b j = ?
+Inv-loop program work i n r b₀ j₀ b j =
+    (j ≤ n) × (i ≤ j) × (rackByte r (take (n - i) (drop i (recordsOf program))) ≡ rackByte b (take (n - j) (drop j (recordsOf program))))
 
 abbrev μ-loop : tie.MeasureT-loop
-μ-loop program work i n r b₀ j₀ b j = ?
+μ-loop program work i n r b₀ j₀ b j = n - j
 
--- src/lib.rt:226:5
+-- the byte after record j, as the two branches leave it
+module _ (p w : List ℕ) (j : ℕ) (s : Stands p w j) (b c : ℕ) where
+  at-rack : getD p (getD w j 0) 0 ≡ 1 → c ≡ getD p (getD w j 0 + 1) 0 → c ≡ byteAfter b (nth p j)
+  at-rack e f = f ∙ byte-at p w j s 1 (omega (arith, s .sized .least)) ∙ sym (simp (eq-eqb (byte (nth p j) 0) 1 (sym (kind-at p w j s) ∙ e)))
+
+  at-other : (getD p (getD w j 0) 0 ≡ 1 → ⊥) → c ≡ b → c ≡ byteAfter b (nth p j)
+  at-other d f = f ∙ sym (simp (ne-eqb (byte (nth p j) 0) 1 (λ e. d (kind-at p w j s ∙ e))))
+
 loop-holds : tie.Need-loop-holds Inv-loop μ-loop
-loop-holds c = ?
+loop-holds c = (c .pre .1, omega arith, refl)
 
--- src/lib.rt:227:18
 mul-at : tie.Need-mul-at Inv-loop μ-loop
-mul-at c = ?
+mul-at c = search needs
 
--- src/lib.rt:227:18
 shared-slice-read-at : tie.Need-shared-slice-read-at Inv-loop μ-loop
-shared-slice-read-at c = ?
+shared-slice-read-at c = search needs
 
--- src/lib.rt:227:18
 cast-at : tie.Need-cast-at Inv-loop μ-loop
-cast-at c = ?
+cast-at c = let k = c .before .before .before in let s = stands (k .args .program .now) (k .args .work .now) (k .pre .0) (c .before .before .loop .j) (search needs) in
+    omega (arith, s .ends, k .pre .0 .sound .short)
 
--- src/lib.rt:228:12
 shared-slice-read-if1 : tie.Need-shared-slice-read-if1 Inv-loop μ-loop
-shared-slice-read-if1 c = ?
+shared-slice-read-if1 c = let k = c .before .before .before .before in let s = stands (k .args .program .now) (k .args .work .now) (k .pre .0) (c .before .before .before .loop .j) (search needs) in
+    omega (arith, s .ends, s .sized .least)
 
--- src/lib.rt:229:25
 add-b : tie.Need-add-b Inv-loop μ-loop
-add-b c = ?
+add-b c = let k = c .before .before .before .before .before in let s = stands (k .args .program .now) (k .args .work .now) (k .pre .0) (c .before .before .before .before .loop .j) (search needs) in
+    omega (arith, s .ends, s .sized .least, k .pre .0 .sound .short)
 
--- src/lib.rt:229:17
 shared-slice-read-b : tie.Need-shared-slice-read-b Inv-loop μ-loop
-shared-slice-read-b c = ?
+shared-slice-read-b c = let k = c .before .before .before .before .before .before in let s = stands (k .args .program .now) (k .args .work .now) (k .pre .0) (c .before .before .before .before .before .loop .j) (search needs) in
+    omega (arith, s .ends, s .sized .least)
 
--- src/lib.rt:231:9
 add-j : tie.Need-add-j Inv-loop μ-loop
-add-j c = ?
+add-j c = search needs
 
--- src/lib.rt:226:5
 loop-less : tie.Need-loop-less Inv-loop μ-loop
-loop-less c = ?
+loop-less c = omega (arith, c .before .before .before .loop-test .taken)
 
--- src/lib.rt:226:5
 loop-again : tie.Need-loop-again Inv-loop μ-loop
-loop-again c = ?
+loop-again c = let k = c .before .before .before .before .before in let v = c .before .before .before .before .loop in
+    let p = k .args .program .now in let w = k .args .work .now in
+    let s = stands p w (k .pre .0) (v .j) (search needs) in
+    let e : c .if1 .b ≡ byteAfter (v .b) (nth p (v .j)) =
+      ⊎-elim {C = c .if1 .b ≡ byteAfter (v .b) (nth p (v .j))} (λ u. at-rack p w (v .j) s (v .b) (c .if1 .b) (u .0 .taken) (u .2)) (λ u. at-other p w (v .j) s (v .b) (c .if1 .b) (u .0 .left) (u .1)) (c .if1 .came) in
+    (
+      omega (arith, c .before .before .before .loop-test .taken),
+      omega (arith, v .inv .1),
+      v .inv .2 ∙ rack-next (v .b) (recordsOf p) (v .j) (k .args .n) (c .before .before .before .loop-test .taken) (omega (arith, k .pre .2, work-length p w (k .pre .0)))
+      ∙ ap (λ (b : ℕ). rackByte b (take (k .args .n - (v .j + 1)) (drop (v .j + 1) (recordsOf p)))) (sym e),
+    )
 
--- src/lib.rt:220:1
 returns : tie.Need-returns Inv-loop μ-loop
-returns c = ?
+returns c = let k = c .before .before in let v = c .before .loop in
+    sym (v .inv .2 ∙ rack-end (v .b) (recordsOf (k .args .program .now)) (v .j) (k .args .n) (c .loop-test .left))
 
 pub racking-after-spec : {M : Type 1} → statement M
 racking-after-spec =

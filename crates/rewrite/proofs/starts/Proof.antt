@@ -1,62 +1,70 @@
+-- A walk along the records, one start each. Assumes nothing.
+use Prim.Native.Nat.{ℕ, _+_, _-_, _*_, _/_, _≤_, _<_}
+use native.Mathlib.Omega.{arith}
+use mathlib.Core.Path.{_≡_, refl, sym, ap, subst, _∙_}
+use lib.ListN.{length, take, drop, length-set}
+use Rattle.record.specs.Format.{sizeOf}
+use Rattle.rewrite.specs.Programs.{recordsOf, startsOf}
+use Rattle.rewrite.proofs.Laying.{Upto, few-starts, not-yet, all-written, next-size, upto-next, starts-next, upto-none, past-next, starts-all}
+use borrow.Author.Needs.{needs}
 use Rattle.rewrite.proofs.starts.Statement.{statement}
 use Rattle.rewrite.proofs.starts.Tie as tie
-use Rattle.rewrite.proofs.starts.Reads as reads
-use Rattle.rewrite.proofs.starts.Lts as lts
-use Rattle.record.proofs.size_of.Reads as size-of-reads
 
 abbrev Inv-loop : tie.InvT-loop
-Inv-loop program work₀ n₀ at₀ work n at = ?
+Inv-loop program work₀ n₀ at₀ work n at =
+    (Upto program n at) × (length work ≡ length work₀) × (take n work ≡ take n (startsOf 0 (recordsOf program))) × (drop n work ≡ drop n work₀)
 
 abbrev μ-loop : tie.MeasureT-loop
-μ-loop program work₀ n₀ at₀ work n at = ?
+μ-loop program work₀ n₀ at₀ work n at = length program + 6 - at
 
--- src/lib.rt:211:5
 loop-holds : tie.Need-loop-holds Inv-loop μ-loop
-loop-holds c = ?
+loop-holds c = (upto-none _, refl, refl, refl)
 
--- src/lib.rt:212:19
 cast-work : tie.Need-cast-work Inv-loop μ-loop
-cast-work c = ?
+cast-work c = let k = c .before .before .before .before in omega (arith, c .loop-test .taken, k .pre .0 .short)
 
--- src/lib.rt:212:9
 mul-work : tie.Need-mul-work Inv-loop μ-loop
-mul-work c = ?
+mul-work c = let k = c .before .before .before .before in let v = c .before .loop in
+    omega (arith, not-yet (k .args .program .now) (k .pre .0) (v .n) (v .at) (v .inv .0) (c .loop-test .taken), few-starts (k .args .program .now) (k .pre .0) (v .n) (v .at) (v .inv .0), k .pre .0 .short)
 
--- src/lib.rt:212:9
 slice-write-work : tie.Need-slice-write-work Inv-loop μ-loop
-slice-write-work c = ?
+slice-write-work c = let k = c .before .before .before .before in let v = c .before .loop in
+    omega (arith, not-yet (k .args .program .now) (k .pre .0) (v .n) (v .at) (v .inv .0) (c .loop-test .taken), few-starts (k .args .program .now) (k .pre .0) (v .n) (v .at) (v .inv .0), k .pre .1, v .inv .1)
 
--- src/lib.rt:213:9
 add-n : tie.Need-add-n Inv-loop μ-loop
-add-n c = ?
+add-n c = let k = c .before .before .before .before in let v = c .before .loop in
+    omega (arith, not-yet (k .args .program .now) (k .pre .0) (v .n) (v .at) (v .inv .0) (c .loop-test .taken), few-starts (k .args .program .now) (k .pre .0) (v .n) (v .at) (v .inv .0), k .pre .0 .short)
 
--- src/lib.rt:214:31
 shared-slice-read-size-of : tie.Need-shared-slice-read-size-of Inv-loop μ-loop
-shared-slice-read-size-of c = ?
+shared-slice-read-size-of c = search needs
 
--- src/lib.rt:214:15
 size-of-requires : tie.Need-size-of-requires Inv-loop μ-loop
-size-of-requires c κs = ?
+size-of-requires c κs = search needs
 
--- src/lib.rt:214:9
 add-at : tie.Need-add-at Inv-loop μ-loop
-add-at c = ?
+add-at c = let k = c .before .before .before .before .before .before in let v = c .before .before .before .loop in
+    omega (arith, c .size-of .ensures, next-size (k .args .program .now) (k .pre .0) (v .n) (v .at) (v .inv .0) (c .before .before .loop-test .taken) .1, k .pre .0 .short, c .before .before .loop-test .taken)
 
--- src/lib.rt:211:5
 loop-less : tie.Need-loop-less Inv-loop μ-loop
-loop-less c = ?
+loop-less c = let k = c .before .before .before .before .before .before in let v = c .before .before .before .loop in
+    omega (arith, c .size-of .ensures, next-size (k .args .program .now) (k .pre .0) (v .n) (v .at) (v .inv .0) (c .before .before .loop-test .taken) .0, c .before .before .loop-test .taken)
 
--- src/lib.rt:211:5
 loop-again : tie.Need-loop-again Inv-loop μ-loop
-loop-again c = ?
+loop-again c = let k = c .before .before .before .before .before .before in let v = c .before .before .before .loop in let p = k .args .program .now in let i = c .before .before .loop-test .taken in
+    (
+      subst (λ (z : ℕ). Upto p (v .n + 1) (v .at + z)) (sym (c .size-of .ensures)) (upto-next p (k .pre .0) (v .n) (v .at) (v .inv .0) i),
+      length-set (v .work) (v .n) (v .at) ∙ v .inv .1,
+      starts-next p (k .pre .0) (v .n) (v .at) (v .inv .0) i (v .work) (omega (arith, not-yet p (k .pre .0) (v .n) (v .at) (v .inv .0) i, few-starts p (k .pre .0) (v .n) (v .at) (v .inv .0), k .pre .1, v .inv .1)) (v .inv .2),
+      past-next (v .work) (k .args .work .now) (v .n) (v .at) (v .inv .3),
+    )
 
--- src/lib.rt:205:1
 same-length : tie.Need-same-length Inv-loop μ-loop
-same-length c = ?
+same-length c = c .before .loop .inv .1
 
--- src/lib.rt:205:1
 returns : tie.Need-returns Inv-loop μ-loop
-returns c = ?
+returns c = let k = c .before .before .before .before in let v = c .before .loop in let p = k .args .program .now in
+    let e = all-written p (k .pre .0) (v .n) (v .at) (v .inv .0) (c .loop-test .left) in
+    (e, starts-all p (v .work) (k .args .work .now) (v .n) e (v .inv .2) (v .inv .3))
 
 pub starts-spec : {M : Type 1} → statement M
 starts-spec =

@@ -1,0 +1,183 @@
+-- A program laid in the lent areas: where its records start, and what stands there. Assumes nothing.
+use Prim.Native.Nat.{ℕ, zero, suc, _+_, _-_, _*_, _/_, _≤_, _<_}
+use mathlib.Core.Path.{_≡_, refl, sym, ap, subst, _∙_}
+use mathlib.Core.Bool.{true}
+use mathlib.Core.List.{List, [], _∷_, _++_, append-nil, append-assoc}
+use native.Mathlib.Omega.{arith}
+use native.Mathlib.Numerals.{add-one}
+use lib.ListN.{length, take, drop, getD, set, length-append, length-drop, length-set, take-append-drop, List·getD-append}
+use lib.Seq.{length-take-le, take-length, take-suc, take-suc-set, take-at, drop-at, drop-drop, drop-set-lt, split-at, getD-at, getD-drop, set-at}
+use Rattle.run.proofs.Premises.{is}
+use Rattle.record.specs.Format.{byte, sizeOf}
+use Rattle.rewrite.specs.Programs.{flat, recordsOf, startsOf}
+use Rattle.rewrite.specs.Laid.{whole, Whole, Sound, Laid, exchanged, part}
+use Rattle.rewrite.proofs.Records.{Sized, whole-size, whole-length, records-flat}
+
+-- ---- lists of records
+pub flat-append : (u v : List (List ℕ)) → flat (u ++ v) ≡ flat u ++ flat v
+flat-append [] v = refl
+flat-append (x ∷ u) v = ap (λ (q : List ℕ). x ++ q) (flat-append u v) ∙ sym (append-assoc x (flat u) (flat v))
+
+pub starts-length : (at : ℕ) (l : List (List ℕ)) → length (startsOf at l) ≡ length l
+unfolding startsOf
+starts-length at [] = refl
+starts-length at (x ∷ l) = ap suc (starts-length (at + length x) l)
+
+starts-append : (at : ℕ) (u v : List (List ℕ)) → startsOf at (u ++ v) ≡ startsOf at u ++ startsOf (at + length (flat u)) v
+unfolding startsOf
+starts-append at [] v = let e : at ≡ at + 0 = omega arith in ap (λ (n : ℕ). startsOf n v) e
+starts-append at (x ∷ u) v =
+    let e : at + length x + length (flat u) ≡ at + length (x ++ flat u) = omega (arith, length-append x (flat u)) in
+    ap (λ (q : List ℕ). at ∷ q) (starts-append (at + length x) u v ∙ ap (λ (n : ℕ). startsOf (at + length x) u ++ startsOf n v) e)
+
+whole-part : (u v : List (List ℕ)) → Whole (u ++ v) → Whole u × Whole v
+whole-part [] v w = (tt, w)
+whole-part (x ∷ u) v (a, w) = let (b, c) = whole-part u v w in ((a, b), c)
+
+-- ---- a record x between others
+module _ (u : List (List ℕ)) (x : List ℕ) (v : List (List ℕ)) where
+  start-between : getD (startsOf 0 (u ++ x ∷ v)) (length u) 0 ≡ length (flat u)
+  unfolding startsOf
+  start-between =
+      ap (λ (l : List ℕ). getD l (length u) 0) (starts-append 0 u (x ∷ v))
+      ∙ getD-at (startsOf 0 u) (0 + length (flat u)) (startsOf (0 + length (flat u) + length x) v) 0 (length u) (starts-length 0 u)
+      ∙ omega arith
+
+  bytes-between : drop (length (flat u)) (flat (u ++ x ∷ v)) ≡ x ++ flat v
+  bytes-between = ap (drop (length (flat u))) (flat-append u (x ∷ v)) ∙ drop-at (flat u) (x ++ flat v) (length (flat u)) refl
+
+  length-between : length (flat (u ++ x ∷ v)) ≡ length (flat u) + (length x + length (flat v))
+  length-between = ap length (flat-append u (x ∷ v)) ∙ omega (arith, length-append (flat u) (x ++ flat v), length-append x (flat v))
+
+-- record j of a program
+abbrev pub nth : List ℕ → ℕ → List ℕ
+nth p j = getD (recordsOf p) j []
+
+pub record Stands (p w : List ℕ) (j : ℕ) : Type 0 where
+  pub start : getD w j 0 ≡ length (flat (take j (recordsOf p)))
+  pub is-whole : whole (nth p j) ≡ true
+  pub sized : Sized (nth p j)
+  pub ends : getD w j 0 + length (nth p j) ≤ length p
+  pub bytes : drop (getD w j 0) p ≡ nth p j ++ flat (drop (suc j) (recordsOf p))
+
+module _ (p w : List ℕ) (laid : Laid p w) where
+  abbrev l : List (List ℕ)
+  l = recordsOf p
+
+  pub work-length : length w ≡ length l
+  work-length = ap length (laid .starts) ∙ starts-length 0 l
+
+  pub few : length l * 2 ≤ length p
+  few = subst (λ (q : List ℕ). length l * 2 ≤ length q) (records-flat p) (whole-length l (laid .sound .whole))
+
+  pub stands : (j : ℕ) → j < length w → Stands p w j
+  stands j h =
+      let i : j < length l = omega (arith, work-length) in
+      let u = take j l in let x = nth p j in let v = drop (suc j) l in
+      let cut : l ≡ u ++ x ∷ v = split-at l j [] i in
+      let n : length u ≡ j = length-take-le j l (omega arith) in
+      let s : getD w j 0 ≡ length (flat u) =
+        ap (λ (q : List ℕ). getD q j 0) (laid .starts) ∙ (λ k. getD (startsOf 0 (cut k)) (sym n k) 0) ∙ start-between u x v in
+      let e : whole x ≡ true = whole-part u (x ∷ v) (subst Whole cut (laid .sound .whole)) .1 .0 in
+      let whole-p : p ≡ flat (u ++ x ∷ v) = sym (records-flat p) ∙ ap flat cut in
+      record {
+        start = s;
+        is-whole = e;
+        sized = whole-size x e;
+        ends = omega (arith, ap length whole-p, length-between u x v, s);
+        bytes = (λ k. drop (s k) (whole-p k)) ∙ bytes-between u x v;
+      }
+
+-- what stands at a start
+module _ (p w : List ℕ) (j : ℕ) (s : Stands p w j) where
+  pub byte-at : (k : ℕ) → k < length (nth p j) → getD p (getD w j 0 + k) 0 ≡ byte (nth p j) k
+  byte-at k h = sym (getD-drop (getD w j 0) p k 0) ∙ ap (λ (q : List ℕ). getD q k 0) (s .bytes) ∙ List·getD-append (nth p j) (flat (drop (suc j) (recordsOf p))) 0 k h
+
+  pub kind-at : getD p (getD w j 0) 0 ≡ byte (nth p j) 0
+  kind-at = let e : getD w j 0 ≡ getD w j 0 + 0 = omega arith in ap (λ (n : ℕ). getD p n 0) e ∙ byte-at 0 (omega (arith, s .sized .least))
+
+  pub part-at : (b : ℕ) → b ≡ getD w j 0 + length (nth p j) → part p (getD w j 0) b ≡ nth p j
+  part-at b e =
+      let n : b - getD w j 0 ≡ length (nth p j) = omega arith in
+      (λ k. take (n k) (s .bytes k)) ∙ take-at (nth p j) (flat (drop (suc j) (recordsOf p))) (length (nth p j)) refl
+
+-- ---- the starts, written one after another: n are written, and the next record starts at `at`
+pub record Upto (p : List ℕ) (n at : ℕ) : Type 0 where
+  pub some : n ≤ length (recordsOf p)
+  pub place : at ≡ length (flat (take n (recordsOf p)))
+
+module _ (p : List ℕ) (sound : Sound p) (n at : ℕ) (h : Upto p n at) where
+  -- the program itself, with its starts as the work area
+  abbrev own : List ℕ
+  own = startsOf 0 (recordsOf p)
+
+  own-laid : Laid p own
+  own-laid = record { sound = sound; starts = refl }
+
+  pub few-starts : length (recordsOf p) * 2 ≤ length p
+  few-starts = few p own own-laid
+
+  more : n < length (recordsOf p) → Stands p own n
+  more i = stands p own own-laid n (omega (arith, starts-length 0 (recordsOf p)))
+
+  is-start : n < length (recordsOf p) → getD own n 0 ≡ at
+  is-start i = more i .start ∙ sym (h .place)
+
+  -- the end is reached exactly after the last record
+  pub not-yet : at < length p → n < length (recordsOf p)
+  not-yet i =
+      is n (length (recordsOf p))
+      (λ e. absurd (omega (arith, h .place, all-taken e, i)))
+      (λ d. omega (arith, h .some))
+    where
+      all-taken : n ≡ length (recordsOf p) → length (flat (take n (recordsOf p))) ≡ length p
+      all-taken e = ap (λ (m : ℕ). length (flat (take m (recordsOf p)))) e ∙ ap (λ (l : List (List ℕ)). length (flat l)) (take-length (recordsOf p)) ∙ ap length (records-flat p)
+
+  pub all-written : length p ≤ at → n ≡ length (recordsOf p)
+  all-written i =
+      is n (length (recordsOf p)) (λ e. e)
+      (λ d. let s = more (omega (arith, h .some)) in absurd (omega (arith, s .ends, s .sized .least, is-start (omega (arith, h .some)))))
+
+  -- one start more
+  module _ (i : at < length p) where
+    pub kind-next : sizeOf (getD p at 0) ≡ length (nth p n)
+    kind-next =
+        let s = more (not-yet i) in
+        ap sizeOf (ap (λ (a : ℕ). getD p a 0) (sym (is-start (not-yet i))) ∙ kind-at p own n s) ∙ sym (s .sized .kind)
+
+    pub next-size : (2 ≤ sizeOf (getD p at 0)) × (sizeOf (getD p at 0) ≤ 6)
+    next-size = let s = more (not-yet i) in (omega (arith, kind-next, s .sized .least), omega (arith, kind-next, s .sized .most))
+
+    pub upto-next : Upto p (n + 1) (at + sizeOf (getD p at 0))
+    upto-next =
+        let l = recordsOf p in
+        let k = not-yet i in
+        let e : take (n + 1) l ≡ take n l ++ nth p n ∷ [] = ap (λ (m : ℕ). take m l) (add-one n) ∙ take-suc l n [] k in
+        let f : length (flat (take (n + 1) l)) ≡ length (flat (take n l)) + length (nth p n) =
+          ap (λ (m : List (List ℕ)). length (flat m)) e ∙ length-between (take n l) (nth p n) [] ∙ omega arith in
+        record { some = omega arith; place = omega (arith, f, h .place, kind-next) }
+
+    -- the work area with it
+    pub starts-next : (w : List ℕ) → n < length w → take n w ≡ take n own → take (n + 1) (set w n at) ≡ take (n + 1) own
+    starts-next w j e =
+        let k = not-yet i in
+        ap (λ (m : ℕ). take m (set w n at)) (add-one n) ∙ take-suc-set w n at j
+        ∙ (λ q. e q ++ sym (is-start k) q ∷ [])
+        ∙ sym (take-suc own n 0 (omega (arith, starts-length 0 (recordsOf p))))
+        ∙ ap (λ (m : ℕ). take m own) (sym (add-one n))
+
+-- none are written at first
+pub upto-none : (p : List ℕ) → Upto p 0 0
+upto-none p = record { some = omega arith; place = refl }
+
+-- what is past them stays
+pub past-next : (w w₀ : List ℕ) (n a : ℕ) → drop n w ≡ drop n w₀ → drop (n + 1) (set w n a) ≡ drop (n + 1) w₀
+past-next w w₀ n a h = drop-set-lt (n + 1) w n a (omega arith) ∙ sym (drop-drop 1 n w) ∙ ap (drop 1) h ∙ drop-drop 1 n w₀
+
+-- all of them, and the rest of the work area
+pub starts-all : (p w w₀ : List ℕ) (n : ℕ) → n ≡ length (recordsOf p) → take n w ≡ take n (startsOf 0 (recordsOf p)) → drop n w ≡ drop n w₀
+    → w ≡ startsOf 0 (recordsOf p) ++ drop n w₀
+starts-all p w w₀ n e t d =
+    let own = startsOf 0 (recordsOf p) in
+    sym (take-append-drop n w) ∙ (λ i. t i ++ d i)
+    ∙ ap (λ (q : List ℕ). q ++ drop n w₀) (ap (λ (m : ℕ). take m own) (e ∙ sym (starts-length 0 (recordsOf p))) ∙ take-length own)

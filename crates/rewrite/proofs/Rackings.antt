@@ -1,0 +1,81 @@
+-- The racking in force, as the byte that a rack gave it: along the records, at every 64th, and after a swap. Assumes nothing.
+use Prim.Native.Nat.{ℕ, zero, suc, _+_, _-_, _*_, _≤_, _<_}
+use mathlib.Core.Path.{_≡_, refl, sym, ap, subst, _∙_}
+use mathlib.Core.Bool.{Bool, true, false, cond}
+use mathlib.Core.List.{List, [], _∷_, _++_}
+use native.Mathlib.Omega.{arith}
+use native.Mathlib.Numerals.{add-one}
+use lib.Dec.{eqb}
+use lib.ListN.{length, take, drop, getD}
+use lib.Seq.{drop-cons, take-add}
+use borrow.Author.Tests.{ne-eqb}
+use Rattle.machine.specs.declared.Racking.{Racking}
+use Rattle.record.specs.declared.Record.{Record}
+use Rattle.record.specs.Format.{Encodes, byte, signedOf}
+use Rattle.trace.specs.Order.{inForce}
+use Rattle.rewrite.specs.Extents.{isRack, rackingAfter}
+use Rattle.rewrite.specs.Programs.{recordsOf, what, knitting}
+use Rattle.rewrite.specs.Rewrite.{noRacking}
+use Rattle.rewrite.specs.Laid.{whole, Whole, rackByte}
+use Rattle.rewrite.proofs.Records.{whole-form}
+
+-- ---- along the records
+rack-append : (b : ℕ) (u v : List (List ℕ)) → rackByte b (u ++ v) ≡ rackByte (rackByte b u) v
+unfolding rackByte
+rack-append b [] v = refl
+rack-append b (x ∷ u) v = rack-append (cond (eqb (byte x 0) 1) (byte x 1) b) u v
+
+-- the byte after one record more
+abbrev pub byteAfter : ℕ → List ℕ → ℕ
+byteAfter b x = cond (eqb (byte x 0) 1) (byte x 1) b
+
+pub rack-next : (b : ℕ) (l : List (List ℕ)) (j n : ℕ) → j < n → n ≤ length l
+    → rackByte b (take (n - j) (drop j l)) ≡ rackByte (byteAfter b (getD l j [])) (take (n - (j + 1)) (drop (j + 1) l))
+unfolding rackByte
+rack-next b l j n h i =
+    let e : n - j ≡ suc (n - (j + 1)) = omega arith in
+    (λ k. rackByte b (take (e k) (drop-cons l j [] (omega arith) k)))
+    ∙ ap (λ (m : ℕ). rackByte (byteAfter b (getD l j [])) (take (n - (j + 1)) (drop m l))) (sym (add-one j))
+
+pub rack-end : (b : ℕ) (l : List (List ℕ)) (j n : ℕ) → n ≤ j → rackByte b (take (n - j) (drop j l)) ≡ b
+unfolding rackByte
+rack-end b l j n h = let e : n - j ≡ 0 = omega arith in ap (λ (m : ℕ). rackByte b (take m (drop j l))) e
+
+-- on from record j, where it is known
+pub rack-on : (l : List (List ℕ)) (j i : ℕ) → j ≤ i → rackByte (rackByte 0 (take j l)) (take (i - j) (drop j l)) ≡ rackByte 0 (take i l)
+rack-on l j i h =
+    let e : j + (i - j) ≡ i = omega arith in
+    sym (rack-append 0 (take j l) (take (i - j) (drop j l))) ∙ sym (ap (rackByte 0) (take-add j (i - j) l)) ∙ ap (λ (m : ℕ). rackByte 0 (take m l)) e
+
+-- ---- the byte is the racking
+abbrev pub racked : ℕ → Racking
+racked b = record { 0 = signedOf b }
+
+form-rack : {x : List ℕ} {y : Record} → Encodes x y → (b : ℕ) → rackingAfter (racked b) y ≡ racked (byteAfter b x)
+form-rack (Encodes.rack h) b = refl
+form-rack (Encodes.drop h i) b = refl
+form-rack (Encodes.xfer h i j) b = refl
+form-rack (Encodes.work {kind = k} a c d e f g h) b = let n = ne-eqb k 1 (λ q. omega arith) in simp n
+form-rack (Encodes.split c d e f g h) b = refl
+
+form-kind : {x : List ℕ} {y : Record} → Encodes x y → eqb (byte x 0) 1 ≡ isRack y
+form-kind (Encodes.rack h) = refl
+form-kind (Encodes.drop h i) = refl
+form-kind (Encodes.xfer h i j) = refl
+form-kind (Encodes.work a c d e f g h) = refl
+form-kind (Encodes.split c d e f g h) = refl
+
+in-force : (b : ℕ) (u : List (List ℕ)) → Whole u → inForce knitting (racked b) u ≡ racked (rackByte b u)
+unfolding rackByte
+in-force b [] w = refl
+in-force b (x ∷ u) (w, v) = ap (λ (r : Racking). inForce knitting r u) (form-rack (whole-form x w) b) ∙ in-force (byteAfter b x) u v
+
+no-rack : noRacking ≡ racked 0
+unfolding signedOf
+no-rack = refl
+
+pub force-is : (u : List (List ℕ)) → Whole u → inForce knitting noRacking u ≡ racked (rackByte 0 u)
+force-is u w = ap (λ (r : Racking). inForce knitting r u) no-rack ∙ in-force 0 u w
+
+pub kind-is : (x : List ℕ) → whole x ≡ true → eqb (byte x 0) 1 ≡ isRack (what x)
+kind-is x w = form-kind (whole-form x w)
