@@ -23,14 +23,14 @@ unfolding startsOf
 starts-length at [] = refl
 starts-length at (x ∷ l) = ap suc (starts-length (at + length x) l)
 
-starts-append : (at : ℕ) (u v : List (List ℕ)) → startsOf at (u ++ v) ≡ startsOf at u ++ startsOf (at + length (flat u)) v
+pub starts-append : (at : ℕ) (u v : List (List ℕ)) → startsOf at (u ++ v) ≡ startsOf at u ++ startsOf (at + length (flat u)) v
 unfolding startsOf
 starts-append at [] v = let e : at ≡ at + 0 = omega arith in ap (λ (n : ℕ). startsOf n v) e
 starts-append at (x ∷ u) v =
     let e : at + length x + length (flat u) ≡ at + length (x ++ flat u) = omega (arith, length-append x (flat u)) in
     ap (λ (q : List ℕ). at ∷ q) (starts-append (at + length x) u v ∙ ap (λ (n : ℕ). startsOf (at + length x) u ++ startsOf n v) e)
 
-whole-part : (u v : List (List ℕ)) → Whole (u ++ v) → Whole u × Whole v
+pub whole-part : (u v : List (List ℕ)) → Whole (u ++ v) → Whole u × Whole v
 whole-part [] v w = (tt, w)
 whole-part (x ∷ u) v (a, w) = let (b, c) = whole-part u v w in ((a, b), c)
 

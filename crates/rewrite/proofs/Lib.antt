@@ -15,3 +15,4 @@ pub mod Extents
 pub mod Rotations
 pub mod Laying
 pub mod Rackings
+pub mod Pairs

@@ -6,17 +6,18 @@ use mathlib.Core.List.{List, [], _∷_, _++_}
 use native.Mathlib.Omega.{arith}
 use native.Mathlib.Numerals.{add-one}
 use lib.Dec.{eqb}
-use lib.ListN.{length, take, drop, getD}
-use lib.Seq.{drop-cons, take-add}
+use lib.ListN.{length, take, drop, getD, set, length-set}
+use lib.Seq.{drop-cons, take-add, getD-set-same, getD-set-other}
 use borrow.Author.Tests.{ne-eqb}
 use Rattle.machine.specs.declared.Racking.{Racking}
 use Rattle.record.specs.declared.Record.{Record}
 use Rattle.record.specs.Format.{Encodes, byte, signedOf}
+use Rattle.run.proofs.Premises.{is}
 use Rattle.trace.specs.Order.{inForce}
 use Rattle.rewrite.specs.Extents.{isRack, rackingAfter}
 use Rattle.rewrite.specs.Programs.{recordsOf, what, knitting}
 use Rattle.rewrite.specs.Rewrite.{noRacking}
-use Rattle.rewrite.specs.Laid.{whole, Whole, rackByte}
+use Rattle.rewrite.specs.Laid.{whole, Whole, rackByte, Marked}
 use Rattle.rewrite.proofs.Records.{whole-form}
 
 -- ---- along the records
@@ -40,6 +41,10 @@ rack-next b l j n h i =
 pub rack-end : (b : ℕ) (l : List (List ℕ)) (j n : ℕ) → n ≤ j → rackByte b (take (n - j) (drop j l)) ≡ b
 unfolding rackByte
 rack-end b l j n h = let e : n - j ≡ 0 = omega arith in ap (λ (m : ℕ). rackByte b (take m (drop j l))) e
+
+pub rack-none : (l : List (List ℕ)) → 0 ≡ rackByte 0 (take 0 l)
+unfolding rackByte
+rack-none l = refl
 
 -- on from record j, where it is known
 pub rack-on : (l : List (List ℕ)) (j i : ℕ) → j ≤ i → rackByte (rackByte 0 (take j l)) (take (i - j) (drop j l)) ≡ rackByte 0 (take i l)
@@ -79,3 +84,23 @@ force-is u w = ap (λ (r : Racking). inForce knitting r u) no-rack ∙ in-force 
 
 pub kind-is : (x : List ℕ) → whole x ≡ true → eqb (byte x 0) 1 ≡ isRack (what x)
 kind-is x w = form-kind (whole-form x w)
+
+-- ---- at every 64th record
+pub record MarkedUpto (p table : List ℕ) (j : ℕ) : Type 0 where
+  pub long : length table ≡ 256
+  pub marks : (k : ℕ) → k < j → getD table k 0 ≡ rackByte 0 (take (k * 64) (recordsOf p))
+
+pub none-marked : (p table : List ℕ) → length table ≡ 256 → MarkedUpto p table 0
+none-marked p table h = record { long = h; marks = λ k i. absurd (omega arith) }
+
+pub one-more : (p table : List ℕ) (j b : ℕ) → MarkedUpto p table j → j < 256 → b ≡ rackByte 0 (take (j * 64) (recordsOf p)) → MarkedUpto p (set table j b) (j + 1)
+one-more p table j b m h e =
+    record {
+      long = length-set table j b ∙ m .long;
+      marks = λ k i. is k j
+        (λ q. ap (λ (n : ℕ). getD (set table j b) n 0) q ∙ getD-set-same table j b 0 (omega (arith, m .long)) ∙ e ∙ ap (λ (n : ℕ). rackByte 0 (take (n * 64) (recordsOf p))) (sym q))
+        (λ d. getD-set-other table j k b 0 d ∙ m .marks k (omega arith));
+    }
+
+pub all-marked : (p table : List ℕ) (j : ℕ) → MarkedUpto p table j → length (recordsOf p) ≤ j * 64 → Marked p table
+all-marked p table j m h = record { long = m .long; marks = λ k i. m .marks k (omega arith) }

@@ -1,37 +1,39 @@
+-- On from the last mark. Assumes nothing.
+use Prim.Native.Nat.{ℕ, _*_, _/_, _-_, _≤_, _<_}
+use native.Mathlib.Omega.{arith}
+use mathlib.Core.Path.{_≡_, sym, ap, _∙_}
+use lib.ListN.{length, take, drop}
+use lib.IntN.{ℤ}
+use mir.Syntax.{w8}
+use Rattle.machine.proofs.Signed.{back}
+use Rattle.rewrite.specs.Programs.{recordsOf}
+use Rattle.rewrite.specs.Laid.{rackByte}
+use Rattle.rewrite.proofs.Laying.{work-length, few}
+use Rattle.rewrite.proofs.Rackings.{racked, rack-on}
 use borrow.Author.Needs.{needs}
 use Rattle.rewrite.proofs.racking_at.Statement.{statement}
 use Rattle.rewrite.proofs.racking_at.Tie as tie
-use Rattle.rewrite.proofs.racking_at.Reads as reads
-use Rattle.rewrite.proofs.racking_at.Lts as lts
-use Rattle.record.proofs.signed.Reads as signed-reads
-use Rattle.rewrite.proofs.racking_after.Reads as racking-after-reads
 
--- src/lib.rt:262:42
 mul-racking-after : tie.Need-mul-racking-after
 mul-racking-after c = search needs
 
--- src/lib.rt:262:57
 shared-slice-read-racking-after : tie.Need-shared-slice-read-racking-after
-shared-slice-read-racking-after c = ?
+shared-slice-read-racking-after c = let k = c .before .before .before .before in let p = k .args .program .now in let w = k .args .work .now in
+    omega (arith, k .pre .1 .long, k .pre .2, work-length p w (k .pre .0), few p w (k .pre .0), k .pre .0 .sound .short)
 
--- src/lib.rt:262:9
 racking-after-requires : tie.Need-racking-after-requires
 racking-after-requires c κs = search needs
 
--- src/lib.rt:263:13
 signed-requires : tie.Need-signed-requires
 signed-requires c κs = search needs
 
--- src/lib.rt:257:1
 returns : tie.Need-returns
-returns c = ?
+returns c = let k = c .before .before .before .before .before .before in let p = k .args .program .now in let w = k .args .work .now in let i = k .args .i in
+    let low : i / 64 * 64 ≤ i = omega arith in
+    ap (λ (z : ℤ). record { 0 = z }) (back w8 (c .signed .result) (c .signed .ok) ∙ c .signed .ensures)
+    ∙ (ap racked (c .before .racking-after .ensures
+    ∙ ap (λ (b : ℕ). rackByte b (take (i - i / 64 * 64) (drop (i / 64 * 64) (recordsOf p)))) (k .pre .1 .marks (i / 64) (omega (arith, k .pre .2, work-length p w (k .pre .0))))
+    ∙ rack-on (recordsOf p) (i / 64 * 64) i low))
 
 pub racking-at-spec : {M : Type 1} → statement M
-racking-at-spec =
-    tie.close
-    (tie.spec
-    mul-racking-after
-    shared-slice-read-racking-after
-    racking-after-requires
-    signed-requires
-    returns)
+racking-at-spec = tie.close (tie.spec mul-racking-after shared-slice-read-racking-after racking-after-requires signed-requires returns)

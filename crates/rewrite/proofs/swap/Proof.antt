@@ -1,120 +1,141 @@
+-- Two neighbours looked at, and exchanged or left. Assumes nothing.
+use Prim.Native.Nat.{ℕ, _+_, _-_, _≤_, _<_}
+use native.Mathlib.Omega.{arith}
+use mathlib.Core.Path.{_≡_, refl, sym, ap, _∙_}
+use mathlib.Core.List.{List}
+use lib.ListN.{length, take, getD, length-set}
+use Rattle.trace.specs.Swaps.{Outcome, no-pair, is-tied, made}
+use Rattle.rewrite.specs.Programs.{flat, recordsOf, startsOf}
+use Rattle.rewrite.specs.Rewrite.{swapOf}
+use Rattle.rewrite.specs.Laid.{Laid, swapNo, leftBy, exchanged}
+use Rattle.rewrite.proofs.Records.{records-flat}
+use Rattle.rewrite.proofs.Laying.{work-length, few}
+use Rattle.rewrite.proofs.Pairs.{second, exchangedPair, second-size, Placed, placed, first-part, second-part, pair-bytes, pair-starts, pair-tied, pair-made, pair-none}
 use borrow.Author.Needs.{needs}
 use Rattle.rewrite.proofs.swap.Statement.{statement}
 use Rattle.rewrite.proofs.swap.Tie as tie
-use Rattle.rewrite.proofs.swap.Reads as reads
-use Rattle.rewrite.proofs.swap.Lts as lts
-use Rattle.record.proofs.size_of.Reads as size-of-reads
-use Rattle.rewrite.proofs.exchange.Reads as exchange-reads
-use Rattle.rewrite.proofs.racking_at.Reads as racking-at-reads
-use Rattle.rewrite.proofs.tied_at.Reads as tied-at-reads
 
--- src/lib.rt:273:22
+-- what is answered and left, by the outcome
+module _ (p w : List ℕ) (laid : Laid p w) (i : ℕ) where
+  abbrev out : Outcome (List ℕ)
+  out = swapOf i (recordsOf p)
+
+  Left : ℕ → List ℕ → List ℕ → Type 0
+  Left n q v = (n ≡ swapNo out) × ((q ≡ flat (leftBy out (recordsOf p))) × (v ≡ startsOf 0 (leftBy out (recordsOf p))))
+
+  none-left : out ≡ no-pair → Left 12 p w
+  unfolding Left swapNo leftBy
+  none-left e = rw e (refl, (sym (records-flat p), laid .starts))
+
+  tied-left : out ≡ is-tied → Left 13 p w
+  unfolding Left swapNo leftBy
+  tied-left e = rw e (refl, (sym (records-flat p), laid .starts))
+
+  made-left : {m : List (List ℕ)} {q v : List ℕ} → out ≡ made m → q ≡ flat m → v ≡ startsOf 0 m → Left 0 q v
+  unfolding Left swapNo leftBy
+  made-left e a b = rw e (refl, (a, b))
+
 add-if1 : tie.Need-add-if1
 add-if1 c = search needs
 
--- src/lib.rt:274:9
 returns : tie.Need-returns
-returns c = ?
+unfolding Left
+returns c = let k = c .before .before .before .before in let p = k .args .output .now in let w = k .args .work .now in let i = k .args .i in
+    none-left p w (k .pre .0) i (pair-none p w (k .pre .0) i (c .if1 .taken))
 
--- src/lib.rt:276:13
 mul-a : tie.Need-mul-a
 mul-a c = search needs
 
--- src/lib.rt:276:13
 slice-read-a : tie.Need-slice-read-a
 slice-read-a c = search needs
 
--- src/lib.rt:276:13
 cast-a : tie.Need-cast-a
-cast-a c = ?
+cast-a c = let k = c .before .before .before .before .before in let p = k .args .output .now in let w = k .args .work .now in let i = k .args .i in let g = k .pre .0 in let h : i + 1 < length w = omega (arith, c .before .if1 .left) in let q = placed p w g i h in
+    omega (arith, q .first-long, q .second-long, q .ends, g .sound .short)
 
--- src/lib.rt:277:18
 add-b : tie.Need-add-b
 add-b c = search needs
 
--- src/lib.rt:277:13
 mul-b : tie.Need-mul-b
 mul-b c = search needs
 
--- src/lib.rt:277:13
 slice-read-b : tie.Need-slice-read-b
 slice-read-b c = search needs
 
--- src/lib.rt:277:13
 cast-b : tie.Need-cast-b
-cast-b c = ?
+cast-b c = let k = c .before .before .before .before .before .before in let p = k .args .output .now in let w = k .args .work .now in let i = k .args .i in let g = k .pre .0 in let h : i + 1 < length w = omega (arith, c .before .before .if1 .left) in let q = placed p w g i h in
+    omega (arith, q .second-long, q .ends, g .sound .short)
 
--- src/lib.rt:278:33
 slice-read-size-of : tie.Need-slice-read-size-of
-slice-read-size-of c = ?
+slice-read-size-of c = let k = c .before .before .before .before .before .before .before in let p = k .args .output .now in let w = k .args .work .now in let i = k .args .i in let g = k .pre .0 in let h : i + 1 < length w = omega (arith, c .before .before .before .if1 .left) in let q = placed p w g i h in
+    omega (arith, q .second-long, q .ends)
 
--- src/lib.rt:278:17
 size-of-requires : tie.Need-size-of-requires
 size-of-requires c κs = search needs
 
--- src/lib.rt:278:13
 add-e : tie.Need-add-e
-add-e c = ?
+add-e c = let k = c .before .before .before .before .before .before .before .before in let p = k .args .output .now in let w = k .args .work .now in let i = k .args .i in let g = k .pre .0 in let h : i + 1 < length w = omega (arith, c .before .before .before .before .if1 .left) in let q = placed p w g i h in
+    omega (arith, c .size-of .ensures, second-size p w g i h, q .ends, g .sound .short)
 
--- src/lib.rt:279:9
 racking-at-requires : tie.Need-racking-at-requires
-racking-at-requires c κs = ?
+racking-at-requires c κs = let k = c .before .before .before .before .before .before .before .before .before .before in (k .pre .0, k .pre .1, omega (arith, c .before .before .before .before .before .before .if1 .left))
 
--- src/lib.rt:280:8
 tied-at-requires : tie.Need-tied-at-requires
-tied-at-requires c κs = ?
+tied-at-requires c κs = let k = c .before .before .before .before .before .before .before .before .before .before .before .before in let p = k .args .output .now in let w = k .args .work .now in let i = k .args .i in let g = k .pre .0 in let h : i + 1 < length w = omega (arith, c .before .before .before .before .before .before .before .before .if1 .left) in let q = placed p w g i h in let e = c .before .before .before .before .size-of .ensures ∙ second-size p w g i h in
+    (omega (arith, q .first-long), omega (arith, e, q .second-long), omega (arith, e, q .ends))
 
--- src/lib.rt:281:9
 same-length : tie.Need-same-length
 same-length c = search needs
 
--- src/lib.rt:281:9
 same-length-2 : tie.Need-same-length-2
 same-length-2 c = search needs
 
--- src/lib.rt:281:9
 returns-2 : tie.Need-returns-2
-returns-2 c = ?
+unfolding Left
+returns-2 c = let k = c .before .before .before .before .before .before .before .before .before .before .before .before .before .before in let p = k .args .output .now in let w = k .args .work .now in let i = k .args .i in let g = k .pre .0 in let h : i + 1 < length w = omega (arith, c .before .before .before .before .before .before .before .before .before .before .if1 .left) in
+    let b = getD w (i + 1) 0 in
+    let e : b + c .before .before .before .before .before .before .size-of .result ≡ b + length (second p w g i h) = ap (λ (n : ℕ). b + n) (c .before .before .before .before .before .before .size-of .ensures ∙ second-size p w g i h) in
+    tied-left p w g i
+    (pair-tied p w g i h (c .before .before .before .racking-at .result) _ _ (c .before .before .before .racking-at .ensures) (first-part p w g i h _ e) (second-part p w g i h _ e) (sym (c .before .tied-at .ensures) ∙ c .if2 .taken))
 
--- src/lib.rt:283:5
 exchange-requires : tie.Need-exchange-requires
-exchange-requires c κs = ?
+exchange-requires c κs = let k = c .before .before .before .before .before .before .before .before .before .before .before .before .before .before .before in let p = k .args .output .now in let w = k .args .work .now in let i = k .args .i in let g = k .pre .0 in let h : i + 1 < length w = omega (arith, c .before .before .before .before .before .before .before .before .before .before .before .if1 .left) in let q = placed p w g i h in let e = c .before .before .before .before .before .before .before .size-of .ensures ∙ second-size p w g i h in
+    (omega (arith, q .first-long), omega (arith, e, q .second-long), omega (arith, e, q .ends), omega (arith, e, q .short))
 
--- src/lib.rt:284:25
 sub-work : tie.Need-sub-work
 sub-work c = search needs
 
--- src/lib.rt:284:20
 add-work : tie.Need-add-work
-add-work c = ?
+add-work c = let k = c .before .before .before .before .before .before .before .before .before .before .before .before .before .before .before .before .before .before in let p = k .args .output .now in let w = k .args .work .now in let i = k .args .i in let g = k .pre .0 in let h : i + 1 < length w = omega (arith, c .before .before .before .before .before .before .before .before .before .before .before .before .before .before .if1 .left) in let q = placed p w g i h in
+    omega (arith, c .before .before .before .before .before .before .before .before .before .before .size-of .ensures, second-size p w g i h, q .first-long, q .ends, g .sound .short)
 
--- src/lib.rt:284:19
 cast-work : tie.Need-cast-work
-cast-work c = ?
+cast-work c = let k = c .before .before .before .before .before .before .before .before .before .before .before .before .before .before .before .before .before .before in let p = k .args .output .now in let w = k .args .work .now in let i = k .args .i in let g = k .pre .0 in let h : i + 1 < length w = omega (arith, c .before .before .before .before .before .before .before .before .before .before .before .before .before .before .if1 .left) in let q = placed p w g i h in
+    omega (arith, c .before .before .before .before .before .before .before .before .before .before .size-of .ensures, second-size p w g i h, q .first-long, q .ends, g .sound .short)
 
--- src/lib.rt:284:10
 add-work-2 : tie.Need-add-work-2
 add-work-2 c = search needs
 
--- src/lib.rt:284:5
 mul-work : tie.Need-mul-work
 mul-work c = search needs
 
--- src/lib.rt:284:5
 slice-write-work : tie.Need-slice-write-work
 slice-write-work c = search needs
 
--- src/lib.rt:267:1
 same-length-3 : tie.Need-same-length-3
 same-length-3 c = search needs
 
--- src/lib.rt:267:1
 same-length-4 : tie.Need-same-length-4
 same-length-4 c = search needs
 
--- src/lib.rt:267:1
 returns-3 : tie.Need-returns-3
-returns-3 c = ?
+unfolding Left
+returns-3 c = let k = c .before .before .before .before .before .before .before .before .before .before .before .before .before .before .before .before .before .before in let p = k .args .output .now in let w = k .args .work .now in let i = k .args .i in let g = k .pre .0 in let h : i + 1 < length w = omega (arith, c .before .before .before .before .before .before .before .before .before .before .before .before .before .before .if1 .left) in
+    let b = getD w (i + 1) 0 in
+    let e : b + c .before .before .before .before .before .before .before .before .before .before .size-of .result ≡ b + length (second p w g i h) = ap (λ (n : ℕ). b + n) (c .before .before .before .before .before .before .before .before .before .before .size-of .ensures ∙ second-size p w g i h) in
+    made-left p w g i
+    (pair-made p w g i h (c .before .before .before .before .before .before .before .racking-at .result) _ _ (c .before .before .before .before .before .before .before .racking-at .ensures) (first-part p w g i h _ e) (second-part p w g i h _ e) (sym (c .before .before .before .before .before .tied-at .ensures) ∙ c .before .before .before .before .if2 .left))
+    (c .before .before .exchange .ensures ∙ pair-bytes p w g i h _ e) (pair-starts p w g i h _ e)
 
 pub swap-spec : {M : Type 1} → statement M
 swap-spec =
