@@ -16,3 +16,4 @@ pub mod Rotations
 pub mod Laying
 pub mod Rackings
 pub mod Pairs
+pub mod Logs

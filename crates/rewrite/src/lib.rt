@@ -285,6 +285,31 @@ fn swap(output: &mut [u8], work: &mut [u16], table: &[u8], i: usize) -> u8
     0
 }
 
+// A byte in a wider type.
+fn wide(b: u8) -> usize
+    ensures { λ k. ⌜ (k ≡ b) × (k < 256) ⌝ }
+{
+    b as usize
+}
+
+// The position in a log record, high byte first.
+fn position(log: &[u8], at: usize) -> usize
+    requires { ⌜ at + 2 < length (now log) ⌝ }
+    ensures { λ i. ⌜ (i ≡ getD (now (log .entry)) (at + 1) 0 * 256 + getD (now (log .entry)) (at + 2) 0) × (i < 65536) ⌝ }
+{
+    wide(log[at + 1]) * 256 + wide(log[at + 2])
+}
+
+// A log that ends with a number at a place.
+fn ended(number: u8, place: usize) -> Replayed
+    ensures { λ d. ⌜ d ≡ record { number = number; place = place } ⌝ }
+{
+    Replayed {
+        number,
+        place,
+    }
+}
+
 // Makes the swaps of a log in order, up to the first that it refuses.
 fn replay(log: &[u8], output: &mut [u8], work: &mut [u16], table: &[u8]) -> Replayed
     requires { ⌜ (Laid (now output) (now work)) × (Marked (now output) (now table)) ⌝ }
@@ -295,29 +320,17 @@ fn replay(log: &[u8], output: &mut [u8], work: &mut [u16], table: &[u8]) -> Repl
     let mut at: usize = 0;
     while at < log.len() {
         if log.len() - at < SWAP_SIZE {
-            return Replayed {
-                number: TORN_LOG,
-                place: at,
-            };
+            return ended(TORN_LOG, at);
         }
         if log[at] != SWAP {
-            return Replayed {
-                number: TORN_LOG,
-                place: at,
-            };
+            return ended(TORN_LOG, at);
         }
-        let i = (log[at + 1] as usize) * 256 + (log[at + 2] as usize);
+        let i = position(log, at);
         let number = swap(output, work, table, i);
         if number != 0 {
-            return Replayed {
-                number,
-                place: at,
-            };
+            return ended(number, at);
         }
         at += SWAP_SIZE;
     }
-    Replayed {
-        number: 0,
-        place: 0,
-    }
+    ended(0, 0)
 }

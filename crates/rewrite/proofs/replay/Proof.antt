@@ -1,122 +1,141 @@
+-- The log's records in order: each swap from where the last one left the program. Assumes nothing.
+use Prim.Native.Nat.{ℕ, _+_, _-_, _*_, _≤_, _<_}
+use native.Mathlib.Omega.{arith}
+use mathlib.Core.Path.{_≡_, refl, sym, ap, _∙_}
+use mathlib.Core.List.{List}
+use lib.ListN.{length, drop}
+use Rattle.trace.specs.Swaps.{made}
+use Rattle.rewrite.specs.declared.Replayed.{Replayed}
+use Rattle.rewrite.specs.Programs.{flat, recordsOf, startsOf}
+use Rattle.rewrite.specs.Rewrite.{swapOf, Replay, ended, replay}
+use Rattle.rewrite.specs.Laid.{Laid, Marked, swapNo, leftBy}
+use Rattle.rewrite.proofs.Records.{records-flat}
+use Rattle.rewrite.proofs.Logs.{log-end, log-short, log-kind, log-swap, swap-refused, swap-made, records-after, length-after, work-after, laid-after, marked-after}
+use borrow.Author.Needs.{needs}
 use Rattle.rewrite.proofs.replay.Statement.{statement}
 use Rattle.rewrite.proofs.replay.Tie as tie
-use Rattle.rewrite.proofs.replay.Reads as reads
-use Rattle.rewrite.proofs.replay.Lts as lts
-use Rattle.rewrite.proofs.swap.Reads as swap-reads
 
 abbrev Inv-loop : tie.InvT-loop
-Inv-loop log output₀ work₀ table at₀ output work at = ?
+Inv-loop log output₀ work₀ table at₀ output work at =
+    (Laid output work) × (Marked output table) × (replay log 0 (recordsOf output₀) ≡ replay (drop at log) at (recordsOf output)) × (length output ≡ length output₀) × (length work ≡ length work₀) × (at ≤ length log)
 
 abbrev μ-loop : tie.MeasureT-loop
-μ-loop log output₀ work₀ table at₀ output work at = ?
+μ-loop log output₀ work₀ table at₀ output work at = length log - at
 
--- src/lib.rt:296:5
+-- what is answered and left where the log ended
+Left : Replay → Replayed → List ℕ → List ℕ → Type 0
+Left r d q v = ((d .number ≡ r .number) × (d .place ≡ r .place)) × ((q ≡ flat (r .left)) × (v ≡ startsOf 0 (r .left)))
+
+left-as : (r : Replay) (d : Replayed) (n at : ℕ) (l : List (List ℕ)) (q v : List ℕ) → r ≡ ended n at l → d ≡ record { number = n; place = at } → q ≡ flat l → v ≡ startsOf 0 l → Left r d q v
+unfolding Left
+left-as r d n at l q v e f a b = rw (e, f) ((refl, refl), (a, b))
+
+-- a swap that is refused leaves the records
+kept : (p : List ℕ) (i n : ℕ) → n ≡ swapNo (swapOf i (recordsOf p)) → (n ≡ 0 → ⊥) → leftBy (swapOf i (recordsOf p)) (recordsOf p) ≡ recordsOf p
+kept p i n e d = swap-refused (swapOf i (recordsOf p)) 0 n (recordsOf p) (ended 0 0) e d .1
+
 loop-holds : tie.Need-loop-holds Inv-loop μ-loop
-loop-holds c = ?
+loop-holds c = let k = c .before .before .before .before in (k .pre .0, k .pre .1, refl, refl, refl, omega arith)
 
--- src/lib.rt:297:12
 sub-if1 : tie.Need-sub-if1 Inv-loop μ-loop
-sub-if1 c = ?
+sub-if1 c = search needs
 
--- src/lib.rt:298:13
+ended-requires : tie.Need-ended-requires Inv-loop μ-loop
+ended-requires c κs = search needs
+
 same-length : tie.Need-same-length Inv-loop μ-loop
-same-length c = ?
+same-length c = c .before .before .before .loop .inv .3
 
--- src/lib.rt:298:13
 same-length-2 : tie.Need-same-length-2 Inv-loop μ-loop
-same-length-2 c = ?
+same-length-2 c = c .before .before .before .loop .inv .4
 
--- src/lib.rt:298:13
 returns : tie.Need-returns Inv-loop μ-loop
-returns c = ?
+unfolding Left
+returns c = let k = c .before .before .before .before .before .before .before .before in let v = c .before .before .before .loop in
+    left-as _ _ 14 (v .at) (recordsOf (v .output)) (v .output) (v .work)
+    (v .inv .2 ∙ log-short (k .args .log .now) (v .at) (recordsOf (v .output)) (c .before .before .loop-test .taken) (c .before .if1 .taken)) (c .ended .ensures) (sym (records-flat (v .output))) (v .inv .0 .starts)
 
--- src/lib.rt:303:12
 shared-slice-read-if2 : tie.Need-shared-slice-read-if2 Inv-loop μ-loop
-shared-slice-read-if2 c = ?
+shared-slice-read-if2 c = search needs
 
--- src/lib.rt:304:13
+ended-requires-2 : tie.Need-ended-requires-2 Inv-loop μ-loop
+ended-requires-2 c κs = search needs
+
 same-length-3 : tie.Need-same-length-3 Inv-loop μ-loop
-same-length-3 c = ?
+same-length-3 c = c .before .before .before .before .before .loop .inv .3
 
--- src/lib.rt:304:13
 same-length-4 : tie.Need-same-length-4 Inv-loop μ-loop
-same-length-4 c = ?
+same-length-4 c = c .before .before .before .before .before .loop .inv .4
 
--- src/lib.rt:304:13
 returns-2 : tie.Need-returns-2 Inv-loop μ-loop
-returns-2 c = ?
+unfolding Left
+returns-2 c = let k = c .before .before .before .before .before .before .before .before .before .before in let v = c .before .before .before .before .before .loop in
+    left-as _ _ 14 (v .at) (recordsOf (v .output)) (v .output) (v .work)
+    (v .inv .2 ∙ log-kind (k .args .log .now) (v .at) (recordsOf (v .output)) (omega (arith, c .before .before .before .if1 .left)) (c .before .if2 .taken)) (c .ended2 .ensures) (sym (records-flat (v .output))) (v .inv .0 .starts)
 
--- src/lib.rt:309:22
-add-i : tie.Need-add-i Inv-loop μ-loop
-add-i c = ?
+position-requires : tie.Need-position-requires Inv-loop μ-loop
+position-requires c κs = omega (arith, c .before .before .if1 .left)
 
--- src/lib.rt:309:18
-shared-slice-read-i : tie.Need-shared-slice-read-i Inv-loop μ-loop
-shared-slice-read-i c = ?
-
--- src/lib.rt:309:18
-cast-i : tie.Need-cast-i Inv-loop μ-loop
-cast-i c = ?
-
--- src/lib.rt:309:17
-mul-i : tie.Need-mul-i Inv-loop μ-loop
-mul-i c = ?
-
--- src/lib.rt:309:53
-add-i-2 : tie.Need-add-i-2 Inv-loop μ-loop
-add-i-2 c = ?
-
--- src/lib.rt:309:49
-shared-slice-read-i-2 : tie.Need-shared-slice-read-i-2 Inv-loop μ-loop
-shared-slice-read-i-2 c = ?
-
--- src/lib.rt:309:49
-cast-i-2 : tie.Need-cast-i-2 Inv-loop μ-loop
-cast-i-2 c = ?
-
--- src/lib.rt:309:17
-add-i-3 : tie.Need-add-i-3 Inv-loop μ-loop
-add-i-3 c = ?
-
--- src/lib.rt:310:13
 swap-requires : tie.Need-swap-requires Inv-loop μ-loop
-swap-requires c κs = ?
+swap-requires c κs = let v = c .before .before .before .before .before .before .before .loop in (v .inv .0, v .inv .1, c .before .before .position .ensures .1)
 
--- src/lib.rt:312:13
+ended-requires-3 : tie.Need-ended-requires-3 Inv-loop μ-loop
+ended-requires-3 c κs = search needs
+
 same-length-5 : tie.Need-same-length-5 Inv-loop μ-loop
-same-length-5 c = ?
+same-length-5 c = let v = c .before .before .before .before .before .before .before .before .before .before .before .before .before .before .loop in let w = c .before .before .before .before .before .before .swap in
+    ap length (w .ensures .1 .0 ∙ ap flat (kept (v .output) (c .before .before .before .before .before .before .before .before .before .position .result) (w .result) (w .ensures .0) (c .before .if3 .taken)) ∙ records-flat (v .output)) ∙ v .inv .3
 
--- src/lib.rt:312:13
 same-length-6 : tie.Need-same-length-6 Inv-loop μ-loop
-same-length-6 c = ?
+same-length-6 c = let v = c .before .before .before .before .before .before .before .before .before .before .before .before .before .before .loop in let w = c .before .before .before .before .before .before .swap in
+    ap length (w .ensures .1 .1 ∙ ap (startsOf 0) (kept (v .output) (c .before .before .before .before .before .before .before .before .before .position .result) (w .result) (w .ensures .0) (c .before .if3 .taken)) ∙ sym (v .inv .0 .starts)) ∙ v .inv .4
 
--- src/lib.rt:312:13
 returns-3 : tie.Need-returns-3 Inv-loop μ-loop
-returns-3 c = ?
+unfolding Left
+returns-3 c = let k = c .before .before .before .before .before .before .before .before .before .before .before .before .before .before .before .before .before .before .before in let v = c .before .before .before .before .before .before .before .before .before .before .before .before .before .before .loop in let w = c .before .before .before .before .before .before .swap in let g = c .before .before .before .before .before .before .before .before .before .position in
+    let l = recordsOf (v .output) in
+    let stay = kept (v .output) (g .result) (w .result) (w .ensures .0) (c .before .if3 .taken) in
+    left-as _ _ (w .result) (v .at) l _ _
+    (v .inv .2 ∙ log-swap (k .args .log .now) (v .at) l (omega (arith, c .before .before .before .before .before .before .before .before .before .before .before .before .if1 .left)) (g .result) (g .ensures .0) (c .before .before .before .before .before .before .before .before .before .before .if2 .left)
+    ∙ swap-refused (swapOf (g .result) l) (v .at) (w .result) l _ (w .ensures .0) (c .before .if3 .taken) .0)
+    (c .ended3 .ensures) (w .ensures .1 .0 ∙ ap flat stay) (w .ensures .1 .1 ∙ ap (startsOf 0) stay)
 
--- src/lib.rt:317:9
 add-at : tie.Need-add-at Inv-loop μ-loop
-add-at c = ?
+add-at c = search needs
 
--- src/lib.rt:296:5
 loop-less : tie.Need-loop-less Inv-loop μ-loop
-loop-less c = ?
+loop-less c = omega (arith, c .before .before .before .before .before .before .before .before .before .before .before .before .loop-test .taken)
 
--- src/lib.rt:296:5
 loop-again : tie.Need-loop-again Inv-loop μ-loop
-loop-again c = ?
+loop-again c = let k = c .before .before .before .before .before .before .before .before .before .before .before .before .before .before .before .before .before .before in let v = c .before .before .before .before .before .before .before .before .before .before .before .before .before .loop in let w = c .before .before .before .before .before .swap in let g = c .before .before .before .before .before .before .before .before .position in
+    let l = recordsOf (v .output) in let table = k .args .table .now in
+    let more : List (List ℕ) → Replay = λ m. replay (drop (v .at + 3) (k .args .log .now)) (v .at + 3) m in
+    let done = swap-made (swapOf (g .result) l) (v .at) (w .result) l more (w .ensures .0) (c .if3 .left) in
+    let m = leftBy (swapOf (g .result) l) l in
+    (
+      laid-after (v .output) (v .work) table (v .inv .0) (v .inv .1) (g .result) m (done .1) _ _ (w .ensures .1 .0) (w .ensures .1 .1),
+      marked-after (v .output) (v .work) table (v .inv .0) (v .inv .1) (g .result) m (done .1) _ _ (w .ensures .1 .0) (w .ensures .1 .1),
+      v .inv .2 ∙ log-swap (k .args .log .now) (v .at) l (omega (arith, c .before .before .before .before .before .before .before .before .before .before .before .if1 .left)) (g .result) (g .ensures .0) (c .before .before .before .before .before .before .before .before .before .if2 .left)
+      ∙ done .0 ∙ ap more (sym (records-after (v .output) (v .work) table (v .inv .0) (v .inv .1) (g .result) m (done .1) _ _ (w .ensures .1 .0) (w .ensures .1 .1))),
+      length-after (v .output) (v .work) table (v .inv .0) (v .inv .1) (g .result) m (done .1) _ _ (w .ensures .1 .0) (w .ensures .1 .1) ∙ v .inv .3,
+      work-after (v .output) (v .work) table (v .inv .0) (v .inv .1) (g .result) m (done .1) _ _ (w .ensures .1 .0) (w .ensures .1 .1) ∙ v .inv .4,
+      omega (arith, c .before .before .before .before .before .before .before .before .before .before .before .if1 .left),
+    )
 
--- src/lib.rt:289:1
+ended-requires-4 : tie.Need-ended-requires-4 Inv-loop μ-loop
+ended-requires-4 c κs = search needs
+
 same-length-7 : tie.Need-same-length-7 Inv-loop μ-loop
-same-length-7 c = ?
+same-length-7 c = c .before .before .loop .inv .3
 
--- src/lib.rt:289:1
 same-length-8 : tie.Need-same-length-8 Inv-loop μ-loop
-same-length-8 c = ?
+same-length-8 c = c .before .before .loop .inv .4
 
--- src/lib.rt:289:1
 returns-4 : tie.Need-returns-4 Inv-loop μ-loop
-returns-4 c = ?
+unfolding Left
+returns-4 c = let k = c .before .before .before .before .before .before .before in let v = c .before .before .loop in
+    left-as _ _ 0 0 (recordsOf (v .output)) (v .output) (v .work)
+    (v .inv .2 ∙ log-end (k .args .log .now) (v .at) (recordsOf (v .output)) (c .before .loop-test .left)) (c .ended4 .ensures) (sym (records-flat (v .output))) (v .inv .0 .starts)
 
 pub replay-spec : {M : Type 1} → statement M
 replay-spec =
@@ -126,28 +145,25 @@ replay-spec =
     μ-loop
     loop-holds
     sub-if1
+    ended-requires
     same-length
     same-length-2
     returns
     shared-slice-read-if2
+    ended-requires-2
     same-length-3
     same-length-4
     returns-2
-    add-i
-    shared-slice-read-i
-    cast-i
-    mul-i
-    add-i-2
-    shared-slice-read-i-2
-    cast-i-2
-    add-i-3
+    position-requires
     swap-requires
+    ended-requires-3
     same-length-5
     same-length-6
     returns-3
     add-at
     loop-less
     loop-again
+    ended-requires-4
     same-length-7
     same-length-8
     returns-4)

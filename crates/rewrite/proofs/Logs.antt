@@ -1,0 +1,140 @@
+-- A log replayed from a place on, one record at a time, and the program laid again after a swap. Assumes nothing.
+use Prim.Native.Nat.{ℕ, zero, suc, _+_, _-_, _*_, _≤_, _<_}
+use mathlib.Core.Path.{_≡_, refl, sym, ap, subst, _∙_}
+use mathlib.Core.Bool.{Bool, true, false, true≢false, cond, _||_}
+use mathlib.Core.List.{List, [], _∷_}
+use native.Mathlib.Omega.{arith}
+use native.Mathlib.Numerals.{add-one}
+use lib.Dec.{eqb}
+use lib.ListN.{length, take, drop, getD, length-drop, drop-of-length-le}
+use lib.Seq.{drop-cons}
+use borrow.Author.Tests.{eq-eqb, ne-eqb}
+use Rattle.machine.specs.declared.Racking.{Racking}
+use Rattle.record.specs.Format.{byte}
+use Rattle.trace.specs.Swaps.{Outcome, no-pair, is-tied, made, swapAt}
+use Rattle.trace.proofs.Swaps.{behind-made, front-made}
+use Rattle.rewrite.specs.Extents.{isRack, shareCarrier, meets, extentOf}
+use Rattle.rewrite.specs.Programs.{flat, recordsOf, startsOf, what, knitting}
+use Rattle.rewrite.specs.Rewrite.{noRacking, swapOf, Replay, ended, onOutcome, replay}
+use Rattle.rewrite.specs.Laid.{Whole, Laid, Marked, rackByte, swapNo, leftBy}
+use Rattle.rewrite.proofs.Records.{records-flat, flat-records}
+use Rattle.rewrite.proofs.Laying.{starts-length, work-length}
+use Rattle.rewrite.proofs.Replays.{Moved, made-moved}
+use Rattle.rewrite.proofs.Rackings.{kind-is}
+
+-- ---- one log record
+module _ (log : List ℕ) (at : ℕ) (l : List (List ℕ)) where
+  pub log-end : length log ≤ at → replay (drop at log) at l ≡ ended 0 0 l
+  unfolding replay
+  log-end h = ap (λ (q : List ℕ). replay q at l) (drop-of-length-le log h)
+
+  pub log-short : at < length log → length log - at < 3 → replay (drop at log) at l ≡ ended 14 at l
+  unfolding replay
+  log-short h i = go (drop at log) (length-drop at log)
+    where
+      go : (q : List ℕ) → length q ≡ length log - at → replay q at l ≡ ended 14 at l
+      go [] e = absurd (omega arith)
+      go (k ∷ []) e = refl
+      go (k ∷ high ∷ []) e = refl
+      go (k ∷ high ∷ low ∷ q) e = absurd (omega arith)
+
+  module _ (h : at + 2 < length log) where
+    three : drop at log ≡ getD log at 0 ∷ getD log (at + 1) 0 ∷ getD log (at + 2) 0 ∷ drop (at + 3) log
+    three =
+        drop-cons log at 0 (omega arith)
+        ∙ ap (λ (q : List ℕ). getD log at 0 ∷ q)
+        (ap (λ (n : ℕ). drop n log) (sym (add-one at)) ∙ drop-cons log (at + 1) 0 (omega arith)
+        ∙ ap (λ (q : List ℕ). getD log (at + 1) 0 ∷ q)
+        (ap (λ (n : ℕ). drop n log) (second at) ∙ drop-cons log (at + 2) 0 h ∙ ap (λ (n : ℕ). getD log (at + 2) 0 ∷ drop n log) (third at)))
+      where
+        second : (n : ℕ) → suc (n + 1) ≡ n + 2
+        second n = omega arith
+
+        third : (n : ℕ) → suc (n + 2) ≡ n + 3
+        third n = omega arith
+
+    pub log-kind : (getD log at 0 ≡ 64 → ⊥) → replay (drop at log) at l ≡ ended 14 at l
+    unfolding replay
+    log-kind d = ap (λ (q : List ℕ). replay q at l) three ∙ simp (ne-eqb (getD log at 0) 64 d)
+
+    pub log-swap : (i : ℕ) → i ≡ getD log (at + 1) 0 * 256 + getD log (at + 2) 0 → getD log at 0 ≡ 64
+        → replay (drop at log) at l ≡ onOutcome (swapOf i l) at l (λ m. replay (drop (at + 3) log) (at + 3) m)
+    unfolding replay
+    log-swap i e k =
+        ap (λ (q : List ℕ). replay q at l) three ∙ simp (eq-eqb (getD log at 0) 64 k)
+        (ap (λ (j : ℕ). onOutcome (swapOf j l) at l (λ m. replay (drop (at + 3) log) (at + 3) m)) (sym e))
+
+-- ---- by the number of its swap: refused, and nothing moved; or made
+pub swap-refused : (out : Outcome (List ℕ)) (at n : ℕ) (l : List (List ℕ)) (more : List (List ℕ) → Replay) → n ≡ swapNo out → (n ≡ 0 → ⊥)
+    → (onOutcome out at l more ≡ ended n at l) × (leftBy out l ≡ l)
+unfolding swapNo leftBy
+swap-refused no-pair at n l more e d = (ap (λ (k : ℕ). ended k at l) (sym e), refl)
+swap-refused is-tied at n l more e d = (ap (λ (k : ℕ). ended k at l) (sym e), refl)
+swap-refused (made m) at n l more e d = absurd (d e)
+
+pub swap-made : (out : Outcome (List ℕ)) (at n : ℕ) (l : List (List ℕ)) (more : List (List ℕ) → Replay) → n ≡ swapNo out → n ≡ 0
+    → (onOutcome out at l more ≡ more (leftBy out l)) × (out ≡ made (leftBy out l))
+unfolding swapNo leftBy
+swap-made no-pair at n l more e z = absurd (omega arith)
+swap-made is-tied at n l more e z = absurd (omega arith)
+swap-made (made m) at n l more e z = (refl, refl)
+
+-- ---- racks stay where they are
+no-racks : (a b c d : Bool) → (a || (b || (c || d))) ≡ false → (a ≡ false) × (b ≡ false)
+no-racks true b c d e = absurd (true≢false e)
+no-racks false true c d e = absurd (true≢false e)
+no-racks false false c d e = (refl, refl)
+
+pair-rack : (x y : List ℕ) (l : List (List ℕ)) → eqb (byte x 0) 1 ≡ false → eqb (byte y 0) 1 ≡ false → (k b : ℕ)
+    → rackByte b (take k (x ∷ y ∷ l)) ≡ rackByte b (take k (y ∷ x ∷ l))
+unfolding rackByte
+pair-rack x y l e f zero b = refl
+pair-rack x y l e f (suc zero) b = simp (e, f)
+pair-rack x y l e f (suc (suc k)) b = both (take k l)
+  where
+    both : (q : List (List ℕ)) → rackByte b (x ∷ y ∷ q) ≡ rackByte b (y ∷ x ∷ q)
+    both q = simp (e, f)
+
+made-rack : (l m : List (List ℕ)) (r : Racking) (i : ℕ) → Whole l → swapAt knitting r i l ≡ made m → (k b : ℕ) → rackByte b (take k l) ≡ rackByte b (take k m)
+unfolding rackByte
+made-rack [] m r i w e k b = absurd (true≢false (cc))
+made-rack (x ∷ []) m r zero w e k b = absurd (true≢false (cc))
+made-rack (x ∷ y ∷ l) m r zero (w, (v, u)) e k b =
+    let (t, f) = front-made knitting r x y l m e in
+    let (p, q) = no-racks (isRack (what x)) (isRack (what y)) (shareCarrier (what x) (what y)) (meets (extentOf r (what x)) (extentOf r (what y))) t in
+    rw f (pair-rack x y l (kind-is x w ∙ p) (kind-is y v ∙ q) k b)
+made-rack (x ∷ l) m r (suc i) (w, v) e zero b = refl
+made-rack (x ∷ l) m r (suc i) (w, v) e (suc k) b =
+    let (n, f, g) = behind-made x (swapAt knitting (knitting .after r x) i l) m e in
+    rw g (made-rack l n (knitting .after r x) i v f k (cond (eqb (byte x 0) 1) (byte x 1) b))
+
+-- ---- the program after a swap is laid and marked as before
+module _ (p w table : List ℕ) (laid : Laid p w) (marked : Marked p table) (i : ℕ) (m : List (List ℕ)) (e : swapOf i (recordsOf p) ≡ made m)
+    (q v : List ℕ) (bytes : q ≡ flat m) (starts : v ≡ startsOf 0 m) where
+  moved : Moved (recordsOf p) m
+  moved = made-moved knitting (recordsOf p) m noRacking i e
+
+  pub records-after : recordsOf q ≡ m
+  records-after = ap recordsOf bytes ∙ flat-records m (moved .whole (laid .sound .whole))
+
+  pub length-after : length q ≡ length p
+  length-after = ap length bytes ∙ moved .bytes ∙ ap length (records-flat p)
+
+  pub work-after : length v ≡ length w
+  work-after = ap length starts ∙ starts-length 0 m ∙ moved .records ∙ sym (work-length p w laid)
+
+  pub laid-after : Laid q v
+  laid-after =
+      record {
+        sound = record { whole = subst Whole (sym records-after) (moved .whole (laid .sound .whole)); short = omega (arith, length-after, laid .sound .short) };
+        starts = starts ∙ ap (startsOf 0) (sym records-after);
+      }
+
+  pub marked-after : Marked q table
+  marked-after =
+      record {
+        long = marked .long;
+        marks = λ k h. marked .marks k (omega (arith, ap length records-after, moved .records))
+          ∙ made-rack (recordsOf p) m noRacking i (laid .sound .whole) e (k * 64) 0
+          ∙ ap (λ (l : List (List ℕ)). rackByte 0 (take (k * 64) l)) (sym records-after);
+      }
