@@ -17,3 +17,4 @@ pub mod Laying
 pub mod Rackings
 pub mod Pairs
 pub mod Logs
+pub mod Rewriting

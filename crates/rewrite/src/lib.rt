@@ -5,7 +5,7 @@ ghost use Prim.Native.Nat.{_+_, _-_, _*_, _/_, _≤_, _<_};
 ghost use lib.ListN.{length, take, drop, getD, set};
 ghost use Rattle.rewrite.specs.Extents.{halfColumn, layerOf, narrow, broad, formExtent, extentOf, meets, shareCarrier};
 ghost use Rattle.rewrite.specs.Programs.{flat, recordsOf, startsOf, what};
-ghost use Rattle.rewrite.specs.Rewrite.{swapOf, replay, rewriteOf};
+ghost use Rattle.rewrite.specs.Rewrite.{swapOf, replay, lentNo, rewriteOf};
 ghost use Rattle.rewrite.specs.Laid.{tiedAt, Sound, Laid, Marked, rackByte, swapNo, leftBy, exchanged, part};
 ghost use Rattle.record.specs.Format.{signedOf};
 use machine::Column;
@@ -333,4 +333,53 @@ fn replay(log: &[u8], output: &mut [u8], work: &mut [u16], table: &[u8]) -> Repl
         at += SWAP_SIZE;
     }
     ended(0, 0)
+}
+
+// Whether the lent areas will do, by their lengths: 0, or 1 or 2.
+fn lent(program: usize, log: usize, output: usize, work: usize) -> u8
+    ensures { λ k. ⌜ k ≡ lentNo program log output work ⌝ }
+{
+    if State::PROGRAM_MOST < program {
+        return run::TOO_LONG;
+    }
+    if LOG_MOST < log {
+        return run::TOO_LONG;
+    }
+    if output < program {
+        return NO_ROOM;
+    }
+    if work < program / 2 {
+        return NO_ROOM;
+    }
+    0
+}
+
+// Runs the program, copies it to the front of the output, writes its records' starts into the front of the work area
+// and makes the log's swaps there. Numbers 1 to 11 write nothing; 12 to 14 leave what the swaps before made.
+pub fn rewrite(program: &[u8], log: &[u8], output: &mut [u8], work: &mut [u16]) -> Answer
+    ensures answer { λ a. ⌜ a ≡ rewriteOf (now (program .entry)) (now (log .entry)) (now (output .entry)) (now (work .entry)) .answer ⌝ }
+    ensures bytes { λ _. ⌜ now (output .exit) ≡ rewriteOf (now (program .entry)) (now (log .entry)) (now (output .entry)) (now (work .entry)) .output ⌝ }
+    ensures starts { λ _. ⌜ now (work .exit) ≡ rewriteOf (now (program .entry)) (now (log .entry)) (now (output .entry)) (now (work .entry)) .work ⌝ }
+{
+    let n = program.len();
+    let number = lent(n, log.len(), output.len(), work.len());
+    if number != 0 {
+        return run::refused(number);
+    }
+    let a = run::run(program);
+    if a.number != 0 {
+        return a;
+    }
+    bytes::copy(program, output);
+    let count = starts(program, work);
+    let mut table = [0u8; MARKS];
+    marks(program, &work[..count], &mut table);
+    let d = replay(log, &mut output[..n], &mut work[..count], &table);
+    let state = a.state;
+    Answer {
+        number: d.number,
+        place: d.place,
+        complete: a.complete,
+        state,
+    }
 }

@@ -2,7 +2,7 @@
 ghost use mathlib.Core.Path.{_≡_};
 ghost use Prim.Native.Nat.{_<_};
 ghost use lib.ListN.{getD, set};
-ghost use Rattle.machine.specs.Machine.{OnBed, hookOf};
+ghost use Rattle.machine.specs.Machine.{OnBed, hookOf, emptyState};
 ghost use Rattle.machine.specs.Geometry.{columnOf, entryOf, exitOf};
 ghost use Rattle.run.specs.Relation.{unattached, reparked, attached};
 ghost use Rattle.run.specs.Step.{lookOf, parkedNo, floatNo, orNumber};
@@ -326,14 +326,22 @@ fn answered(r: Reached) -> Answer
     }
 }
 
+// The answer to a call that is refused before its program is looked at.
+pub fn refused(number: u8) -> Answer
+    ensures { λ a. ⌜ a ≡ answerOf (reached number 0 emptyState) ⌝ }
+{
+    let state = State::empty();
+    answered(stop(number, 0, state))
+}
+
 // The run of a program from the empty state.
 pub fn run(program: &[u8]) -> Answer
     ensures { λ a. ⌜ a ≡ runOf (now (program .entry)) ⌝ }
 {
-    let state = State::empty();
     if State::PROGRAM_MOST < program.len() {
-        return answered(stop(TOO_LONG, 0, state));
+        return refused(TOO_LONG);
     }
+    let state = State::empty();
     answered(run_from(state, program))
 }
 

@@ -1,0 +1,145 @@
+-- The rewriter's call, put together: refused by its lengths or by its run, or the program laid and its log replayed. Assumes nothing.
+use Prim.Native.Nat.{ℕ, _+_, _/_, _≤_, _<_}
+use mathlib.Core.Path.{_≡_, refl, sym, ap, subst, _∙_}
+use mathlib.Core.Bool.{Bool, true, false, _||_, cond}
+use mathlib.Core.List.{List, _++_}
+use native.Mathlib.Omega.{arith}
+use lib.Dec.{ltb}
+use lib.ListN.{length, take, drop, length-append, length-drop}
+use lib.Seq.{take-length, take-at, drop-at, length-take-le}
+use borrow.Author.Tests.{eq-eqb, ne-eqb, lt-ltb, le-ltb, ltb-false}
+use Rattle.machine.specs.Machine.{emptyState}
+use Rattle.run.specs.declared.Answer.{Answer}
+use Rattle.run.specs.Run.{reached, answerOf, runOf}
+use Rattle.run.proofs.Premises.{by}
+use Rattle.rewrite.specs.declared.Replayed.{Replayed}
+use Rattle.rewrite.specs.Programs.{flat, recordsOf, startsOf}
+use Rattle.rewrite.specs.Rewrite.{Replay, replay, lentNo, Rewritten, refused, written, rewriteOf}
+use Rattle.rewrite.specs.Laid.{Sound, Laid, Marked}
+use Rattle.rewrite.proofs.Records.{accepted-whole}
+use Rattle.rewrite.proofs.Laying.{starts-length}
+use Rattle.rewrite.proofs.Replays.{replay-moved}
+
+-- ---- the lengths
+module _ (program log output work : ℕ) where
+  pub program-long : 32768 < program → lentNo program log output work ≡ 1
+  unfolding lentNo
+  program-long h = simp (lt-ltb 32768 program h)
+
+  pub log-long : program ≤ 32768 → 32768 < log → lentNo program log output work ≡ 1
+  unfolding lentNo
+  log-long h i = simp (le-ltb 32768 program h, lt-ltb 32768 log i)
+
+  module _ (h : program ≤ 32768) (i : log ≤ 32768) where
+    pub output-short : output < program → lentNo program log output work ≡ 2
+    unfolding lentNo
+    output-short k = simp (le-ltb 32768 program h, le-ltb 32768 log i, lt-ltb output program k)
+
+    pub work-short : program ≤ output → work < program / 2 → lentNo program log output work ≡ 2
+    unfolding lentNo
+    work-short k m = simp (le-ltb 32768 program h, le-ltb 32768 log i, le-ltb output program k, lt-ltb work (program / 2) m)
+
+    pub all-enough : program ≤ output → program / 2 ≤ work → lentNo program log output work ≡ 0
+    unfolding lentNo
+    all-enough k m = simp (le-ltb 32768 program h, le-ltb 32768 log i, le-ltb output program k, le-ltb work (program / 2) m)
+
+-- what 0 says
+pub record Enough (program output work : ℕ) : Type 0 where
+  pub short : program ≤ 32768
+  pub room : program ≤ output
+  pub entries : program / 2 ≤ work
+
+neither : (a b : Bool) {m n : ℕ} → (n ≡ 0 → ⊥) → cond (a || b) n m ≡ 0 → (a ≡ false) × (b ≡ false) × (m ≡ 0)
+neither true b h e = absurd (h e)
+neither false true h e = absurd (h e)
+neither false false h e = (refl, refl, e)
+
+pub enough : (program log output work : ℕ) → lentNo program log output work ≡ 0 → Enough program output work
+unfolding lentNo
+enough program log output work e =
+    let (a, b, f) = neither (ltb 32768 program) (ltb 32768 log) (λ q. omega arith) e in
+    let (c, d, g) = neither (ltb output program) (ltb work (program / 2)) (λ q. omega arith) f in
+    record { short = ltb-false 32768 program a; room = ltb-false output program c; entries = ltb-false work (program / 2) d }
+
+-- ---- the parts that are lent on
+pub sound-run : (p : List ℕ) → length p ≤ 32768 → runOf p .number ≡ 0 → Sound p
+sound-run p h e = record { whole = accepted-whole p e; short = h }
+
+-- the output after the copy
+module _ (p output o : List ℕ) (h : length p ≤ length output) (copied : o ≡ take (length p) p ++ drop (length p) output) where
+  joined : o ≡ p ++ drop (length p) output
+  joined = copied ∙ ap (λ (q : List ℕ). q ++ drop (length p) output) (take-length p)
+
+  pub copy-front : take (length p) o ≡ p
+  copy-front = ap (take (length p)) joined ∙ take-at p _ (length p) refl
+
+  pub copy-past : drop (length p) o ≡ drop (length p) output
+  copy-past = ap (drop (length p)) joined ∙ drop-at p _ (length p) refl
+
+  pub copy-length : length p ≤ length o
+  copy-length = omega (arith, ap length joined, length-append p (drop (length p) output))
+
+-- the work area after the starts
+module _ (p work w : List ℕ) (n : ℕ) (e : n ≡ length (recordsOf p)) (written : w ≡ startsOf 0 (recordsOf p) ++ drop n work) where
+  long : length (startsOf 0 (recordsOf p)) ≡ n
+  long = starts-length 0 (recordsOf p) ∙ sym e
+
+  pub starts-front : take n w ≡ startsOf 0 (recordsOf p)
+  starts-front = ap (take n) written ∙ take-at (startsOf 0 (recordsOf p)) _ n long
+
+  pub starts-past : drop n w ≡ drop n work
+  starts-past = ap (drop n) written ∙ drop-at (startsOf 0 (recordsOf p)) _ n long
+
+  pub starts-enough : n ≤ length w
+  starts-enough = omega (arith, ap length written, length-append (startsOf 0 (recordsOf p)) (drop n work), long)
+
+pub laid-parts : (p q v : List ℕ) → Sound p → q ≡ p → v ≡ startsOf 0 (recordsOf p) → Laid q v
+laid-parts p q v s e f = rw (e, f) (record { sound = s; starts = refl })
+
+pub marked-part : (p q table : List ℕ) → q ≡ p → Marked p table → Marked q table
+marked-part p q table e m = subst (λ (o : List ℕ). Marked o table) (sym e) m
+
+-- ---- the call
+module _ (p log output work : List ℕ) where
+  abbrev number : ℕ
+  number = lentNo (length p) (length log) (length output) (length work)
+
+  abbrev call : Rewritten
+  call = rewriteOf p log output work
+
+  -- what is answered and left
+  unfoldable pub Gives : Answer → List ℕ → List ℕ → Type 0
+  Gives a q v = (a ≡ call .answer) × ((q ≡ call .output) × (v ≡ call .work))
+
+  gives : (r : Rewritten) → call ≡ r → Gives (r .answer) (r .output) (r .work)
+  unfolding Gives
+  gives r e = (sym (ap (λ (c : Rewritten). c .answer) e), (sym (ap (λ (c : Rewritten). c .output) e), sym (ap (λ (c : Rewritten). c .work) e)))
+
+  pub gives-lent : (n : ℕ) (a : Answer) → n ≡ number → (n ≡ 0 → ⊥) → a ≡ answerOf (reached n 0 emptyState) → Gives a output work
+  unfolding rewriteOf
+  gives-lent n a e d f =
+      let none : number ≡ 0 → ⊥ = λ q. d (e ∙ q) in
+      subst (λ (b : Answer). Gives b output work) (sym (f ∙ ap (λ (k : ℕ). answerOf (reached k 0 emptyState)) e))
+      (gives (refused (answerOf (reached number 0 emptyState)) output work) (simp (ne-eqb number 0 none)))
+
+  module _ (lent : number ≡ 0) (a : Answer) (ran : a ≡ runOf p) where
+    pub gives-refused : (a .number ≡ 0 → ⊥) → Gives a output work
+    unfolding rewriteOf
+    gives-refused d =
+        let none : runOf p .number ≡ 0 → ⊥ = λ q. d (ap (λ (b : Answer). b .number) ran ∙ q) in
+        subst (λ (b : Answer). Gives b output work) (sym ran) (gives (refused (runOf p) output work) (simp (eq-eqb number 0 lent, ne-eqb (runOf p .number) 0 none)))
+
+    pub gives-written : a .number ≡ 0 → (d : Replayed) (q v o w : List ℕ) (n : ℕ) → n ≡ length (recordsOf p) → drop (length p) o ≡ drop (length p) output → drop n w ≡ drop n work
+        → (d .number ≡ replay log 0 (recordsOf p) .number) × (d .place ≡ replay log 0 (recordsOf p) .place) → q ≡ flat (replay log 0 (recordsOf p) .left) → v ≡ startsOf 0 (replay log 0 (recordsOf p) .left)
+        → Gives (record { number = d .number; place = d .place; complete = a .complete; state = a .state }) (q ++ drop (length p) o) (v ++ drop n w)
+    unfolding Gives rewriteOf
+    gives-written z d q v o w n count past-o past-w (e, f) bytes starts =
+        let r = replay log 0 (recordsOf p) in
+        let done : runOf p .number ≡ 0 = sym (ap (λ (b : Answer). b .number) ran) ∙ z in
+        let all : call ≡ written p r output work = simp (eq-eqb number 0 lent, eq-eqb (runOf p .number) 0 done) in
+        let g = gives (written p r output work) all in
+        let m : n ≡ length (r .left) = count ∙ sym (replay-moved log 0 (recordsOf p) .records) in
+        (
+          (λ i. record { number = e i; place = f i; complete = ran i .complete; state = ran i .state }) ∙ g .0,
+          ((λ i. bytes i ++ past-o i) ∙ g .1 .0, (λ i. starts i ++ (past-w ∙ ap (λ (k : ℕ). drop k work) m) i) ∙ g .1 .1),
+        )

@@ -1,0 +1,22 @@
+-- The empty state with a number. Assumes nothing.
+use borrow.Author.Needs.{needs}
+use mathlib.Core.Path.{_≡_, ap, _∙_}
+use Rattle.machine.specs.declared.State.{State}
+use Rattle.run.specs.Run.{reached, answerOf}
+use Rattle.run.proofs.refused.Statement.{statement}
+use Rattle.run.proofs.refused.Tie as tie
+
+empty-requires : tie.Need-empty-requires
+empty-requires c κs = search needs
+
+stop-requires : tie.Need-stop-requires
+stop-requires c κs = search needs
+
+answered-requires : tie.Need-answered-requires
+answered-requires c κs = search needs
+
+returns : tie.Need-returns
+returns c = c .answered .ensures ∙ ap answerOf (c .before .stop .ensures ∙ ap (reached (c .before .before .before .args .number) 0) (c .before .before .empty .ensures))
+
+pub refused-spec : {M : Type 1} → statement M
+refused-spec = tie.close (tie.spec empty-requires stop-requires answered-requires returns)
