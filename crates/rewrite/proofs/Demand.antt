@@ -1,4 +1,4 @@
--- Demand 3 from the laws of ties and of steps: which swaps are made, what every list of calls keeps, and what is reached. Assumes nothing.
+-- Demand 3: which swaps are made, what every list of calls keeps, and what is reached. Assumes nothing.
 use Prim.Native.Nat.{ℕ, _+_, _*_, _≤_}
 use mathlib.Core.Path.{_≡_, refl, sym, ap, subst, _∙_}
 use mathlib.Core.Bool.{Bool, true, false}
@@ -10,20 +10,22 @@ use Rattle.machine.specs.declared.Racking.{Racking}
 use Rattle.machine.specs.Machine.{emptyState}
 use Rattle.run.specs.Relation.{Valid}
 use Rattle.run.proofs.Premises.{by}
-use Rattle.trace.specs.Records.{tied, Lawful}
+use Rattle.trace.specs.Records.{tied}
 use Rattle.trace.specs.Swaps.{made, Swaps, no-swap, swap-first}
 use Rattle.trace.specs.Order.{inForce, SameOrder}
-use Rattle.trace.specs.Machine.{Orderly, Kept}
+use Rattle.trace.specs.Machine.{Kept}
 use Rattle.trace.proofs.Theorems.{made-iff-untied, refused-iff-tied, reaches-exactly, swaps-keep}
 use Rattle.trace.proofs.Swaps.{swaps-append}
 use Rattle.rewrite.specs.Programs.{flat, recordsOf, knitting, needle, carrier, names}
 use Rattle.rewrite.specs.Rewrite.{noRacking, swapOf, Replay, ended, replay, Rewritten, written}
 use Rattle.rewrite.specs.Calls.{Call, callOf, numberOf, handedOn, after, AllAccepted}
-use Rattle.rewrite.specs.Claims.{SameProgram, Keeps, ComesTo, MadeExactly, Demand3}
+use Rattle.rewrite.specs.Claims.{RecordsEndToEnd, MeetsExactly, EqualRecordsTied, PlaceIsSmall, SameProgram, Keeps, ComesTo, MadeExactly, Demand3}
 use Rattle.rewrite.proofs.Machine.{machine, Good}
+use Rattle.rewrite.proofs.Lawful.{lawful, orderly, meets-exactly, equal-tied}
 use Rattle.rewrite.proofs.Records.{records-flat}
 use Rattle.rewrite.proofs.Joined.{valid-ends, ends-valid}
 use Rattle.rewrite.proofs.Replays.{swaps-moved, replay-made, replay-tied, replay-place, replay-front}
+use Rattle.rewrite.proofs.Rewriting.{place-small}
 use Rattle.rewrite.proofs.Handed.{call-written, moved-length, handed-on, call-of-swap}
 
 -- ---- a swap that a log comes to
@@ -73,66 +75,78 @@ module _ {p : List ℕ} {t : State} (w : Valid p t) (c : Call) (front rest : Lis
         );
       }
 
--- ---- every list of calls, by the laws
+-- ---- every list of calls
 -- every program starts at racking 0
 empty-racking : emptyState .racking ≡ noRacking
 unfolding emptyState
 empty-racking = refl
 
-module _ (L : Lawful knitting) (O : Orderly knitting machine names Good) where
-  -- swaps of a valid program's records keep all that is to be kept
-  kept-swaps : {p : List ℕ} {t : State} {is : List ℕ} {m : List (List ℕ)} → Valid p t → Swaps knitting noRacking is (recordsOf p) m → Kept knitting machine names emptyState t (recordsOf p) m
-  kept-swaps {p} {t} {is} {m} v s =
-      swaps-keep knitting machine names Good L O emptyState t tt is (recordsOf p) m (valid-ends v)
-      (subst (λ (r : Racking). Swaps knitting r is (recordsOf p) m) (sym empty-racking) s)
+-- swaps of a valid program's records keep all that is to be kept
+kept-swaps : {p : List ℕ} {t : State} {is : List ℕ} {m : List (List ℕ)} → Valid p t → Swaps knitting noRacking is (recordsOf p) m → Kept knitting machine names emptyState t (recordsOf p) m
+kept-swaps {p} {t} {is} {m} v s =
+    swaps-keep knitting machine names Good lawful orderly emptyState t tt is (recordsOf p) m (valid-ends v)
+    (subst (λ (r : Racking). Swaps knitting r is (recordsOf p) m) (sym empty-racking) s)
 
-  keeps-all : {p q : List ℕ} {t : State} {is : List ℕ} → Valid p t → Swaps knitting noRacking is (recordsOf p) (recordsOf q) → Keeps p t q
-  keeps-all {p} {q} {t} {is} v s =
-      let k : Kept knitting machine names emptyState t (recordsOf p) (recordsOf q) = kept-swaps v s in
-      let n : length q ≡ length p = sym (ap length (records-flat q)) ∙ moved-length v (swaps-moved knitting s) in
-      record {
-        valid = ends-valid q (omega (arith, n, v .short)) (k .ends);
-        needles = λ m. sym (k .histories (needle m));
-        carriers = λ m. sym (k .histories (carrier m));
-        same = record { records = k .records; order = subst (λ (r : Racking). SameOrder knitting r (recordsOf p) (recordsOf q)) empty-racking (k .order) };
-      }
+keeps-all : {p q : List ℕ} {t : State} {is : List ℕ} → Valid p t → Swaps knitting noRacking is (recordsOf p) (recordsOf q) → Keeps p t q
+keeps-all {p} {q} {t} {is} v s =
+    let k : Kept knitting machine names emptyState t (recordsOf p) (recordsOf q) = kept-swaps v s in
+    let n : length q ≡ length p = sym (ap length (records-flat q)) ∙ moved-length v (swaps-moved knitting s) in
+    record {
+      valid = ends-valid q (omega (arith, n, v .short)) (k .ends);
+      needles = λ m. sym (k .histories (needle m));
+      carriers = λ m. sym (k .histories (carrier m));
+      same = record { records = k .records; order = subst (λ (r : Racking). SameOrder knitting r (recordsOf p) (recordsOf q)) empty-racking (k .order) };
+    }
 
-  -- every list of calls leaves a program that swaps reach
-  after-swaps : (cs : List Call) (p : List ℕ) {t : State} → Valid p t → (is : List ℕ) × Swaps knitting noRacking is (recordsOf p) (recordsOf (after p cs))
-  after-swaps [] p v = ([], no-swap)
-  after-swaps (c ∷ cs) p v =
-      let (is, s) = handed-on v c in
-      let (js, r) = after-swaps cs (handedOn p c) (keeps-all v s .valid) in
-      (is ++ js, swaps-append knitting s r)
+-- every list of calls leaves a program that swaps reach
+after-swaps : (cs : List Call) (p : List ℕ) {t : State} → Valid p t → (is : List ℕ) × Swaps knitting noRacking is (recordsOf p) (recordsOf (after p cs))
+after-swaps [] p v = ([], no-swap)
+after-swaps (c ∷ cs) p v =
+    let (is, s) = handed-on v c in
+    let (js, r) = after-swaps cs (handedOn p c) (keeps-all v s .valid) in
+    (is ++ js, swaps-append knitting s r)
 
-  after-keeps : {p : List ℕ} {t : State} → Valid p t → (cs : List Call) → Keeps p t (after p cs)
-  after-keeps {p} v cs = keeps-all v (after-swaps cs p v .1)
+after-keeps : {p : List ℕ} {t : State} → Valid p t → (cs : List Call) → Keeps p t (after p cs)
+after-keeps {p} v cs = keeps-all v (after-swaps cs p v .1)
 
-  -- swaps that are made are calls that answer 0, one for each
-  one-by-one : {is : List ℕ} {l m : List (List ℕ)} → Swaps knitting noRacking is l m → (p : List ℕ) {t : State} → Valid p t → recordsOf p ≡ l
-      → (cs : List Call) × (recordsOf (after p cs) ≡ m) × AllAccepted p cs
-  one-by-one no-swap p v q = ([], q, tt)
-  one-by-one (swap-first {i} {is} {l} {m} {n} e s) p v q =
-      let f : swapOf i (recordsOf p) ≡ made m = ap (swapOf i) q ∙ e in
-      let (c, a, r) = call-of-swap v i f in
-      let (cs, k, b) = one-by-one s (handedOn p c) (keeps-all v (a .swaps) .valid) r in
-      (c ∷ cs, k, (a, b))
+-- swaps that are made are calls that answer 0, one for each
+one-by-one : {is : List ℕ} {l m : List (List ℕ)} → Swaps knitting noRacking is l m → (p : List ℕ) {t : State} → Valid p t → recordsOf p ≡ l
+    → (cs : List Call) × (recordsOf (after p cs) ≡ m) × AllAccepted p cs
+one-by-one no-swap p v q = ([], q, tt)
+one-by-one (swap-first {i} {is} {l} {m} {n} e s) p v q =
+    let f : swapOf i (recordsOf p) ≡ made m = ap (swapOf i) q ∙ e in
+    let (c, a, r) = call-of-swap v i f in
+    let (cs, k, b) = one-by-one s (handedOn p c) (keeps-all v (a .swaps) .valid) r in
+    (c ∷ cs, k, (a, b))
 
-  -- so that every program with the same records and the same order of tied ones is reached
-  by-calls : {p : List ℕ} {t : State} → Valid p t → (q : List ℕ) → SameProgram p q → (cs : List Call) × (after p cs ≡ q) × AllAccepted p cs
-  by-calls {p} v q s =
-      let (is, r) = reaches-exactly knitting L noRacking (recordsOf p) (recordsOf q) .1 (s .records, s .order) in
-      let (cs, e, a) = one-by-one r p v refl in
-      (cs, sym (records-flat (after p cs)) ∙ ap flat e ∙ records-flat q, a)
+-- so that every program with the same records and the same order of tied ones is reached
+by-calls : {p : List ℕ} {t : State} → Valid p t → (q : List ℕ) → SameProgram p q → (cs : List Call) × (after p cs ≡ q) × AllAccepted p cs
+by-calls {p} v q s =
+    let (is, r) = reaches-exactly knitting lawful noRacking (recordsOf p) (recordsOf q) .1 (s .records, s .order) in
+    let (cs, e, a) = one-by-one r p v refl in
+    (cs, sym (records-flat (after p cs)) ∙ ap flat e ∙ records-flat q, a)
 
-  pub demand-3 : Demand3
-  demand-3 p t v =
-      record {
-        keeps = after-keeps v;
-        exactly = λ cs c front rest u w x y. made-exactly (after-keeps v cs .valid) c front rest u w x y;
-        reached = λ q. (
-          (λ (cs, e). subst (SameProgram p) e (after-keeps v cs .same)),
-          (λ s. let (cs, e, a) = by-calls v q s in (cs, e)),
-        );
-        by-swaps = by-calls v;
-      }
+-- ---- the theorems, each of the type that specs/Claims names
+pub end-to-end : RecordsEndToEnd
+end-to-end = records-flat
+
+pub extents-meet : MeetsExactly
+extents-meet = meets-exactly
+
+pub equals-tied : EqualRecordsTied
+equals-tied = equal-tied
+
+pub place-bound : PlaceIsSmall
+place-bound = place-small
+
+pub demand-3 : Demand3
+demand-3 p t v =
+    record {
+      keeps = after-keeps v;
+      exactly = λ cs c front rest u w x y. made-exactly (after-keeps v cs .valid) c front rest u w x y;
+      reached = λ q. (
+        (λ (cs, e). subst (SameProgram p) e (after-keeps v cs .same)),
+        (λ s. let (cs, e, a) = by-calls v q s in (cs, e)),
+      );
+      by-swaps = by-calls v;
+    }

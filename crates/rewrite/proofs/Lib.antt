@@ -1,7 +1,7 @@
 -- Laws of the rewriter's definitions; the theorems are in Demand.
 pub mod Machine
-pub mod Edits
 pub mod Signed
+pub mod Edits
 pub mod Footprints
 pub mod Commute
 pub mod Lawful

@@ -124,6 +124,14 @@ replay-place log at l = go (replayed log at l)
     go (Replayed.stopped n a b) h = omega arith
     go (Replayed.next e more) h = omega (arith, go more h)
 
+pub replay-within : (log : List ℕ) (at : ℕ) (l : List (List ℕ)) → replay log at l .place ≤ at + length log
+replay-within log at l = go (replayed log at l)
+  where
+    go : {log : List ℕ} {at : ℕ} {l : List (List ℕ)} {r : Replay} → Replayed log at l r → r .place ≤ at + length log
+    go Replayed.through = omega arith
+    go (Replayed.stopped n a b) = omega arith
+    go (Replayed.next e more) = omega (arith, go more)
+
 -- ---- a log whose front goes through goes on behind it
 goes-on : {front : List ℕ} {at : ℕ} {l : List (List ℕ)} {r : Replay} → Replayed front at l r → r .number ≡ 0 → (rest : List ℕ) (from : ℕ)
     → replay (front ++ rest) from l ≡ replay rest (from + length front) (r .left)

@@ -11,14 +11,15 @@ use borrow.Author.Tests.{eq-eqb, ne-eqb, lt-ltb, le-ltb, ltb-false}
 use Rattle.machine.specs.Machine.{emptyState}
 use Rattle.run.specs.declared.Answer.{Answer}
 use Rattle.run.specs.Run.{reached, answerOf, runOf}
-use Rattle.run.proofs.Premises.{by}
+use Rattle.run.proofs.Premises.{is}
+use Rattle.run.proofs.Demand.{place-bound}
 use Rattle.rewrite.specs.declared.Replayed.{Replayed}
 use Rattle.rewrite.specs.Programs.{flat, recordsOf, startsOf}
 use Rattle.rewrite.specs.Rewrite.{Replay, replay, lentNo, Rewritten, refused, written, rewriteOf}
 use Rattle.rewrite.specs.Laid.{Sound, Laid, Marked}
 use Rattle.rewrite.proofs.Records.{accepted-whole}
 use Rattle.rewrite.proofs.Laying.{starts-length}
-use Rattle.rewrite.proofs.Replays.{replay-moved}
+use Rattle.rewrite.proofs.Replays.{replay-moved, replay-within}
 
 -- ---- the lengths
 module _ (program log output work : ℕ) where
@@ -44,8 +45,9 @@ module _ (program log output work : ℕ) where
     all-enough k m = simp (le-ltb 32768 program h, le-ltb 32768 log i, le-ltb output program k, le-ltb work (program / 2) m)
 
 -- what 0 says
-pub record Enough (program output work : ℕ) : Type 0 where
+pub record Enough (program log output work : ℕ) : Type 0 where
   pub short : program ≤ 32768
+  pub log-short : log ≤ 32768
   pub room : program ≤ output
   pub entries : program / 2 ≤ work
 
@@ -54,12 +56,12 @@ neither true b h e = absurd (h e)
 neither false true h e = absurd (h e)
 neither false false h e = (refl, refl, e)
 
-pub enough : (program log output work : ℕ) → lentNo program log output work ≡ 0 → Enough program output work
+pub enough : (program log output work : ℕ) → lentNo program log output work ≡ 0 → Enough program log output work
 unfolding lentNo
 enough program log output work e =
     let (a, b, f) = neither (ltb 32768 program) (ltb 32768 log) (λ q. omega arith) e in
     let (c, d, g) = neither (ltb output program) (ltb work (program / 2)) (λ q. omega arith) f in
-    record { short = ltb-false 32768 program a; room = ltb-false output program c; entries = ltb-false work (program / 2) d }
+    record { short = ltb-false 32768 program a; log-short = ltb-false 32768 log b; room = ltb-false output program c; entries = ltb-false work (program / 2) d }
 
 -- ---- the parts that are lent on
 pub sound-run : (p : List ℕ) → length p ≤ 32768 → runOf p .number ≡ 0 → Sound p
@@ -143,3 +145,19 @@ module _ (p log output work : List ℕ) where
           (λ i. record { number = e i; place = f i; complete = ran i .complete; state = ran i .state }) ∙ g .0,
           ((λ i. bytes i ++ past-o i) ∙ g .1 .0, (λ i. starts i ++ (past-w ∙ ap (λ (k : ℕ). drop k work) m) i) ∙ g .1 .1),
         )
+
+  -- a place fits sixteen bits
+  pub place-small : call .answer .place < 65536
+  unfolding rewriteOf answerOf
+  place-small =
+      is number 0
+      (λ z. is (runOf p .number) 0
+        (λ y. let all : call ≡ written p (replay log 0 (recordsOf p)) output work = simp (eq-eqb number 0 z, eq-eqb (runOf p .number) 0 y) in
+          omega (arith, ap (λ (r : Rewritten). r .answer .place) all, replay-within log 0 (recordsOf p), log-fits z))
+        (λ d. let all : call ≡ refused (runOf p) output work = simp (eq-eqb number 0 z, ne-eqb (runOf p .number) 0 d) in
+          omega (arith, ap (λ (r : Rewritten). r .answer .place) all, place-bound p)))
+      (λ d. let all : call ≡ refused (answerOf (reached number 0 emptyState)) output work = simp (ne-eqb number 0 d) in
+        omega (arith, ap (λ (r : Rewritten). r .answer .place) all))
+    where
+      log-fits : number ≡ 0 → length log ≤ 32768
+      log-fits z = enough (length p) (length log) (length output) (length work) z .log-short

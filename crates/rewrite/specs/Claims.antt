@@ -1,5 +1,5 @@
 -- Demand 3, over the rewriter's own definition. The code's `rewrite` equals rewriteOf by its contract.
-use Prim.Native.Nat.{ℕ, _+_, _*_, _≤_}
+use Prim.Native.Nat.{ℕ, _+_, _*_, _≤_, _<_}
 use mathlib.Core.Path.{_≡_}
 use mathlib.Core.Bool.{true, false}
 use mathlib.Core.List.{List, _∷_, _++_}
@@ -14,7 +14,7 @@ use Rattle.trace.specs.Records.{tied}
 use Rattle.trace.specs.Order.{inForce, SameRecords, SameOrder}
 use Rattle.rewrite.specs.Extents.{extentOf, meets, Share}
 use Rattle.rewrite.specs.Programs.{flat, recordsOf, knitting, needle, carrier, historyOf}
-use Rattle.rewrite.specs.Rewrite.{noRacking, ended, replay, lentNo, written}
+use Rattle.rewrite.specs.Rewrite.{noRacking, ended, replay, lentNo, written, rewriteOf}
 use Rattle.rewrite.specs.Calls.{Call, callOf, numberOf, after, AllAccepted}
 
 -- a program is its records end to end, whatever its bytes
@@ -28,6 +28,10 @@ MeetsExactly = (r : Racking) (x y : Record) → x .carrier ≤ 10 → y .carrier
 -- 'Equal records of one stretch are always tied'
 abbrev pub EqualRecordsTied : Type 0
 EqualRecordsTied = (r : Racking) (x : List ℕ) → tied knitting r x x ≡ true
+
+-- a place lies within a program or a log, so that number and place go into one word
+abbrev pub PlaceIsSmall : Type 0
+PlaceIsSmall = (program log output work : List ℕ) → rewriteOf program log output work .answer .place < 65536
 
 -- the same records between the same racks, and the same order of every two tied records, each known by its bytes and its count
 pub record SameProgram (p q : List ℕ) : Type 0 where
