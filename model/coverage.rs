@@ -2,7 +2,7 @@
 
 use crate::machine::*;
 
-const KIND_NAMES: [&str; 10] = [
+pub const KIND_NAMES: [&str; 10] = [
     "", "rack", "drop", "xfer", "in", "out", "miss", "tuck", "knit", "split",
 ];
 
@@ -37,6 +37,7 @@ macro_rules! events {
         const EVENTS: &[&str] = &[$($text,)*];
     };
 }
+pub(crate) use events;
 
 events! {
     CompleteEnd: "program with records ends complete",
@@ -119,7 +120,7 @@ pub struct Coverage {
 }
 
 /// The position of a list of choices among all such lists; each is (choice, of how many).
-fn class(choices: &[(usize, usize)]) -> usize {
+pub fn class(choices: &[(usize, usize)]) -> usize {
     choices
         .iter()
         .fold(0, |position, &(choice, of)| position * of + choice)

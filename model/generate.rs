@@ -24,15 +24,15 @@ pub const GROUPS: [(&str, usize, Generator); 10] = [
 
 // Crowded columns: a few neighbouring columns, some carriers, some rackings.
 
-struct CrowdedColumns {
-    first: i32,
-    last: i32,
-    carriers: Vec<usize>,
-    rackings: Vec<i32>,
+pub struct CrowdedColumns {
+    pub first: i32,
+    pub last: i32,
+    pub carriers: Vec<usize>,
+    pub rackings: Vec<i32>,
 }
 
 impl CrowdedColumns {
-    fn new(random: &mut Random) -> CrowdedColumns {
+    pub fn new(random: &mut Random) -> CrowdedColumns {
         let span = random.between(0, 5);
         let first = match random.below(4) {
             0 => random.between(-8, 2),
@@ -56,7 +56,7 @@ impl CrowdedColumns {
 }
 
 /// A record that is likely, but not sure, to be accepted.
-fn candidate(random: &mut Random, state: &State, crowd: &CrowdedColumns) -> Option<Record> {
+pub fn candidate(random: &mut Random, state: &State, crowd: &CrowdedColumns) -> Option<Record> {
     let choice = random.below(100);
     if choice < 4 {
         return Some(Record::Rack(random.pick(&crowd.rackings)));
@@ -207,7 +207,7 @@ fn tuck_to(random: &mut Random, draft: &mut Draft, needle: Needle, loops: u8) ->
     Some(())
 }
 
-fn reverse(direction: Direction) -> Direction {
+pub fn reverse(direction: Direction) -> Direction {
     match direction {
         Direction::Left => Direction::Right,
         Direction::Right => Direction::Left,
@@ -560,7 +560,7 @@ fn fields(random: &mut Random, check: Check) {
     }
 }
 
-fn whole_program(random: &mut Random) -> Vec<u8> {
+pub fn whole_program(random: &mut Random) -> Vec<u8> {
     let (draft, record) = any_case(random);
     draft.with(&bytes_of(&record))
 }
@@ -633,7 +633,7 @@ fn random_bytes(random: &mut Random, check: Check) {
 // Lengths near the limit.
 
 /// Adds racks and drops until the draft has exactly so many bytes; one byte cannot be added.
-fn add_racks_and_drops(random: &mut Random, draft: &mut Draft, length: usize) {
+pub fn add_racks_and_drops(random: &mut Random, draft: &mut Draft, length: usize) {
     while draft.bytes.len() + 2 <= length {
         let left = length - draft.bytes.len();
         let rack = left == 2 || (left != 3 && random.percent(50));

@@ -115,6 +115,15 @@ impl Bed {
     }
 }
 
+impl Needle {
+    pub fn column(self, racking: i32) -> i32 {
+        match self.bed {
+            Bed::Front => self.number as i32,
+            Bed::Back => self.number as i32 + racking,
+        }
+    }
+}
+
 pub fn entry_slot(column: i32, direction: Direction) -> i32 {
     match direction {
         Direction::Right => column,
@@ -140,10 +149,7 @@ impl State {
     }
 
     pub fn column(&self, needle: Needle) -> i32 {
-        match needle.bed {
-            Bed::Front => needle.number as i32,
-            Bed::Back => needle.number as i32 + self.racking,
-        }
+        needle.column(self.racking)
     }
 
     pub fn loops(&self, needle: Needle) -> u8 {
@@ -249,6 +255,20 @@ pub fn read_record(bytes: &[u8]) -> Result<(Record, usize), u8> {
 }
 
 impl Record {
+    pub fn kind(&self) -> u8 {
+        match self {
+            Record::Rack(_) => RACK,
+            Record::Drop(_) => DROP,
+            Record::Xfer(..) => XFER,
+            Record::In(_) => IN,
+            Record::Out(_) => OUT,
+            Record::Miss(_) => MISS,
+            Record::Tuck(_) => TUCK,
+            Record::Knit(_) => KNIT,
+            Record::Split(..) => SPLIT,
+        }
+    }
+
     pub fn carrier_move(&self) -> Option<CarrierMove> {
         match *self {
             Record::Rack(_) | Record::Drop(_) | Record::Xfer(..) => None,

@@ -1,81 +1,42 @@
-//! Compares the linked library's run with the model over seeded programs.
+//! Compares the linked library's run and rewriter with the model over seeded programs.
 
+mod calls;
 mod coverage;
 mod draft;
 mod generate;
+mod history;
+mod lend;
+mod logs;
 mod machine;
 mod pieces;
+mod rewrite;
+mod swap_classes;
+mod swap_coverage;
+mod swap_groups;
+mod swaps;
 
+use calls::Rewriter;
 use coverage::Coverage;
 use draft::Random;
 use generate::GROUPS;
-use std::ffi::{c_int, c_void};
+use lend::Lent;
 use std::process::exit;
 
 const DEFAULT_SEED: u64 = 20_230_726;
 const ROUNDS: usize = 240;
 const LEAST_PROGRAMS: u64 = 200_000;
+const LEAST_CALLS: u64 = 100_000;
 
 /// Every program cut short, and one in so many of the others, is also run before a guard page.
 const GUARD_EVERY: u64 = 8;
 
 extern "C" {
     fn knitout_run(program: *const u8, length: usize) -> u64;
-    fn mmap(
-        at: *mut c_void,
-        len: usize,
-        prot: c_int,
-        flags: c_int,
-        fd: c_int,
-        off: i64,
-    ) -> *mut c_void;
-    fn mprotect(at: *mut c_void, length: usize, protection: c_int) -> c_int;
 }
 
 fn library_run(program: &[u8]) -> u64 {
     // SAFETY: the slice is readable for its length.
     unsafe { knitout_run(program.as_ptr(), program.len()) }
-}
-
-// Linux values, and a page size that suits every Linux machine.
-const READ_WRITE: c_int = 1 | 2;
-const NO_ACCESS: c_int = 0;
-const PRIVATE_ANONYMOUS: c_int = 2 | 0x20;
-const PAGE: usize = 65_536;
-const READABLE: usize = 3 * PAGE;
-
-/// Readable bytes that end at a page without access.
-struct GuardedBytes {
-    start: *mut u8,
-}
-
-impl GuardedBytes {
-    fn new() -> GuardedBytes {
-        // SAFETY: a fresh mapping that nothing else uses; its last page loses all access.
-        unsafe {
-            let null = std::ptr::null_mut();
-            let start = mmap(null, READABLE + PAGE, READ_WRITE, PRIVATE_ANONYMOUS, -1, 0);
-            if start as isize == -1 {
-                fail("mmap failed");
-            }
-            let start = start.cast::<u8>();
-            if mprotect(start.add(READABLE).cast(), PAGE, NO_ACCESS) != 0 {
-                fail("mprotect failed");
-            }
-            GuardedBytes { start }
-        }
-    }
-
-    /// The library's answer for a copy of the program that ends at the guard page.
-    fn run(&mut self, program: &[u8]) -> u64 {
-        assert!(program.len() <= READABLE);
-        // SAFETY: the copy lies in the readable part, ends where it ends, and is read only here.
-        unsafe {
-            let copy = self.start.add(READABLE - program.len());
-            std::ptr::copy_nonoverlapping(program.as_ptr(), copy, program.len());
-            knitout_run(copy, program.len())
-        }
-    }
 }
 
 fn fail(reason: &str) -> ! {
@@ -87,27 +48,36 @@ fn hex(bytes: &[u8]) -> String {
     bytes.iter().map(|byte| format!("{byte:02x}")).collect()
 }
 
-fn report_difference(program: &[u8], expected: u64, given: u64, from: &str) -> ! {
+/// Prints bytes, and of many only the first and the last.
+fn show(name: &str, bytes: &[u8]) {
     const SHOWN: usize = 600;
+    if bytes.len() > SHOWN {
+        println!("first bytes: {}", hex(&bytes[..SHOWN / 2]));
+        println!("last bytes:  {}", hex(&bytes[bytes.len() - SHOWN / 2..]));
+    } else {
+        println!("{name}: {}", hex(bytes));
+    }
+}
+
+fn report_difference(program: &[u8], expected: u64, given: u64, from: &str) -> ! {
     let answer = |packed: u64| format!("number {} place {}", packed / 65_536, packed % 65_536);
     println!("model:   {}", answer(expected));
     println!("library: {}", answer(given));
     println!("length {}, {from}", program.len());
-    if program.len() > SHOWN {
-        println!("first bytes: {}", hex(&program[..SHOWN / 2]));
-        println!(
-            "last bytes:  {}",
-            hex(&program[program.len() - SHOWN / 2..])
-        );
-    } else {
-        println!("program: {}", hex(program));
-    }
+    show("program", program);
     fail("the library differs from the model")
+}
+
+/// The library's answer for a copy of the program that ends at a guard page.
+fn guarded_run(guarded: &mut Lent, program: &[u8]) -> u64 {
+    let copy = guarded.lend(program, 0);
+    // SAFETY: the copy is readable for its length.
+    unsafe { knitout_run(copy, program.len()) }
 }
 
 struct Comparison {
     coverage: Coverage,
-    guarded: GuardedBytes,
+    guarded: Lent,
     programs: u64,
     guarded_programs: u64,
 }
@@ -121,7 +91,7 @@ impl Comparison {
             report_difference(program, expected, given, from);
         }
         if answer.number == machine::CUT_SHORT || self.programs % GUARD_EVERY == 0 {
-            let given = self.guarded.run(program);
+            let given = guarded_run(&mut self.guarded, program);
             if given != expected {
                 let from = format!("{from}, before a guard page");
                 report_difference(program, expected, given, &from);
@@ -184,7 +154,7 @@ fn main() {
     println!("model: seed {seed}");
     let mut comparison = Comparison {
         coverage: Coverage::new(),
-        guarded: GuardedBytes::new(),
+        guarded: Lent::new(),
         programs: 0,
         guarded_programs: 0,
     };
@@ -199,15 +169,37 @@ fn main() {
         "{} of them also before a guard page",
         comparison.guarded_programs
     );
-    let missing = comparison.coverage.missing();
+    let rewriter = rewriter_calls(seed);
+    let mut missing = comparison.coverage.missing();
+    missing.extend(rewriter.coverage.missing());
     for name in &missing {
         println!("never came: {name}");
     }
-    if !missing.is_empty() || seeded < LEAST_PROGRAMS {
+    let few = seeded < LEAST_PROGRAMS || rewriter.calls < LEAST_CALLS;
+    if !missing.is_empty() || few || rewriter.changed_chains == 0 {
         fail("the programs do not cover what they should");
     }
     println!(
         "model: {} programs agree (seed {seed})",
         comparison.programs
     );
+}
+
+/// Compares the rewriter; one line tells the counts.
+fn rewriter_calls(seed: u64) -> Rewriter {
+    let mut rewriter = Rewriter::new(seed);
+    swap_groups::compare(&mut rewriter, seed);
+    let numbers: Vec<String> = (0..)
+        .zip(rewriter.coverage.numbers)
+        .map(|(number, count): (u8, u64)| format!("{number}: {count}"))
+        .collect();
+    println!(
+        "rewriter: {} pairs of program and log agree, {} swaps made, {} of {} chains changed; {}",
+        rewriter.calls,
+        rewriter.coverage.swapped,
+        rewriter.changed_chains,
+        rewriter.chains,
+        numbers.join(", ")
+    );
+    rewriter
 }

@@ -1,6 +1,7 @@
-//! Paper 01's pieces that concern the run, with the answers it gives.
+//! Paper 01's pieces that concern the run and the rewriter, with the answers it gives.
 
 use crate::machine::*;
+use crate::rewrite::*;
 
 /// A program, its number and its place.
 pub struct Piece {
@@ -100,4 +101,80 @@ pub fn states_agree() -> bool {
     let p = run(&program_p());
     let in_out = run(&[front(IN, 1, 10), front(OUT, 0, 10)].concat());
     p.state == listed && !p.complete() && in_out.complete() && run(&[]).complete()
+}
+
+// The rewriter's pieces.
+
+/// A program, a log, their number and place, and the output if the program is written.
+pub struct SwapPiece {
+    pub name: &'static str,
+    pub program: Vec<u8>,
+    pub log: Vec<u8>,
+    pub number: u8,
+    pub place: usize,
+    pub output: Option<Vec<u8>>,
+}
+
+fn swap_piece(
+    name: &'static str,
+    program: &[u8],
+    log: &[u8],
+    answer: (u8, usize),
+    output: Option<&[u8]>,
+) -> SwapPiece {
+    SwapPiece {
+        name,
+        program: program.to_vec(),
+        log: log.to_vec(),
+        number: answer.0,
+        place: answer.1,
+        output: output.map(|bytes| bytes.to_vec()),
+    }
+}
+
+/// P with records 2 and 3 swapped, as the paper's listing prints it.
+const P_SWAPPED: [u8; 20] = [
+    0x04, 0x01, 0x00, 0x0a, 0x03, 0x04, 0x01, 0x01, 0x0a, 0x04, 0x08, 0x01, 0x01, 0x0a, 0x04, 0x08,
+    0x01, 0x00, 0x0a, 0x03,
+];
+
+/// Piece 10's pair at racking 0; the tuck's carrier comes in first.
+fn tuck_and_xfer(needle: u8) -> Vec<u8> {
+    let stitches = [IN, 1, 0, 10, 1, TUCK, 1, 0, 10, 1];
+    [&stitches[..], &[XFER, 0, needle, needle]].concat()
+}
+
+/// Pieces 8 to 10: one swap each, made or tied.
+fn tie_pieces() -> Vec<SwapPiece> {
+    let p = program_p();
+    let mut five = p.clone();
+    five[4] = 5;
+    five[14] = 5;
+    let nine = [front(IN, 1, 10), front(OUT, 0, 10), front(IN, 1, 50)].concat();
+    let (apart, opposite) = (tuck_and_xfer(11), tuck_and_xfer(10));
+    let swapped = [&apart[..5], &apart[10..], &apart[5..10]].concat();
+    let (one, two) = ([SWAP, 0, 1], [SWAP, 0, 2]);
+    vec![
+        swap_piece("8, P", &p, &two, (DONE, 0), Some(&P_SWAPPED)),
+        swap_piece("8, carrier 5", &five, &two, (TIED, 0), Some(&five)),
+        swap_piece("9, swap 1", &nine, &one, (TIED, 0), Some(&nine)),
+        swap_piece("10, f.11", &apart, &one, (DONE, 0), Some(&swapped)),
+        swap_piece("10, f.10", &opposite, &one, (TIED, 0), Some(&opposite)),
+    ]
+}
+
+pub fn swap_pieces() -> Vec<SwapPiece> {
+    let p = program_p();
+    let (two, three) = ([SWAP, 0, 2], [SWAP, 0, 3]);
+    let torn = [SWAP, 0, 2, SWAP];
+    let mut pieces = tie_pieces();
+    pieces.extend([
+        swap_piece("1, empty program", &[], &[], (DONE, 0), Some(&[])),
+        swap_piece("1, empty log", &p, &[], (DONE, 0), Some(&p)),
+        swap_piece("11, position 3", &p, &three, (NO_PAIR, 0), Some(&p)),
+        swap_piece("11, torn", &p, &torn, (TORN_LOG, 3), Some(&P_SWAPPED)),
+        swap_piece("12, kind 00", &[0], &two, (UNKNOWN_KIND, 0), None),
+        swap_piece("12, bytes 08 01", &[8, 1], &two, (CUT_SHORT, 0), None),
+    ]);
+    pieces
 }

@@ -1,0 +1,186 @@
+//! One rewriter call through the C entry, compared with the model in every byte and entry.
+
+use crate::draft::Random;
+use crate::lend::{Lent, MARGIN};
+use crate::machine::{Answer, DONE};
+use crate::rewrite::{NO_PAIR, TORN_LOG};
+use crate::swap_coverage::{SwapCoverage, LOANS};
+use crate::{fail, show};
+
+extern "C" {
+    fn knitout_rewrite(
+        program: *const u8,
+        program_length: usize,
+        log: *const u8,
+        log_length: usize,
+        output: *mut u8,
+        output_length: usize,
+        work: *mut u16,
+        work_count: usize,
+    ) -> u64;
+}
+
+/// A program, a log, and how long an output and a work area are lent.
+#[derive(Clone, Copy)]
+pub struct Call<'a> {
+    pub program: &'a [u8],
+    pub log: &'a [u8],
+    pub output: usize,
+    pub work: usize,
+}
+
+/// What a call leaves behind.
+struct Left {
+    answer: u64,
+    output: Vec<u8>,
+    work: Vec<u16>,
+}
+
+pub struct Rewriter {
+    pub coverage: SwapCoverage,
+    pub calls: u64,
+    pub chains: u64,
+    pub changed_chains: u64,
+    random: Random,
+    lent: [Lent; 4],
+}
+
+fn packed(answer: &Answer) -> u64 {
+    u64::from(answer.number) * 65_536 + answer.place as u64
+}
+
+fn entries(bytes: &[u8]) -> Vec<u16> {
+    let pairs = bytes.chunks_exact(2);
+    pairs.map(|b| u16::from_ne_bytes([b[0], b[1]])).collect()
+}
+
+/// Where two lists of equal length first differ.
+fn first_difference<T: PartialEq>(expected: &[T], given: &[T]) -> Option<usize> {
+    (0..expected.len()).find(|&at| expected[at] != given[at])
+}
+
+impl Rewriter {
+    pub fn new(seed: u64) -> Rewriter {
+        Rewriter {
+            coverage: SwapCoverage::new(),
+            calls: 0,
+            chains: 0,
+            changed_chains: 0,
+            random: Random::new(!seed),
+            lent: [0; 4].map(|_| Lent::new()),
+        }
+    }
+
+    /// Lends bytes before a guard page or before marks; none are often lent as a null pointer.
+    fn lend(&mut self, loan: usize, bytes: &[u8]) -> *mut u8 {
+        let behind = match self.random.below(2) {
+            0 => 0,
+            _ => 2 + 2 * self.random.below(MARGIN / 2),
+        };
+        let behind = behind - usize::from(behind > 0 && loan < 3 && self.random.percent(50));
+        let null = bytes.is_empty() && self.random.percent(50);
+        let guarded = behind == 0 && !bytes.is_empty();
+        self.coverage.loan(loan, guarded, null);
+        let start = self.lent[loan].lend(bytes, behind);
+        if null {
+            std::ptr::null_mut()
+        } else {
+            start
+        }
+    }
+
+    /// The output and work before a call; no start has a work entry's value.
+    fn patterns(&mut self, call: &Call) -> (Vec<u8>, Vec<u16>) {
+        let (salt, odd) = (self.random.byte(), self.random.byte() | 1);
+        let output = (0..call.output).map(|at| (at as u8).wrapping_mul(odd) ^ salt);
+        let work = (0..call.work).map(|at| (at as u16).wrapping_mul(odd.into()) | 0x8000);
+        (output.collect(), work.collect())
+    }
+
+    fn library(&mut self, call: &Call, output: &[u8], work: &[u16]) -> Left {
+        let work: Vec<u8> = work.iter().flat_map(|entry| entry.to_ne_bytes()).collect();
+        let program = self.lend(0, call.program);
+        let log = self.lend(1, call.log);
+        let out = self.lend(2, output);
+        let starts = self.lend(3, &work).cast::<u16>();
+        // SAFETY: each pointer is readable, and the last two writable, for the length beside it;
+        // the work area ends an even number of bytes before a page's end.
+        let answer = unsafe {
+            knitout_rewrite(
+                program,
+                call.program.len(),
+                log,
+                call.log.len(),
+                out,
+                call.output,
+                starts,
+                call.work,
+            )
+        };
+        Left {
+            answer,
+            output: self.lent[2].bytes().to_vec(),
+            work: entries(self.lent[3].bytes()),
+        }
+    }
+
+    /// Makes a call and gives the program that the next one in a chain starts from.
+    pub fn call(&mut self, call: &Call, from: &str) -> Vec<u8> {
+        let (mut output, mut work) = self.patterns(call);
+        let given = self.library(call, &output, &work);
+        let answer = self
+            .coverage
+            .rewrite(call.program, call.log, &mut output, &mut work);
+        let expected = Left {
+            answer: packed(&answer),
+            output,
+            work,
+        };
+        self.compare(call, &expected, &given, from);
+        self.calls += 1;
+        match answer.number {
+            DONE | NO_PAIR..=TORN_LOG => expected.output[..call.program.len()].to_vec(),
+            _ => call.program.to_vec(),
+        }
+    }
+
+    fn compare(&self, call: &Call, expected: &Left, given: &Left, from: &str) {
+        if given.answer != expected.answer {
+            differ(call, expected, given, from, "number and place");
+        }
+        if let Some(at) = first_difference(&expected.output, &given.output) {
+            differ(call, expected, given, from, &format!("output byte {at}"));
+        }
+        if let Some(at) = first_difference(&expected.work, &given.work) {
+            let (wanted, found) = (expected.work[at], given.work[at]);
+            let what = format!("work entry {at}, {wanted} in the model and {found}");
+            differ(call, expected, given, from, &what);
+        }
+        for (loan, bytes) in [call.program, call.log].into_iter().enumerate() {
+            if self.lent[loan].bytes() != bytes {
+                let what = format!("{} written to", LOANS[loan]);
+                differ(call, expected, given, from, &what);
+            }
+        }
+        for (name, lent) in LOANS.iter().zip(&self.lent) {
+            if !lent.marks_stand() {
+                differ(call, expected, given, from, &format!("bytes around {name}"));
+            }
+        }
+    }
+}
+
+fn differ(call: &Call, expected: &Left, given: &Left, from: &str, what: &str) -> ! {
+    println!("rewriter, {from}: {what}");
+    for (name, left) in [("model", expected), ("library", given)] {
+        let (number, place) = (left.answer / 65_536, left.answer % 65_536);
+        println!("{name}: number {number} place {place}");
+        show("output", &left.output);
+    }
+    let (program, log) = (call.program.len(), call.log.len());
+    let (output, work) = (call.output, call.work);
+    println!("lengths: program {program}, log {log}, output {output}, work {work} entries");
+    show("program", call.program);
+    show("log", call.log);
+    fail("the library's rewriter differs from the model")
+}

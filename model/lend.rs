@@ -1,0 +1,85 @@
+//! Memory lent to the library: marks stand around it, and it may end at a page without access.
+
+use crate::fail;
+use std::ffi::{c_int, c_void};
+use std::ops::Range;
+use std::slice::{from_raw_parts, from_raw_parts_mut};
+
+extern "C" {
+    fn mmap(
+        at: *mut c_void,
+        len: usize,
+        prot: c_int,
+        flags: c_int,
+        fd: c_int,
+        off: i64,
+    ) -> *mut c_void;
+    fn mprotect(at: *mut c_void, length: usize, protection: c_int) -> c_int;
+}
+
+// Linux values, and a page size that suits every Linux machine.
+const READ_WRITE: c_int = 1 | 2;
+const NO_ACCESS: c_int = 0;
+const PRIVATE_ANONYMOUS: c_int = 2 | 0x20;
+const PAGE: usize = 65_536;
+const READABLE: usize = 3 * PAGE;
+
+/// The most bytes between what is lent and the guard page, and the bytes marked on each side.
+pub const MARGIN: usize = 64;
+const MARK: u8 = 0x5c;
+
+/// Readable bytes before a page without access; a part of them is lent.
+pub struct Lent {
+    start: *mut u8,
+    lent: Range<usize>,
+}
+
+impl Lent {
+    pub fn new() -> Lent {
+        // SAFETY: a fresh mapping that nothing else uses; its last page loses all access.
+        unsafe {
+            let null = std::ptr::null_mut();
+            let start = mmap(null, READABLE + PAGE, READ_WRITE, PRIVATE_ANONYMOUS, -1, 0);
+            if start as isize == -1 {
+                fail("mmap failed");
+            }
+            let start = start.cast::<u8>();
+            if mprotect(start.add(READABLE).cast(), PAGE, NO_ACCESS) != 0 {
+                fail("mprotect failed");
+            }
+            let lent = READABLE..READABLE;
+            Lent { start, lent }
+        }
+    }
+
+    fn memory(&self) -> &[u8] {
+        // SAFETY: the mapping's readable part, which lives as long as the program.
+        unsafe { from_raw_parts(self.start, READABLE) }
+    }
+
+    /// Lends a copy that ends so many bytes before the guard page.
+    pub fn lend(&mut self, bytes: &[u8], behind: usize) -> *mut u8 {
+        assert!(behind <= MARGIN && bytes.len() + 2 * MARGIN <= READABLE);
+        let end = READABLE - behind;
+        self.lent = end - bytes.len()..end;
+        // SAFETY: as in `memory`; nothing else refers to it now.
+        let memory = unsafe { from_raw_parts_mut(self.start, READABLE) };
+        memory[self.lent.start - MARGIN..self.lent.start].fill(MARK);
+        memory[self.lent.clone()].copy_from_slice(bytes);
+        memory[end..].fill(MARK);
+        // SAFETY: within the mapping or just behind its readable part.
+        unsafe { self.start.add(self.lent.start) }
+    }
+
+    /// The lent bytes as they are now.
+    pub fn bytes(&self) -> &[u8] {
+        &self.memory()[self.lent.clone()]
+    }
+
+    /// Whether the bytes on both sides are as they were.
+    pub fn marks_stand(&self) -> bool {
+        let before = &self.memory()[self.lent.start - MARGIN..self.lent.start];
+        let behind = &self.memory()[self.lent.end..];
+        before.iter().chain(behind).all(|&byte| byte == MARK)
+    }
+}
