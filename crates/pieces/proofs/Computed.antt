@@ -13,12 +13,17 @@ use Rattle.machine.specs.declared.Carrier.{Carrier}
 use Rattle.machine.specs.declared.State.{State}
 use Rattle.machine.specs.Machine.{loopsOn, carrierOf, emptyState, completeOf, all, inactiveCarrier, movedTo, attachedAt, sameNeedle}
 use Rattle.machine.specs.Geometry.{eqZ, columnOf, entryOf, exitOf, sameColumn, withinFloat}
-use Rattle.record.specs.Format.{decodeOf, whole, ranged, refusedAs, rackOk, needleOk, workOk, signedOf}
+use Rattle.record.specs.Format.{sizeOf, decodeOf, whole, ranged, refusedAs, rackOk, needleOk, workOk, signedOf}
 use Rattle.record.specs.Names.{needleCount, carrierCount, needlesOf, carriersOf}
 use Rattle.run.specs.Step.{lookOf, seeOf, parkedNo, floatNo, carrierNo, oppositeNo, firstAfter, secondAfter, roomNo, numberOf, edit, actOf, acted, moveAttachments, rackingAfter, numberAt, applyOf}
 use Rattle.run.specs.Run.{runOf, runFrom, turn, answerOf}
-use Rattle.pieces.specs.Rows.{Row, rows}
-use Rattle.pieces.specs.Pieces.{Each, Holds, PiecesHold}
+use Rattle.trace.specs.Records.{tied}
+use Rattle.rewrite.specs.Extents.{halfColumn, layerOf, extentOf, meets, member, common}
+use Rattle.rewrite.specs.Programs.{cut, startsOf, sameBytes, knitting}
+use Rattle.rewrite.specs.Rewrite.{noRacking, replay, lentNo, rewriteOf}
+use Rattle.rewrite.proofs.Lawful.{lawful}
+use Rattle.pieces.specs.Rows.{Row, rows, Swap, swaps, Pair, pairs}
+use Rattle.pieces.specs.Pieces.{Each, Holds, front, rewritten, Rewrites, Ties, PiecesHold}
 
 -- the test that is computed, and that it says so
 sameBool : Bool → Bool → Bool
@@ -88,10 +93,33 @@ test-says r e =
       carriers = each _ _ (λ k f. same-carrier _ _ f) (r .carriers) v;
     }
 
-computed : every test rows ≡ true
-unfolding test stateTest hooksTest carriersTest sameBool sameCarrier runOf runFrom turn answerOf emptyState completeOf all inactiveCarrier movedTo attachedAt sameNeedle eqZ columnOf entryOf exitOf sameColumn withinFloat decodeOf whole ranged refusedAs rackOk needleOk workOk signedOf needleCount carrierCount needlesOf carriersOf lookOf seeOf parkedNo floatNo carrierNo oppositeNo firstAfter secondAfter roomNo numberOf edit actOf acted moveAttachments rackingAfter numberAt applyOf
+swapTest : Swap → Bool
+swapTest r =
+    eqb (rewritten r .answer .number) (r .number)
+    && (eqb (rewritten r .answer .place) (r .place) && (sameBytes (rewritten r .output) (front (r .wrote) (r .program)) && sameBytes (rewritten r .work) (front (r .starts) (r .program))))
+
+swap-says : (r : Swap) → swapTest r ≡ true → Rewrites r
+unfolding swapTest
+swap-says r e =
+    let (p, e1) = and-two (eqb (rewritten r .answer .number) (r .number)) _ e in
+    let (q, e2) = and-two (eqb (rewritten r .answer .place) (r .place)) _ e1 in
+    let (t, u) = and-two (sameBytes (rewritten r .output) (front (r .wrote) (r .program))) _ e2 in
+    record { number = eqb-true _ _ p; place = eqb-true _ _ q; output = lawful .same-eq _ _ t; work = lawful .same-eq _ _ u }
+
+pairTest : Pair → Bool
+pairTest r = sameBool (tied knitting noRacking (r .first) (r .second)) (r .tied)
+
+pair-says : (r : Pair) → pairTest r ≡ true → Ties r
+unfolding pairTest
+pair-says r e = same-bool _ _ e
+
+computed : (every test rows && (every swapTest swaps && every pairTest pairs)) ≡ true
+unfolding swapTest pairTest rewriteOf lentNo replay cut startsOf sameBytes halfColumn layerOf extentOf meets member common sizeOf test stateTest hooksTest carriersTest sameBool sameCarrier runOf runFrom turn answerOf emptyState completeOf all inactiveCarrier movedTo attachedAt sameNeedle eqZ columnOf entryOf exitOf sameColumn withinFloat decodeOf whole ranged refusedAs rackOk needleOk workOk signedOf needleCount carrierCount needlesOf carriersOf lookOf seeOf parkedNo floatNo carrierNo oppositeNo firstAfter secondAfter roomNo numberOf edit actOf acted moveAttachments rackingAfter numberAt applyOf
 computed = refl
 
 -- the pieces
 pub pieces : PiecesHold
-pieces = each Holds test test-says rows computed
+pieces =
+    let (p, e) = and-two (every test rows) _ computed in
+    let (q, r) = and-two (every swapTest swaps) (every pairTest pairs) e in
+    (each Holds test test-says rows p, each Rewrites swapTest swap-says swaps q, each Ties pairTest pair-says pairs r)

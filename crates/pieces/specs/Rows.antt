@@ -1,4 +1,4 @@
--- The starred pieces of document 01, 'Pieces to try', as far as they concern the run: bytes, and what the run answers.
+-- The starred pieces of document 01, 'Pieces to try', and 11: bytes, what the run and the rewriter answer, and what the rewriter writes.
 use Prim.Native.Nat.{ℕ}
 use mathlib.Core.Bool.{Bool, true, false}
 use mathlib.Core.List.{List, [], _∷_, _++_}
@@ -57,6 +57,10 @@ misses =
 abbrev P : List ℕ
 P = 4 ∷ 1 ∷ 0 ∷ 10 ∷ 3 ∷ 4 ∷ 1 ∷ 1 ∷ 10 ∷ 4 ∷ 8 ∷ 1 ∷ 0 ∷ 10 ∷ 3 ∷ 8 ∷ 1 ∷ 1 ∷ 10 ∷ 4 ∷ []
 
+-- piece 9's program
+abbrev in-out-in : List ℕ
+in-out-in = in-right 10 ++ ((5 ∷ 0 ∷ 0 ∷ 10 ∷ 3 ∷ []) ++ in-right 50)
+
 -- parked at slot z, attached to a needle on a side (1 left, 2 right), or to none
 abbrev attached : ℕ → Needle → ℕ → Carrier
 attached z n side = record { active = 1; side = side; slot = record { 0 = pos z }; needle = n }
@@ -90,8 +94,69 @@ rows =
     -- 8: P runs to the state that 01 lists
     ∷ knitted P 0 0 ((f 10, 1) ∷ (b 10, 1) ∷ []) ((3, attached 11 (f 10) 2) ∷ (4, attached 11 (b 10) 2) ∷ [])
     -- 9: in right f.10, out left f.10, in right f.50: runs
-    ∷ knitted (in-right 10 ++ ((5 ∷ 0 ∷ 0 ∷ 10 ∷ 3 ∷ []) ++ in-right 50)) 0 0 [] ((3, unattached 50) ∷ [])
+    ∷ knitted in-out-in 0 0 [] ((3, unattached 50) ∷ [])
     -- besides: an xfer takes a loop and an attachment along; a split does so and forms a loop
     ∷ knitted (in-right 10 ++ (tuck 1 10 ++ (3 ∷ 0 ∷ 10 ∷ 10 ∷ []))) 0 0 ((f 10, 0) ∷ (b 10, 1) ∷ []) ((3, attached 11 (b 10) 2) ∷ [])
     ∷ knitted (in-right 10 ++ (tuck 1 10 ++ (9 ∷ 0 ∷ 0 ∷ 10 ∷ 3 ∷ 10 ∷ []))) 0 0 ((f 10, 1) ∷ (b 10, 1) ∷ []) ((3, attached 10 (f 10) 1) ∷ [])
     ∷ []
+
+-- ---- the rewriter: program and log, number and place, the program at the front of the output and the starts at the front of the work area
+pub record Swap : Type 0 where
+  pub program : List ℕ
+  pub log : List ℕ
+  pub number : ℕ
+  pub place : ℕ
+  pub wrote : List ℕ
+  pub starts : List ℕ
+
+abbrev swap : List ℕ → List ℕ → ℕ → ℕ → List ℕ → List ℕ → Swap
+swap p log n at q v = record { program = p; log = log; number = n; place = at; wrote = q; starts = v }
+
+-- P after its log, as 01 lists it; P with carrier 5 for 3
+abbrev swapped-P : List ℕ
+swapped-P = 4 ∷ 1 ∷ 0 ∷ 10 ∷ 3 ∷ 4 ∷ 1 ∷ 1 ∷ 10 ∷ 4 ∷ 8 ∷ 1 ∷ 1 ∷ 10 ∷ 4 ∷ 8 ∷ 1 ∷ 0 ∷ 10 ∷ 3 ∷ []
+
+abbrev P-5 : List ℕ
+P-5 = 4 ∷ 1 ∷ 0 ∷ 10 ∷ 5 ∷ 4 ∷ 1 ∷ 1 ∷ 10 ∷ 4 ∷ 8 ∷ 1 ∷ 0 ∷ 10 ∷ 5 ∷ 8 ∷ 1 ∷ 1 ∷ 10 ∷ 4 ∷ []
+
+abbrev fours : List ℕ
+fours = 0 ∷ 5 ∷ 10 ∷ 15 ∷ []
+
+-- piece 10's pair with carrier 1 brought in before it: an xfer from f.n to b.n
+abbrev in-1 : List ℕ
+in-1 = 4 ∷ 1 ∷ 0 ∷ 10 ∷ 1 ∷ []
+
+abbrev tuck-1 : List ℕ
+tuck-1 = 7 ∷ 1 ∷ 0 ∷ 10 ∷ 1 ∷ []
+
+abbrev xfer : ℕ → List ℕ
+xfer n = 3 ∷ 0 ∷ n ∷ n ∷ []
+
+abbrev pub swaps : List Swap
+swaps =
+    -- 1: an empty log: the output equals the program
+    swap [] [] 0 0 [] []
+    ∷ swap P [] 0 0 P fours
+    -- 8: the two knits change places; with carrier 5 for 3 they are tied
+    ∷ swap P (64 ∷ 0 ∷ 2 ∷ []) 0 0 swapped-P fours
+    ∷ swap P-5 (64 ∷ 0 ∷ 2 ∷ []) 13 0 P-5 fours
+    -- 9: extents apart, but one carrier
+    ∷ swap in-out-in (64 ∷ 0 ∷ 1 ∷ []) 13 0 in-out-in (0 ∷ 5 ∷ 10 ∷ [])
+    -- 10: the starts follow the lengths; tied at one column
+    ∷ swap (in-1 ++ (tuck-1 ++ xfer 11)) (64 ∷ 0 ∷ 1 ∷ []) 0 0 (in-1 ++ (xfer 11 ++ tuck-1)) (0 ∷ 5 ∷ 9 ∷ [])
+    ∷ swap (in-1 ++ (tuck-1 ++ xfer 10)) (64 ∷ 0 ∷ 1 ∷ []) 13 0 (in-1 ++ (tuck-1 ++ xfer 10)) (0 ∷ 5 ∷ 10 ∷ [])
+    -- 11: no pair; a torn log after a swap that was made
+    ∷ swap P (64 ∷ 0 ∷ 3 ∷ []) 12 0 P fours
+    ∷ swap P (64 ∷ 0 ∷ 2 ∷ 64 ∷ []) 14 3 swapped-P fours
+    -- besides: a program that is refused is not written
+    ∷ swap (1 ∷ 9 ∷ []) (64 ∷ 0 ∷ 0 ∷ []) 5 0 [] []
+    ∷ []
+
+-- 10 again, as a pair at racking 0: two records and whether they are tied
+pub record Pair : Type 0 where
+  pub first : List ℕ
+  pub second : List ℕ
+  pub tied : Bool
+
+abbrev pub pairs : List Pair
+pairs = record { first = tuck-1; second = xfer 11; tied = false } ∷ record { first = tuck-1; second = xfer 10; tied = true } ∷ []
