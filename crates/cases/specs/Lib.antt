@@ -1,0 +1,2 @@
+-- Where a case's files are.
+pub mod Paths

@@ -1,0 +1,143 @@
+// The listings of stored inputs: a folder of data/ each, written by tools/cases with what is to be printed.
+ghost use Prim.Native.Nat.{_≤_};
+ghost use mathlib.Core.Path.{_≡_};
+ghost use lib.ListN.{length, take};
+ghost use Rattle.cases.specs.Paths.{pathOf};
+use libc::STDOUT_FILENO;
+
+// The path of a file in a folder, put at the front of path: its length, or 0 where path is too short.
+fn join(folder: &[u8], file: &[u8], path: &mut [u8]) -> usize
+    ensures { λ r. ⌜ (r ≤ length (now (path .exit))) × (r ≡ length (take r (now (path .exit)))) ⌝ }
+    ensures { λ r. ⌜ take r (now (path .exit)) ≡ pathOf (length (now (path .entry))) (now (folder .entry)) (now (file .entry)) ⌝ }
+{
+    let n = folder.len();
+    if path.len() < n {
+        return 0;
+    }
+    if path.len() - n < file.len() {
+        return 0;
+    }
+    bytes::copy(folder, path);
+    bytes::copy(file, &mut path[n..]);
+    n + file.len()
+}
+
+// A title line and the listing of the folder.
+fn case(name: &[u8]) {
+    io::write_all(STDOUT_FILENO, b"# ");
+    io::write_all(STDOUT_FILENO, name);
+    io::write_all(STDOUT_FILENO, b"\n");
+    let mut program = io::buffer();
+    let program_length = join(name, b"/knit.prg", &mut program);
+    let mut log = io::buffer();
+    let log_length = join(name, b"/swap.log", &mut log);
+    list::show(&program[..program_length], &log[..log_length]);
+}
+
+// Missing files, and files at and over their limits. (2, no bench, cannot happen: what the listing lends is long enough.)
+fn files() {
+    case(b"empty");
+    case(b"missing");
+    case(b"no_log");
+    case(b"no_program");
+    case(b"longest_program");
+    case(b"program_too_long");
+    case(b"longest_log");
+    case(b"log_too_long");
+}
+
+// The pieces to try of document 01, from 2 on.
+fn pieces() {
+    case(b"rackings");
+    case(b"rack_09");
+    case(b"rack_f7");
+    case(b"drop_249");
+    case(b"drop_250");
+    case(b"elsewhere");
+    case(b"opposite");
+    case(b"not_opposite");
+    case(b"eight_tucks");
+    case(b"nine_tucks");
+    case(b"float_20");
+    case(b"float_21");
+    case(b"p");
+    case(b"p_tied");
+    case(b"one_carrier");
+    case(b"beside_xfer");
+    case(b"under_xfer");
+    case(b"no_pair");
+    case(b"torn");
+    case(b"kind_00");
+    case(b"bytes_08_01");
+}
+
+// Further refusals of a program.
+fn refusals() {
+    case(b"kind_0a");
+    case(b"cut_split");
+    case(b"cut_before_field");
+    case(b"direction_02");
+    case(b"bed_02");
+    case(b"carrier_00");
+    case(b"carrier_0b");
+    case(b"other_needle_250");
+    case(b"field_before_not_in");
+    case(b"already_in");
+    case(b"not_in");
+    case(b"not_in_again");
+    case(b"parked_at_rack");
+    case(b"float_racked");
+    case(b"split_not_opposite");
+    case(b"xfer_full");
+}
+
+// What a state's listing shows.
+fn states() {
+    case(b"sides");
+    case(b"ends");
+    case(b"ten_carriers");
+    case(b"negative");
+    case(b"slots_at_0");
+    case(b"last_slot");
+    case(b"split");
+    case(b"knit_over");
+    case(b"drop_attached");
+}
+
+// Swaps made and refused, by the log.
+fn swaps() {
+    case(b"complete");
+    case(b"walk");
+    case(b"there_and_back");
+    case(b"tied_after_swaps");
+    case(b"no_pair_after_swap");
+    case(b"log_kind_41");
+    case(b"log_of_two_bytes");
+    case(b"position_258");
+    case(b"position_65535");
+    case(b"position_256");
+    case(b"program_before_log");
+}
+
+// Swaps made and refused, by the records.
+fn ties() {
+    case(b"racked_tied");
+    case(b"racked_free");
+    case(b"next_column");
+    case(b"next_but_one");
+    case(b"drop_back");
+    case(b"drop_front");
+    case(b"miss_behind");
+    case(b"miss_before");
+    case(b"across_rack");
+    case(b"equal_records");
+}
+
+fn main() {
+    files();
+    pieces();
+    refusals();
+    states();
+    swaps();
+    ties();
+}

@@ -1,0 +1,6 @@
+-- Laws that the proofs of this crate share.
+pub mod Grow
+pub mod Digits
+pub mod Lines
+pub mod Longest
+pub mod Printed
