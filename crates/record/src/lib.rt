@@ -3,6 +3,7 @@ ghost use mathlib.Core.Path.{_≡_};
 ghost use Prim.Native.Nat.{_≤_, _<_};
 ghost use lib.ListN.{length, getD};
 ghost use Rattle.record.specs.Format.{sizeOf, signedOf, needleOk, workOk, refusedAs, whole, rackAt, dropAt, xferAt, workAt, splitAt, decodeOf};
+ghost use Rattle.record.specs.Names.{outlineAt, outlineOf};
 use machine::Needle;
 use machine::Racking;
 use machine::State;
@@ -287,4 +288,37 @@ pub fn decode(l: &[u8]) -> Decoded
         9 => split(l),
         _ => refused(UNKNOWN_KIND),
     }
+}
+
+fn outlined(kind: u8, at: Needle, carrier: u8) -> Record
+    ensures { λ x. ⌜ x ≡ outlineAt kind at carrier ⌝ }
+{
+    Record {
+        kind,
+        racking: Racking(0),
+        right: false,
+        at,
+        carrier,
+        to: Needle(0, 0),
+    }
+}
+
+// What extents and ties look at in a record, from bytes that are known to begin with one: nothing is checked again.
+pub fn outline(l: &[u8]) -> Record
+    requires { ⌜ decodeOf (now l) .number ≡ 0 ⌝ }
+    ensures { λ x. ⌜ x ≡ outlineOf (decodeOf (now (l .entry)) .what) ⌝ }
+{
+    let kind = byte(l, 0);
+    if kind == 1 {
+        return outlined(kind, Needle(0, 0), 0);
+    }
+    if kind <= 3 {
+        let bed = byte(l, 1);
+        let n = byte(l, 2);
+        return outlined(kind, Needle(bed as u16, n as u16), 0);
+    }
+    let bed = byte(l, 2);
+    let n = byte(l, 3);
+    let k = byte(l, 4);
+    outlined(kind, Needle(bed as u16, n as u16), k)
 }

@@ -1,20 +1,29 @@
 -- Extents and ties, read as code tests them. Assumes nothing.
-use Prim.Native.Nat.{ℕ, _≤_, _<_}
+use Prim.Native.Nat.{ℕ, suc, _+_, _≤_, _<_}
 use mathlib.Core.Path.{_≡_, refl, sym, ap, _∙_}
 use mathlib.Core.Bool.{Bool, true, false, cond, _&&_, _||_}
 use native.Mathlib.Omega.{arith}
-use lib.IntN.{ℤ}
+use mathlib.Core.List.{List}
+use lib.IntN.{ℤ, pos, negsuc, _+ℤ_, _-ℤ_, natAbs}
 use lib.Signed.{leZ, ltZ, mag}
 use mir.Syntax.{w32}
 use mir.Val.{toZ, ofZ}
-use lib.Dec.{leb}
-use borrow.Author.Tests.{eq-eqb, ne-eqb, le-leb, lt-leb}
-use Rattle.machine.proofs.Signed.{back, ltZ-true, ltZ-false}
+use lib.Dec.{eqb, leb, ltb}
+use borrow.Author.Tests.{eq-eqb, ne-eqb, le-leb, lt-leb, lt-ltb, le-ltb, ltb-true, ltb-false}
+use Rattle.machine.proofs.Signed.{back, ltZ-true, ltZ-false, up, dn, sum, difference}
+use Rattle.machine.proofs.Laws.{and-two}
+use Rattle.machine.specs.Geometry.{columnOf}
 use Rattle.machine.specs.declared.Racking.{Racking}
 use Rattle.record.specs.declared.Record.{Record}
+use Rattle.record.specs.Names.{carriersOf, outlineOf}
+use Rattle.record.proofs.Forms.{cond-cases}
+use Rattle.trace.specs.Records.{tied}
+use Rattle.trace.proofs.Tests.{by-test}
 use Rattle.rewrite.specs.declared.Extent.{Extent}
 use Rattle.rewrite.specs.Extents.{halfColumn, layerOf, narrow, broad, formExtent, extentOf, meets, shareCarrier, isRack}
-use Rattle.rewrite.specs.Laid.{tiedAt}
+use Rattle.rewrite.specs.Programs.{what, knitting}
+use Rattle.rewrite.specs.Laid.{boundTo, tiedAt, farApart}
+use Rattle.rewrite.proofs.Signed.{le-from, le-trans, le-self, le-next, le-before}
 
 module _ (r : Racking) (x : Record) where
   abbrev h : ℤ
@@ -77,20 +86,112 @@ module _ (a b : Extent) where
     unfolding meets
     else-meets h = simp (p, q, le-leb (a .low) (b .high) h)
 
--- the four tests of a tie
-module _ (r : Racking) (x y : Record) where
-  pub rack-first : x .kind ≡ 1 → tiedAt r x y ≡ true
-  unfolding tiedAt
+-- the tests of a tie: whatever the racking, then by extents
+module _ (x y : Record) where
+  pub rack-first : x .kind ≡ 1 → boundTo x y ≡ true
+  unfolding boundTo
   rack-first e = simp (eq-eqb (x .kind) 1 e)
 
-  pub rack-second : (x .kind ≡ 1 → ⊥) → y .kind ≡ 1 → tiedAt r x y ≡ true
-  unfolding tiedAt
+  pub rack-second : (x .kind ≡ 1 → ⊥) → y .kind ≡ 1 → boundTo x y ≡ true
+  unfolding boundTo
   rack-second d e = simp (ne-eqb (x .kind) 1 d, eq-eqb (y .kind) 1 e)
 
-  pub carrier-shared : (x .kind ≡ 1 → ⊥) → (y .kind ≡ 1 → ⊥) → shareCarrier x y ≡ true → tiedAt r x y ≡ true
-  unfolding tiedAt
-  carrier-shared d e f = simp (ne-eqb (x .kind) 1 d, ne-eqb (y .kind) 1 e, f)
+  pub carriers-only : (x .kind ≡ 1 → ⊥) → (y .kind ≡ 1 → ⊥) → boundTo x y ≡ shareCarrier x y
+  unfolding boundTo
+  carriers-only d e = simp (ne-eqb (x .kind) 1 d, ne-eqb (y .kind) 1 e)
 
-  pub extents-only : (x .kind ≡ 1 → ⊥) → (y .kind ≡ 1 → ⊥) → shareCarrier x y ≡ false → tiedAt r x y ≡ meets (extentOf r x) (extentOf r y)
+  pub bound-tied : (r : Racking) → boundTo x y ≡ true → tiedAt r x y ≡ true
   unfolding tiedAt
-  extents-only d e f = simp (ne-eqb (x .kind) 1 d, ne-eqb (y .kind) 1 e, f)
+  bound-tied r e = simp e
+
+  pub unbound-tied : (r : Racking) → boundTo x y ≡ false → tiedAt r x y ≡ meets (extentOf r x) (extentOf r y)
+  unfolding tiedAt
+  unbound-tied r e = simp e
+
+-- an outline is all that they look at
+pub outline-extent : (r : Racking) (x : Record) → extentOf r (outlineOf x) ≡ extentOf r x
+unfolding outlineOf extentOf
+outline-extent r x = refl
+
+pub outline-bound : (x y : Record) → boundTo (outlineOf x) (outlineOf y) ≡ boundTo x y
+unfolding outlineOf boundTo carriersOf
+outline-bound x y = refl
+
+-- ---- columns that are far apart
+-- an extent reaches one half column to each side of its own at most
+spread : (r : Racking) (x : Record) → (leZ (halfColumn (x .at) r -ℤ pos 1) (extentOf r x .left) ≡ true) × (leZ (extentOf r x .right) (halfColumn (x .at) r +ℤ pos 1) ≡ true)
+unfolding extentOf
+spread r x =
+    cond-cases P (eqb (x .kind) 2) (λ e. one) (λ e. cond-cases P (eqb (x .kind) 3) (λ e. one)
+    (λ e. cond-cases P (leb 4 (x .kind) && leb (x .kind) 6) (λ e. three) (λ e. cond-cases P (leb 7 (x .kind) && leb (x .kind) 8)
+    (λ e. cond-cases P (eqb (x .at .0) 0) (λ e. three) (λ e. three)) (λ e. three))))
+  where
+    h : ℤ
+    h = halfColumn (x .at) r
+
+    P : Extent → Type 0
+    P e = (leZ (h -ℤ pos 1) (e .left) ≡ true) × (leZ (e .right) (h +ℤ pos 1) ≡ true)
+
+    one : (leZ (h -ℤ pos 1) h ≡ true) × (leZ h (h +ℤ pos 1) ≡ true)
+    one = (le-before h, le-next h)
+
+    three : (leZ (h -ℤ pos 1) (h -ℤ pos 1) ≡ true) × (leZ (h +ℤ pos 1) (h +ℤ pos 1) ≡ true)
+    three = (le-self (h -ℤ pos 1), le-self (h +ℤ pos 1))
+
+-- so that extents meet only at neighbouring columns
+meets-near : (r : Racking) (x y : Record) → meets (extentOf r x) (extentOf r y) ≡ true → natAbs (columnOf (x .at) r .0 -ℤ columnOf (y .at) r .0) ≤ 1
+unfolding meets halfColumn
+meets-near r x y e = near (a -ℤ b) (difference a b)
+  where
+    a : ℤ
+    a = columnOf (x .at) r .0
+
+    b : ℤ
+    b = columnOf (y .at) r .0
+
+    d : Extent
+    d = extentOf r x
+
+    f : Extent
+    f = extentOf r y
+
+    across : (leZ (d .left) (f .right) ≡ true) × (leZ (f .left) (d .right) ≡ true)
+    across = and-two (leZ (d .left) (f .right)) (leZ (f .left) (d .right)) (and-two (leZ (d .left) (f .right) && leZ (f .left) (d .right)) (leb (d .low) (f .high) && leb (f .low) (d .high)) e .0)
+
+    -- 2a - 1 ≤ 2b + 1 and 2b - 1 ≤ 2a + 1
+    left : up (a +ℤ a -ℤ pos 1) + dn (b +ℤ b +ℤ pos 1) ≤ up (b +ℤ b +ℤ pos 1) + dn (a +ℤ a -ℤ pos 1)
+    left = le-from (a +ℤ a -ℤ pos 1) (b +ℤ b +ℤ pos 1) (le-trans (a +ℤ a -ℤ pos 1) (d .left) (b +ℤ b +ℤ pos 1) (spread r x .0) (le-trans (d .left) (f .right) (b +ℤ b +ℤ pos 1) (across .0) (spread r y .1)))
+
+    right : up (b +ℤ b -ℤ pos 1) + dn (a +ℤ a +ℤ pos 1) ≤ up (a +ℤ a +ℤ pos 1) + dn (b +ℤ b -ℤ pos 1)
+    right = le-from (b +ℤ b -ℤ pos 1) (a +ℤ a +ℤ pos 1) (le-trans (b +ℤ b -ℤ pos 1) (f .left) (a +ℤ a +ℤ pos 1) (spread r y .0) (le-trans (f .left) (d .right) (a +ℤ a +ℤ pos 1) (across .1) (spread r x .1)))
+
+    near : (z : ℤ) → up z + (dn a + up b) ≡ dn z + (up a + dn b) → natAbs z ≤ 1
+    near (pos n) q = omega (arith, left, right, sum a a, sum b b, difference (a +ℤ a) (pos 1), difference (b +ℤ b) (pos 1), sum (a +ℤ a) (pos 1), sum (b +ℤ b) (pos 1))
+    near (negsuc n) q = omega (arith, left, right, sum a a, sum b b, difference (a +ℤ a) (pos 1), difference (b +ℤ b) (pos 1), sum (a +ℤ a) (pos 1), sum (b +ℤ b) (pos 1))
+
+pub far-apart : (r : Racking) (x y : Record) → farApart (columnOf (x .at) r) (columnOf (y .at) r) ≡ true → meets (extentOf r x) (extentOf r y) ≡ false
+unfolding farApart
+far-apart r x y e =
+    by-test (meets (extentOf r x) (extentOf r y)) (λ t. absurd (omega (arith, meets-near r x y t, ltb-true 1 (natAbs (columnOf (x .at) r .0 -ℤ columnOf (y .at) r .0)) e))) (λ t. t)
+
+-- the comparison of columns, as code makes it
+pub outside : (d : ℤ) → ltb 1 (natAbs d) ≡ (ltZ d (negsuc 0) || ltZ (pos 1) d)
+outside (pos n) = refl
+outside (negsuc n) = below n ∙ or-false (ltb 0 n)
+  where
+    below : (n : ℕ) → ltb 1 (suc n) ≡ ltb 0 n
+    below n = by-test (ltb 0 n) (λ e. lt-ltb 1 (suc n) (omega (arith, ltb-true 0 n e)) ∙ sym e) (λ e. le-ltb 1 (suc n) (omega (arith, ltb-false 0 n e)) ∙ sym e)
+
+    or-false : (t : Bool) → t ≡ (t || false)
+    or-false true = refl
+    or-false false = refl
+
+-- ---- the tie of two records by their bytes
+pub tied-bytes : (r : Racking) (x y : List ℕ) → tiedAt r (what x) (what y) ≡ tied knitting r x y
+unfolding tiedAt boundTo
+tied-bytes r x y = or-last (isRack (what x)) (isRack (what y)) (shareCarrier (what x) (what y)) (meets (extentOf r (what x)) (extentOf r (what y)))
+  where
+    or-last : (a b c d : Bool) → ((a || (b || c)) || d) ≡ (a || (b || (c || d)))
+    or-last true b c d = refl
+    or-last false true c d = refl
+    or-last false false c d = refl

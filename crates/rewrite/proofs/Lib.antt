@@ -10,7 +10,7 @@ pub mod Joined
 pub mod Replays
 pub mod Handed
 pub mod Demand
-pub mod Halves
+pub mod HalfColumns
 pub mod Extents
 pub mod Rotations
 pub mod Laying

@@ -7,18 +7,21 @@ use native.Mathlib.Omega.{arith}
 use native.Mathlib.Numerals.{add-one}
 use lib.ListN.{length, take, drop, getD, set, length-append}
 use lib.Seq.{length-take-le, take-at, drop-at, drop-append-add, split-at, drop-cons, take-suc, set-at}
-use Rattle.record.specs.Format.{sizeOf}
-use Rattle.machine.specs.declared.Racking.{Racking}
+use lib.Dec.{eqb}
+use borrow.Author.Tests.{eqb-true}
+use Rattle.machine.proofs.Laws.{and-two}
+use Rattle.record.specs.Format.{sizeOf, decodeOf}
 use Rattle.trace.specs.Records.{tied}
 use Rattle.trace.specs.Swaps.{no-pair, is-tied, made}
 use Rattle.trace.specs.Order.{inForce}
 use Rattle.trace.proofs.Theorems.{made-iff-untied, refused-iff-tied, no-pair-iff-short}
 use Rattle.rewrite.specs.Programs.{flat, recordsOf, startsOf, what, knitting}
 use Rattle.rewrite.specs.Rewrite.{noRacking, swapOf}
-use Rattle.rewrite.specs.Laid.{tiedAt, Whole, Laid, rackByte, exchanged, part}
+use Rattle.rewrite.specs.Laid.{tiedAt, whole, Whole, Laid, Between, inForceAt, exchanged, part}
+use Rattle.rewrite.proofs.Extents.{tied-bytes}
 use Rattle.rewrite.proofs.Records.{records-flat}
 use Rattle.rewrite.proofs.Laying.{flat-append, starts-append, starts-length, whole-part, nth, Stands, work-length, stands, kind-at, part-at}
-use Rattle.rewrite.proofs.Rackings.{racked, force-is}
+use Rattle.rewrite.proofs.Rackings.{force-is}
 
 -- ---- a list with two neighbours, and the same with the two exchanged
 module _ (u : List (List ℕ)) (x y : List ℕ) (v : List (List ℕ)) where
@@ -131,6 +134,12 @@ module _ (p w : List ℕ) (laid : Laid p w) (i : ℕ) (h : i + 1 < length w) whe
         short = omega (arith, second-start, one .sized .most, two .sized .most);
       }
 
+  front-whole : Whole front
+  front-whole = whole-part front (first ∷ second ∷ rest) (subst Whole pair-cut (laid .sound .whole)) .0
+
+  swap-read : swapOf i (recordsOf p) ≡ swapOf (length front) (front ++ first ∷ second ∷ rest)
+  swap-read = λ k. swapOf (sym front-length k) (pair-cut k)
+
   module _ (e : ℕ) (at : e ≡ getD w (i + 1) 0 + length second) where
     pub first-part : part p (getD w i 0) (getD w (i + 1) 0) ≡ first
     first-part = part-at p w i one (getD w (i + 1) 0) second-start
@@ -151,24 +160,35 @@ module _ (p w : List ℕ) (laid : Laid p w) (i : ℕ) (h : i + 1 < length w) whe
         let a : getD w i 0 + (e - getD w (i + 1) 0) ≡ length (flat front) + length second = omega (arith, one .start, at) in
         (λ k. set ((laid .starts ∙ ap (startsOf 0) pair-cut) k) (i + 1) (a k)) ∙ starts-exchanged front first second rest (i + 1) (ap (λ (n : ℕ). n + 1) front-length)
 
-  -- ---- the swap
-  front-whole : Whole front
-  front-whole = whole-part front (first ∷ second ∷ rest) (subst Whole pair-cut (laid .sound .whole)) .0
+    -- each is a record's bytes
+    reads-whole : (x : List ℕ) → whole x ≡ true → decodeOf x .number ≡ 0
+    reads-whole x w = eqb-true (decodeOf x .number) 0 (and-two (eqb (decodeOf x .number) 0) (eqb (decodeOf x .size) (length x)) w .0)
 
-  tie-read : (r : Racking) (x y : List ℕ) → r ≡ racked (rackByte 0 front) → x ≡ first → y ≡ second
-      → tiedAt r (what x) (what y) ≡ tied knitting (inForce knitting noRacking front) first second
-  unfolding tiedAt
-  tie-read r x y e f g = (λ k. tied knitting ((e ∙ sym (force-is front front-whole)) k) (f k) (g k))
+    pub first-between : Between p (getD w i 0) (getD w (i + 1) 0)
+    first-between =
+        record {
+          order = omega (arith, second-start);
+          within = omega (arith, two .ends);
+          reads = ap (λ (x : List ℕ). decodeOf x .number) first-part ∙ reads-whole first (one .is-whole);
+        }
 
-  swap-read : swapOf i (recordsOf p) ≡ swapOf (length front) (front ++ first ∷ second ∷ rest)
-  swap-read = λ k. swapOf (sym front-length k) (pair-cut k)
+    pub second-between : Between p (getD w (i + 1) 0) e
+    second-between =
+        record {
+          order = omega arith;
+          within = omega (arith, two .ends);
+          reads = ap (λ (x : List ℕ). decodeOf x .number) second-part ∙ reads-whole second (two .is-whole);
+        }
 
-  module _ (r : Racking) (x y : List ℕ) (e : r ≡ racked (rackByte 0 front)) (f : x ≡ first) (g : y ≡ second) where
-    pub pair-tied : tiedAt r (what x) (what y) ≡ true → swapOf i (recordsOf p) ≡ is-tied
-    pair-tied t = swap-read ∙ refused-iff-tied knitting noRacking front first second rest .1 (sym (tie-read r x y e f g) ∙ t)
+    -- ---- the swap
+    tie-read : tiedAt (inForceAt p i) (what (part p (getD w i 0) (getD w (i + 1) 0))) (what (part p (getD w (i + 1) 0) e)) ≡ tied knitting (inForce knitting noRacking front) first second
+    tie-read = tied-bytes (inForceAt p i) _ _ ∙ (λ k. tied knitting (sym (force-is front front-whole) k) (first-part k) (second-part k))
 
-    pub pair-made : tiedAt r (what x) (what y) ≡ false → swapOf i (recordsOf p) ≡ made exchangedPair
-    pair-made t = swap-read ∙ made-iff-untied knitting noRacking front first second rest .1 (sym (tie-read r x y e f g) ∙ t)
+    pub pair-tied : tiedAt (inForceAt p i) (what (part p (getD w i 0) (getD w (i + 1) 0))) (what (part p (getD w (i + 1) 0) e)) ≡ true → swapOf i (recordsOf p) ≡ is-tied
+    pair-tied t = swap-read ∙ refused-iff-tied knitting noRacking front first second rest .1 (sym tie-read ∙ t)
+
+    pub pair-made : tiedAt (inForceAt p i) (what (part p (getD w i 0) (getD w (i + 1) 0))) (what (part p (getD w (i + 1) 0) e)) ≡ false → swapOf i (recordsOf p) ≡ made exchangedPair
+    pair-made t = swap-read ∙ made-iff-untied knitting noRacking front first second rest .1 (sym tie-read ∙ t)
 
 pub pair-none : (p w : List ℕ) → Laid p w → (i : ℕ) → length w ≤ i + 1 → swapOf i (recordsOf p) ≡ no-pair
 pair-none p w laid i h = no-pair-iff-short knitting noRacking i (recordsOf p) .1 (omega (arith, work-length p w laid, add-one i))

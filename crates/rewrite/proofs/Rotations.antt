@@ -1,85 +1,164 @@
--- A rotation by three copies, and a part that is put back. Assumes nothing.
-use mathlib.Core.Path.{_≡_, refl, sym, ap, _∙_, subst}
+-- A short part whose front goes behind its back: by three copies, or by exchanging equal halves byte by byte; and the part put back. Assumes nothing.
+use mathlib.Core.Path.{_≡_, refl, sym, ap, _∙_}
 use mathlib.Core.List.{List, [], _∷_, _++_, append-nil, append-assoc}
-use Prim.Native.Nat.{ℕ, _+_, _-_, _≤_}
-use native.Mathlib.Nat.{le-refl}
+use Prim.Native.Nat.{ℕ, zero, suc, _+_, _-_, _≤_, _<_}
 use native.Mathlib.Omega.{arith}
-use lib.ListN.{length, take, drop, length-append, length-drop, drop-of-length-le}
+use native.Mathlib.Numerals.{add-one}
+use lib.ListN.{length, take, drop, getD, set, length-append, length-drop, drop-of-length-le, take-append-drop}
+use lib.Seq.{take-length, take-all, take-at, drop-at, take-append-le, drop-append-le, length-take-le, take-take, take-add, drop-drop}
+use lib.Seq.{drop-cons, take-suc, set-at, getD-at}
 use Rattle.rewrite.specs.Laid.{exchanged}
-use lib.Seq.{take-length, take-at, drop-at, take-append-le, drop-append-le, length-take-le, take-all, take-take, take-add, drop-drop}
 
--- a copy of all of s over the front of d
-abbrev pub over : List ℕ → List ℕ → List ℕ
-over s d = take (length s) s ++ drop (length s) d
+-- the part afterwards
+abbrev pub turned : List ℕ → ℕ → List ℕ
+turned p k = drop k p ++ take k p
 
-pub over-is : (s d : List ℕ) → over s d ≡ s ++ drop (length s) d
-over-is s d = ap (λ (l : List ℕ). l ++ drop (length s) d) (take-length s)
+-- ---- by three copies
+-- a copy of s to the front of d
+abbrev copied : List ℕ → List ℕ → List ℕ
+copied s d = take (length s) s ++ drop (length s) d
 
--- a copy of all of s over as many elements leaves s
-pub over-all : (s d : List ℕ) → length d ≤ length s → over s d ≡ s
-over-all s d h = over-is s d ∙ ap (λ (l : List ℕ). s ++ l) (drop-of-length-le d h) ∙ append-nil s
+copied-all : (s d : List ℕ) → length d ≤ length s → copied s d ≡ s
+copied-all s d h = (λ i. take-length s i ++ drop-of-length-le d h i) ∙ append-nil s
 
-module _ (p z : List ℕ) (k : ℕ) (h : k ≤ length p) where
-  -- what stands from k on, and before k, in p with z after it
-  pub back-part : take (length p - k) (drop k (p ++ z)) ≡ drop k p
-  back-part = ap (take (length p - k)) (drop-append-le k p z h) ∙ take-at (drop k p) z (length p - k) (length-drop k p)
+-- p is the part and k the bytes of its front; o the temporary after the first copy, q the part after the second, t its last k bytes after the third
+module _ (p z o q t : List ℕ) (k : ℕ) (h : k ≤ length p) (first : o ≡ take (length p) p ++ z) where
+  abbrev m : ℕ
+  m = length p - k
 
-  pub front-part : take k (p ++ z) ≡ take k p
-  front-part = take-append-le k p z h
+  whole : o ≡ p ++ z
+  whole = first ∙ ap (λ (l : List ℕ). l ++ z) (take-length p)
 
-  -- the two copies back: q is p after the first, and t what the second leaves of q's last k elements
-  pub both : (q t : List ℕ) → q ≡ over (drop k p) p → t ≡ over (take k p) (take (length q - (length p - k)) (drop (length p - k) q))
-      → take (length p - k) q ++ (t ++ drop (length q - (length p - k)) (drop (length p - k) q)) ≡ drop k p ++ take k p
-  both q t q-is t-is =
-      let m : ℕ = length p - k in
-      let q-two : q ≡ drop k p ++ drop (length (drop k p)) p = q-is ∙ over-is (drop k p) p in
-      let q-front : take m q ≡ drop k p = ap (take m) q-two ∙ take-at (drop k p) _ m (length-drop k p) in
-      let q-back : drop m q ≡ drop (length (drop k p)) p = ap (drop m) q-two ∙ drop-at (drop k p) _ m (length-drop k p) in
-      let back-long : length (drop m q) ≡ k = ap length q-back ∙ length-drop (length (drop k p)) p ∙ omega (arith, length-drop k p) in
-      let rest : drop (length q - m) (drop m q) ≡ [] = drop-of-length-le (drop m q) {i = length q - m} (omega (arith, length-drop m q)) in
-      let lent : take (length q - m) (drop m q) ≡ drop m q = take-all (length q - m) (drop m q) (omega (arith, length-drop m q)) in
-      let t-all : t ≡ take k p = t-is ∙ over-all (take k p) _ (omega (arith, ap length lent, back-long, length-take-le k p h)) in
-      (λ i. q-front i ++ (t-all i ++ rest i)) ∙ ap (λ (l : List ℕ). drop k p ++ l) (append-nil (take k p))
+  back : take m (drop k o) ≡ drop k p
+  back = ap (λ (l : List ℕ). take m (drop k l)) whole ∙ ap (take m) (drop-append-le k p z h) ∙ take-at (drop k p) z m (length-drop k p)
 
--- what `rotate`'s three copies leave: o is the temporary, z its end, q and t as in `both`
-pub rotated : (p z o q t : List ℕ) (k : ℕ) → k ≤ length p → o ≡ take (length p) p ++ z
-    → q ≡ over (take (length p - k) (drop k o)) p
-    → t ≡ over (take k o) (take (length q - (length p - k)) (drop (length p - k) q))
-    → take (length p - k) q ++ (t ++ drop (length q - (length p - k)) (drop (length p - k) q)) ≡ drop k p ++ take k p
-rotated p z o q t k h o-is q-is t-is =
-    let o-two : o ≡ p ++ z = o-is ∙ ap (λ (l : List ℕ). l ++ z) (take-length p) in
-    let m : take (length p - k) (drop k o) ≡ drop k p = ap (λ (l : List ℕ). take (length p - k) (drop k l)) o-two ∙ back-part p z k h in
-    let f : take k o ≡ take k p = ap (take k) o-two ∙ front-part p z k h in
-    both p z k h q t (q-is ∙ ap (λ (l : List ℕ). over l p) m)
-    (t-is ∙ ap (λ (l : List ℕ). over l (take (length q - (length p - k)) (drop (length p - k) q))) f)
+  front : take k o ≡ take k p
+  front = ap (take k) whole ∙ take-append-le k p z h
 
--- the middle of a list from its start: what a part holds from j on
-pub drop-take : (j n : ℕ) (l : List ℕ) → j ≤ n → n ≤ length l → drop j (take n l) ≡ take (n - j) (drop j l)
+  module _ (second : q ≡ copied (take m (drop k o)) p) where
+    two : q ≡ drop k p ++ drop (length (drop k p)) p
+    two = second ∙ ap (λ (l : List ℕ). copied l p) back ∙ ap (λ (l : List ℕ). l ++ drop (length (drop k p)) p) (take-length (drop k p))
+
+    kept : take m q ≡ drop k p
+    kept = ap (take m) two ∙ take-at (drop k p) _ m (length-drop k p)
+
+    last-long : length (drop m q) ≡ k
+    last-long = ap (λ (l : List ℕ). length (drop m l)) two ∙ ap length (drop-at (drop k p) _ m (length-drop k p)) ∙ length-drop (length (drop k p)) p ∙ omega (arith, length-drop k p)
+
+    pub turned-by-copies : t ≡ copied (take k o) (take (length q - m) (drop m q)) → take m q ++ (t ++ drop (length q - m) (drop m q)) ≡ turned p k
+    turned-by-copies third =
+        let rest : drop (length q - m) (drop m q) ≡ [] = drop-of-length-le (drop m q) {i = length q - m} (omega (arith, length-drop m q)) in
+        let lent : take (length q - m) (drop m q) ≡ drop m q = take-all (length q - m) (drop m q) (omega (arith, length-drop m q)) in
+        let t-is : t ≡ take k p =
+          third ∙ ap (λ (l : List ℕ). copied l (take (length q - m) (drop m q))) front
+          ∙ copied-all (take k p) _ (omega (arith, ap length lent, last-long, length-take-le k p h)) in
+        (λ i. kept i ++ (t-is i ++ rest i)) ∙ ap (λ (l : List ℕ). drop k p ++ l) (append-nil (take k p))
+
+-- ---- by equal halves
+-- the first i bytes of the halves a and b have changed places
+abbrev pub halfway : List ℕ → List ℕ → ℕ → List ℕ
+halfway a b i = (take i b ++ drop i a) ++ (take i a ++ drop i b)
+
+-- a list between whose elements x and y others stand
+abbrev spaced : List ℕ → ℕ → List ℕ → ℕ → List ℕ → List ℕ
+spaced u x v y w = u ++ x ∷ (v ++ y ∷ w)
+
+module _ (u : List ℕ) (x : ℕ) (v : List ℕ) (y : ℕ) (w : List ℕ) (i j : ℕ) (at-i : length u ≡ i) (at-j : length u + suc (length v) ≡ j) where
+  spaced-right : (z : ℕ) → spaced u z v y w ≡ (u ++ z ∷ v) ++ y ∷ w
+  spaced-right z = sym (append-assoc u (z ∷ v) (y ∷ w))
+
+  right-long : (z : ℕ) → length (u ++ z ∷ v) ≡ j
+  right-long z = length-append u (z ∷ v) ∙ at-j
+
+  pub spaced-first : getD (spaced u x v y w) i 0 ≡ x
+  spaced-first = getD-at u x (v ++ y ∷ w) 0 i at-i
+
+  pub spaced-second : getD (spaced u x v y w) j 0 ≡ y
+  spaced-second = ap (λ (l : List ℕ). getD l j 0) (spaced-right x) ∙ getD-at (u ++ x ∷ v) y w 0 j (right-long x)
+
+  pub spaced-exchanged : set (set (spaced u x v y w) i y) j x ≡ spaced u y v x w
+  spaced-exchanged =
+      ap (λ (l : List ℕ). set l j x) (set-at u x (v ++ y ∷ w) y i at-i ∙ spaced-right y)
+      ∙ set-at (u ++ y ∷ v) y w x j (right-long y) ∙ append-assoc u (y ∷ v) (x ∷ w)
+
+module _ (a b : List ℕ) (k : ℕ) (long-a : length a ≡ k) (long-b : length b ≡ k) (i : ℕ) (h : i < k) where
+  abbrev u : List ℕ
+  u = take i b
+
+  abbrev v : List ℕ
+  v = drop (suc i) a ++ take i a
+
+  abbrev w : List ℕ
+  w = drop (suc i) b
+
+  abbrev x : ℕ
+  x = getD a i 0
+
+  abbrev y : ℕ
+  y = getD b i 0
+
+  now-is : halfway a b i ≡ spaced u x v y w
+  now-is =
+      (λ n. (u ++ drop-cons a i 0 (omega arith) n) ++ (take i a ++ drop-cons b i 0 (omega arith) n))
+      ∙ append-assoc u (x ∷ drop (suc i) a) (take i a ++ y ∷ w)
+      ∙ ap (λ (l : List ℕ). u ++ x ∷ l) (sym (append-assoc (drop (suc i) a) (take i a) (y ∷ w)))
+
+  next-is : halfway a b (suc i) ≡ spaced u y v x w
+  next-is =
+      (λ n. (take-suc b i 0 (omega arith) n ++ drop (suc i) a) ++ (take-suc a i 0 (omega arith) n ++ w))
+      ∙ (λ n. append-assoc u (y ∷ []) (drop (suc i) a) n ++ append-assoc (take i a) (x ∷ []) w n)
+      ∙ append-assoc u (y ∷ drop (suc i) a) (take i a ++ x ∷ w)
+      ∙ ap (λ (l : List ℕ). u ++ y ∷ l) (sym (append-assoc (drop (suc i) a) (take i a) (x ∷ w)))
+
+  at-i : length u ≡ i
+  at-i = length-take-le i b (omega arith)
+
+  at-j : length u + suc (length v) ≡ k + i
+  at-j = omega (arith, at-i, length-append (drop (suc i) a) (take i a), length-drop (suc i) a, length-take-le i a (omega arith))
+
+  -- one byte more of each
+  pub half-next : (q : List ℕ) → q ≡ halfway a b i → set (set q i (getD q (k + i) 0)) (k + i) (getD q i 0) ≡ halfway a b (i + 1)
+  half-next q e =
+      let f : q ≡ spaced u x v y w = e ∙ now-is in
+      let g : getD q (k + i) 0 ≡ y = ap (λ (l : List ℕ). getD l (k + i) 0) f ∙ spaced-second u x v y w i (k + i) at-i at-j in
+      let d : getD q i 0 ≡ x = ap (λ (l : List ℕ). getD l i 0) f ∙ spaced-first u x v y w i (k + i) at-i at-j in
+      (λ n. set (set (f n) i (g n)) (k + i) (d n)) ∙ spaced-exchanged u x v y w i (k + i) at-i at-j ∙ sym next-is ∙ ap (halfway a b) (sym (add-one i))
+
+module _ (p : List ℕ) (k : ℕ) (h : length p ≡ k + k) where
+  pub half-front : length (take k p) ≡ k
+  half-front = length-take-le k p (omega arith)
+
+  pub half-back : length (drop k p) ≡ k
+  half-back = omega (arith, length-drop k p)
+
+  pub half-none : p ≡ halfway (take k p) (drop k p) 0
+  half-none = sym (take-append-drop k p)
+
+  pub half-all : (i : ℕ) → i ≡ k → halfway (take k p) (drop k p) i ≡ turned p k
+  half-all i e =
+      ap (halfway (take k p) (drop k p)) e
+      ∙ (λ n. (take-all k (drop k p) (omega (arith, half-back)) n ++ drop-of-length-le (take k p) {i = k} (omega (arith, half-front)) n)
+        ++ (take-all k (take k p) (omega (arith, half-front)) n ++ drop-of-length-le (drop k p) {i = k} (omega (arith, half-back)) n))
+      ∙ (λ n. append-nil (drop k p) n ++ append-nil (take k p) n)
+
+-- ---- the part put back
+-- what a part holds from j on
+drop-take : (j n : ℕ) (l : List ℕ) → j ≤ n → n ≤ length l → drop j (take n l) ≡ take (n - j) (drop j l)
 drop-take j n l h g =
-    let two : take n l ≡ take j l ++ take (n - j) (drop j l) = ap (λ (m : ℕ). take m l) (sum j n h) ∙ take-add j (n - j) l in
-    ap (drop j) two ∙ drop-at (take j l) (take (n - j) (drop j l)) j (length-take-le j l (omega arith))
-  where
-    sum : (j n : ℕ) → j ≤ n → n ≡ j + (n - j)
-    sum j n h = omega arith
+    let e : n ≡ j + (n - j) = omega arith in
+    ap (drop j) (ap (λ (m : ℕ). take m l) e ∙ take-add j (n - j) l) ∙ drop-at (take j l) (take (n - j) (drop j l)) j (length-take-le j l (omega arith))
 
--- a rotated part, put back: the records from a to b and from b to e change places
-pub swapped : (o r : List ℕ) (a b e : ℕ) → a ≤ b → b ≤ e → e ≤ length o
-    → r ≡ drop (b - a) (take (e - a) (drop a o)) ++ take (b - a) (take (e - a) (drop a o))
+pub put-back : (o r : List ℕ) (a b e : ℕ) → a ≤ b → b ≤ e → e ≤ length o → r ≡ turned (take (e - a) (drop a o)) (b - a)
     → take a o ++ (r ++ drop (e - a) (drop a o)) ≡ exchanged o a b e
 unfolding exchanged
-swapped o r a b e ab be eo r-is =
+put-back o r a b e ab be eo r-is =
     let n : e - a ≤ length (drop a o) = omega (arith, length-drop a o) in
     let j : b - a ≤ e - a = omega arith in
-    let left : drop (b - a) (take (e - a) (drop a o)) ≡ take (e - b) (drop b o) =
-      drop-take (b - a) (e - a) (drop a o) j n
-      ∙ (λ i. take (less a b e ab be i) (drop-drop (b - a) a o i))
-      ∙ ap (λ (m : ℕ). take (e - b) (drop m o)) (sum a b ab) in
-    let right : take (b - a) (take (e - a) (drop a o)) ≡ take (b - a) (drop a o) = take-take (b - a) (e - a) (drop a o) j in
-    let past : drop (e - a) (drop a o) ≡ drop e o = drop-drop (e - a) a o ∙ ap (λ (m : ℕ). drop m o) (sum a e (omega arith)) in
-    ap (λ (l : List ℕ). take a o ++ l)
-    ((λ i. (r-is ∙ (λ j. left j ++ right j)) i ++ past i) ∙ append-assoc (take (e - b) (drop b o)) (take (b - a) (drop a o)) (drop e o))
-  where
-    sum : (a b : ℕ) → a ≤ b → a + (b - a) ≡ b
-    sum a b h = omega arith
-    less : (a b e : ℕ) → a ≤ b → b ≤ e → (e - a) - (b - a) ≡ e - b
-    less a b e h g = omega arith
+    let f : e - a - (b - a) ≡ e - b = omega arith in
+    let g : a + (b - a) ≡ b = omega arith in
+    let d : a + (e - a) ≡ e = omega arith in
+    let second : drop (b - a) (take (e - a) (drop a o)) ≡ take (e - b) (drop b o) =
+      drop-take (b - a) (e - a) (drop a o) j n ∙ (λ i. take (f i) (drop-drop (b - a) a o i)) ∙ ap (λ (m : ℕ). take (e - b) (drop m o)) g in
+    let first : take (b - a) (take (e - a) (drop a o)) ≡ take (b - a) (drop a o) = take-take (b - a) (e - a) (drop a o) j in
+    let past : drop (e - a) (drop a o) ≡ drop e o = drop-drop (e - a) a o ∙ ap (λ (m : ℕ). drop m o) d in
+    ap (λ (l : List ℕ). take a o ++ l) ((λ i. (r-is ∙ (λ k. second k ++ first k)) i ++ past i) ∙ append-assoc (take (e - b) (drop b o)) (take (b - a) (drop a o)) (drop e o))

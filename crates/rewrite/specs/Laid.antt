@@ -3,18 +3,27 @@ use Prim.Native.Nat.{ℕ, _+_, _-_, _*_, _≤_, _<_}
 use mathlib.Core.Path.{_≡_}
 use mathlib.Core.Bool.{Bool, true, cond, _&&_, _||_}
 use mathlib.Core.List.{List, [], _∷_, _++_}
-use lib.Dec.{eqb}
+use lib.IntN.{_-ℤ_, natAbs}
+use lib.Dec.{eqb, ltb}
 use lib.ListN.{length, take, drop, getD, set}
+use Rattle.machine.specs.declared.Column.{Column}
 use Rattle.machine.specs.declared.Racking.{Racking}
 use Rattle.record.specs.declared.Record.{Record}
-use Rattle.record.specs.Format.{byte, decodeOf}
+use Rattle.record.specs.Format.{byte, signedOf, decodeOf}
 use Rattle.trace.specs.Swaps.{Outcome, no-pair, is-tied, made}
 use Rattle.rewrite.specs.Extents.{extentOf, meets, shareCarrier, isRack}
 use Rattle.rewrite.specs.Programs.{recordsOf, startsOf}
 
--- a tie, of records that were decoded: crate trace's `tied` over `knitting` is this of their bytes
+-- a tie in two parts: whatever the racking, and by extents at a racking; of their bytes it is crate trace's `tied` over `knitting`
+unfoldable pub boundTo : Record → Record → Bool
+boundTo x y = isRack x || (isRack y || shareCarrier x y)
+
 unfoldable pub tiedAt : Racking → Record → Record → Bool
-tiedAt r x y = isRack x || (isRack y || (shareCarrier x y || meets (extentOf r x) (extentOf r y)))
+tiedAt r x y = boundTo x y || meets (extentOf r x) (extentOf r y)
+
+-- at least two columns apart, so that no extents there meet
+unfoldable pub farApart : Column → Column → Bool
+farApart a b = ltb 1 (natAbs (a .0 -ℤ b .0))
 
 -- a record's bytes and no more: known kind, fields in range
 abbrev pub whole : List ℕ → Bool
@@ -44,6 +53,20 @@ pub record Marked (program table : List ℕ) : Type 0 where
   pub long : length table ≡ 256
   pub marks : (j : ℕ) → j * 64 < length (recordsOf program) → getD table j 0 ≡ rackByte 0 (take (j * 64) (recordsOf program))
 
+-- what lies from a to b
+abbrev pub part : List ℕ → ℕ → ℕ → List ℕ
+part o a b = take (b - a) (drop a o)
+
+-- the racking in force at record i
+abbrev pub inForceAt : List ℕ → ℕ → Racking
+inForceAt program i = record { 0 = signedOf (rackByte 0 (take i (recordsOf program))) }
+
+-- a record's bytes lie from a to b
+pub record Between (program : List ℕ) (a b : ℕ) : Type 0 where
+  pub order : a ≤ b
+  pub within : b ≤ length program
+  pub reads : decodeOf (part program a b) .number ≡ 0
+
 -- what a swap answers and leaves
 unfoldable pub swapNo : Outcome (List ℕ) → ℕ
 swapNo no-pair = 12
@@ -58,7 +81,3 @@ leftBy (made m) l = m
 -- the records from a to b and from b to e change places
 unfoldable pub exchanged : List ℕ → ℕ → ℕ → ℕ → List ℕ
 exchanged o a b e = take a o ++ (take (e - b) (drop b o) ++ (take (b - a) (drop a o) ++ drop e o))
-
--- what lies from a to b
-abbrev pub part : List ℕ → ℕ → ℕ → List ℕ
-part o a b = take (b - a) (drop a o)

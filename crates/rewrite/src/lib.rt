@@ -6,8 +6,7 @@ ghost use lib.ListN.{length, take, drop, getD, set};
 ghost use Rattle.rewrite.specs.Extents.{halfColumn, layerOf, narrow, broad, formExtent, extentOf, meets, shareCarrier};
 ghost use Rattle.rewrite.specs.Programs.{flat, recordsOf, startsOf, what};
 ghost use Rattle.rewrite.specs.Rewrite.{swapOf, replay, lentNo, rewriteOf};
-ghost use Rattle.rewrite.specs.Laid.{tiedAt, Sound, Laid, Marked, rackByte, swapNo, leftBy, exchanged, part};
-ghost use Rattle.record.specs.Format.{signedOf};
+ghost use Rattle.rewrite.specs.Laid.{boundTo, tiedAt, farApart, Sound, Laid, Marked, Between, rackByte, inForceAt, swapNo, leftBy, exchanged, part};
 use machine::Column;
 use machine::Needle;
 use machine::Racking;
@@ -152,9 +151,9 @@ fn share_carrier(x: Record, y: Record) -> bool
     x.carrier == y.carrier
 }
 
-// Whether the two are tied at the racking in force.
-pub fn tied(x: Record, y: Record, r: Racking) -> bool
-    ensures { λ b. ⌜ b ≡ tiedAt r x y ⌝ }
+// Whether the two are tied whatever the racking: a rack, or one carrier.
+fn bound(x: Record, y: Record) -> bool
+    ensures { λ b. ⌜ b ≡ boundTo x y ⌝ }
 {
     if x.kind == 1 {
         return true;
@@ -162,21 +161,43 @@ pub fn tied(x: Record, y: Record, r: Racking) -> bool
     if y.kind == 1 {
         return true;
     }
-    if share_carrier(x, y) {
-        return true;
+    share_carrier(x, y)
+}
+
+// Whether at least two columns lie between them.
+fn apart(a: Column, b: Column) -> bool
+    ensures { λ f. ⌜ f ≡ farApart a b ⌝ }
+{
+    let d = (a.0 as i64) - (b.0 as i64);
+    d < -1 || 1 < d
+}
+
+// Whether the extents of the two meet at the racking in force; most are apart by their columns alone.
+fn meet(x: Record, y: Record, r: Racking) -> bool
+    ensures { λ b. ⌜ b ≡ meets (extentOf r x) (extentOf r y) ⌝ }
+{
+    let n = x.at;
+    let m = y.at;
+    let z = n.column(r);
+    if apart(z, m.column(r)) {
+        return false;
     }
     let e = extent_of(x, r);
     e.meets(extent_of(y, r))
 }
 
-// Whether the records from a to b and from b to e of the output are tied.
-fn tied_at(output: &[u8], a: usize, b: usize, e: usize, r: Racking) -> bool
-    requires { ⌜ (a ≤ b) × (b ≤ e) × (e ≤ length (now output)) ⌝ }
-    ensures { λ t. ⌜ t ≡ tiedAt r (what (part (now (output .entry)) a b)) (what (part (now (output .entry)) b e)) ⌝ }
+// Whether records i and i + 1 of the output, from a to b and from b to e, are tied. The racking in force is looked for
+// only where it matters.
+fn tied(output: &[u8], work: &[u16], table: &[u8], i: usize, a: usize, b: usize, e: usize) -> bool
+    requires { ⌜ (Laid (now output) (now work)) × (Marked (now output) (now table)) × (i < length (now work)) × (Between (now output) a b) × (Between (now output) b e) ⌝ }
+    ensures { λ t. ⌜ t ≡ tiedAt (inForceAt (now (output .entry)) i) (what (part (now (output .entry)) a b)) (what (part (now (output .entry)) b e)) ⌝ }
 {
-    let x = record::decode(&output[a..b]);
-    let y = record::decode(&output[b..e]);
-    tied(x.what, y.what, r)
+    let x = record::outline(&output[a..b]);
+    let y = record::outline(&output[b..e]);
+    if bound(x, y) {
+        return true;
+    }
+    meet(x, y, racking_at(output, work, table, i))
 }
 
 // Moves the first k bytes of a short part behind the others.
@@ -192,13 +213,31 @@ fn rotate(part: &mut [u8], k: usize)
     bytes::copy(&old[..k], &mut part[m..]);
 }
 
-// The records from a to b and from b to e change places.
+// Exchanges the two halves of a part, k bytes each.
+fn halves(part: &mut [u8], k: usize)
+    requires { ⌜ length (now part) ≡ k + k ⌝ }
+    ensures { λ _. ⌜ now (part .exit) ≡ drop k (now (part .entry)) ++ take k (now (part .entry)) ⌝ }
+{
+    let mut i: usize = 0;
+    while i < k {
+        let b = part[i];
+        part[i] = part[k + i];
+        part[k + i] = b;
+        i += 1;
+    }
+}
+
+// The records from a to b and from b to e change places. Most are equally long.
 fn exchange(output: &mut [u8], a: usize, b: usize, e: usize)
     requires { ⌜ (a ≤ b) × (b ≤ e) × (e ≤ length (now output)) × (e - a ≤ 12) ⌝ }
     ensures { λ _. ⌜ now (output .exit) ≡ exchanged (now (output .entry)) a b e ⌝ }
 {
     let k = b - a;
-    rotate(&mut output[a..e], k);
+    if e - b == k {
+        halves(&mut output[a..e], k);
+    } else {
+        rotate(&mut output[a..e], k);
+    }
 }
 
 // Writes each record's start into the front of the work area and answers how many there are.
@@ -256,7 +295,7 @@ fn marks(program: &[u8], work: &[u16], table: &mut [u8])
 // The racking in force at record i: at most 63 records are looked at.
 fn racking_at(program: &[u8], work: &[u16], table: &[u8], i: usize) -> Racking
     requires { ⌜ (Laid (now program) (now work)) × (Marked (now program) (now table)) × (i < length (now work)) ⌝ }
-    ensures { λ r. ⌜ r ≡ record { 0 = signedOf (rackByte 0 (take i (recordsOf (now (program .entry))))) } ⌝ }
+    ensures { λ r. ⌜ r ≡ inForceAt (now (program .entry)) i ⌝ }
 {
     let j = i / STRIDE;
     let b = racking_after(program, work, j * STRIDE, i, table[j]);
@@ -276,8 +315,7 @@ fn swap(output: &mut [u8], work: &mut [u16], table: &[u8], i: usize) -> u8
     let a = work[i] as usize;
     let b = work[i + 1] as usize;
     let e = b + record::size_of(output[b]);
-    let r = racking_at(output, work, table, i);
-    if tied_at(output, a, b, e, r) {
+    if tied(output, work, table, i, a, b, e) {
         return TIED;
     }
     exchange(output, a, b, e);

@@ -3,7 +3,7 @@ use mathlib.Core.Path.{_≡_, sym}
 use native.Mathlib.Omega.{arith}
 use lib.ListN.{length, take, drop, length-take, length-drop}
 use lib.Seq.{length-take-le}
-use Rattle.rewrite.proofs.Rotations.{rotated}
+use Rattle.rewrite.proofs.Rotations.{turned-by-copies}
 use borrow.Author.Needs.{needs}
 use Rattle.rewrite.proofs.rotate.Statement.{statement}
 use Rattle.rewrite.proofs.rotate.Tie as tie
@@ -55,11 +55,9 @@ same-length c = search needs
 
 returns : tie.Need-returns
 returns c =
-    let k3 = c .before .before in
-    let k2 = k3 .before .before .before .before .before in
-    let k1 = k2 .before .before .before .before .before in
-    let st = k1 .before .before .before .before in
-    rotated (st .args .part .now) _ (k1 .copy .last .1 .0) (k2 .copy2 .last .1 .0) (k3 .copy3 .last .1 .0) (st .args .k) (st .pre .0) (k1 .copy .ensures .1) (k2 .copy2 .ensures .1) (k3 .copy3 .ensures .1)
+    let st = c .before .before .before .before .before .before .before .before .before .before .before .before .before .before .before .before in
+    turned-by-copies (st .args .part .now) _ (c .before .before .before .before .before .before .before .before .before .before .before .before .copy .last .1 .0) (c .before .before .before .before .before .before .before .copy2 .last .1 .0) (c .before .before .copy3 .last .1 .0) (st .args .k) (st .pre .0)
+    (c .before .before .before .before .before .before .before .before .before .before .before .before .copy .ensures .1) (c .before .before .before .before .before .before .before .copy2 .ensures .1) (c .before .before .copy3 .ensures .1)
 
 pub rotate-spec : {M : Type 1} → statement M
 rotate-spec =

@@ -1,16 +1,15 @@
 -- Two neighbours looked at, and exchanged or left. Assumes nothing.
-use Prim.Native.Nat.{ℕ, _+_, _-_, _≤_, _<_}
+use Prim.Native.Nat.{ℕ, _+_, _≤_, _<_}
 use native.Mathlib.Omega.{arith}
 use mathlib.Core.Path.{_≡_, refl, sym, ap, _∙_}
 use mathlib.Core.List.{List}
-use lib.ListN.{length, take, getD, length-set}
+use lib.ListN.{length, getD}
 use Rattle.trace.specs.Swaps.{Outcome, no-pair, is-tied, made}
 use Rattle.rewrite.specs.Programs.{flat, recordsOf, startsOf}
 use Rattle.rewrite.specs.Rewrite.{swapOf}
-use Rattle.rewrite.specs.Laid.{Laid, swapNo, leftBy, exchanged}
+use Rattle.rewrite.specs.Laid.{Laid, swapNo, leftBy}
 use Rattle.rewrite.proofs.Records.{records-flat}
-use Rattle.rewrite.proofs.Laying.{work-length, few}
-use Rattle.rewrite.proofs.Pairs.{second, exchangedPair, second-size, Placed, placed, first-part, second-part, pair-bytes, pair-starts, pair-tied, pair-made, pair-none}
+use Rattle.rewrite.proofs.Pairs.{second, second-size, placed, first-between, second-between, pair-bytes, pair-starts, pair-tied, pair-made, pair-none}
 use borrow.Author.Needs.{needs}
 use Rattle.rewrite.proofs.swap.Statement.{statement}
 use Rattle.rewrite.proofs.swap.Tie as tie
@@ -77,12 +76,9 @@ add-e : tie.Need-add-e
 add-e c = let k = c .before .before .before .before .before .before .before .before in let p = k .args .output .now in let w = k .args .work .now in let i = k .args .i in let g = k .pre .0 in let h : i + 1 < length w = omega (arith, c .before .before .before .before .if1 .left) in let q = placed p w g i h in
     omega (arith, c .size-of .ensures, second-size p w g i h, q .ends, g .sound .short)
 
-racking-at-requires : tie.Need-racking-at-requires
-racking-at-requires c κs = let k = c .before .before .before .before .before .before .before .before .before .before in (k .pre .0, k .pre .1, omega (arith, c .before .before .before .before .before .before .if1 .left))
-
-tied-at-requires : tie.Need-tied-at-requires
-tied-at-requires c κs = let k = c .before .before .before .before .before .before .before .before .before .before .before .before in let p = k .args .output .now in let w = k .args .work .now in let i = k .args .i in let g = k .pre .0 in let h : i + 1 < length w = omega (arith, c .before .before .before .before .before .before .before .before .if1 .left) in let q = placed p w g i h in let e = c .before .before .before .before .size-of .ensures ∙ second-size p w g i h in
-    (omega (arith, q .first-long), omega (arith, e, q .second-long), omega (arith, e, q .ends))
+tied-requires : tie.Need-tied-requires
+tied-requires c κs = let k = c .before .before .before .before .before .before .before .before .before .before in let p = k .args .output .now in let w = k .args .work .now in let i = k .args .i in let g = k .pre .0 in let h : i + 1 < length w = omega (arith, c .before .before .before .before .before .before .if1 .left) in let e : getD w (i + 1) 0 + c .before .before .size-of .result ≡ getD w (i + 1) 0 + length (second p w g i h) = ap (λ (n : ℕ). getD w (i + 1) 0 + n) (c .before .before .size-of .ensures ∙ second-size p w g i h) in
+    (g, k .pre .1, omega arith, first-between p w g i h _ e, second-between p w g i h _ e)
 
 same-length : tie.Need-same-length
 same-length c = search needs
@@ -92,26 +88,23 @@ same-length-2 c = search needs
 
 returns-2 : tie.Need-returns-2
 unfolding Left
-returns-2 c = let k = c .before .before .before .before .before .before .before .before .before .before .before .before .before .before in let p = k .args .output .now in let w = k .args .work .now in let i = k .args .i in let g = k .pre .0 in let h : i + 1 < length w = omega (arith, c .before .before .before .before .before .before .before .before .before .before .if1 .left) in
-    let b = getD w (i + 1) 0 in
-    let e : b + c .before .before .before .before .before .before .size-of .result ≡ b + length (second p w g i h) = ap (λ (n : ℕ). b + n) (c .before .before .before .before .before .before .size-of .ensures ∙ second-size p w g i h) in
-    tied-left p w g i
-    (pair-tied p w g i h (c .before .before .before .racking-at .result) _ _ (c .before .before .before .racking-at .ensures) (first-part p w g i h _ e) (second-part p w g i h _ e) (sym (c .before .tied-at .ensures) ∙ c .if2 .taken))
+returns-2 c = let k = c .before .before .before .before .before .before .before .before .before .before .before .before in let p = k .args .output .now in let w = k .args .work .now in let i = k .args .i in let g = k .pre .0 in let h : i + 1 < length w = omega (arith, c .before .before .before .before .before .before .before .before .if1 .left) in let e : getD w (i + 1) 0 + c .before .before .before .before .size-of .result ≡ getD w (i + 1) 0 + length (second p w g i h) = ap (λ (n : ℕ). getD w (i + 1) 0 + n) (c .before .before .before .before .size-of .ensures ∙ second-size p w g i h) in
+    tied-left p w g i (pair-tied p w g i h _ e (sym (c .before .tied .ensures) ∙ c .if2 .taken))
 
 exchange-requires : tie.Need-exchange-requires
-exchange-requires c κs = let k = c .before .before .before .before .before .before .before .before .before .before .before .before .before .before .before in let p = k .args .output .now in let w = k .args .work .now in let i = k .args .i in let g = k .pre .0 in let h : i + 1 < length w = omega (arith, c .before .before .before .before .before .before .before .before .before .before .before .if1 .left) in let q = placed p w g i h in let e = c .before .before .before .before .before .before .before .size-of .ensures ∙ second-size p w g i h in
+exchange-requires c κs = let k = c .before .before .before .before .before .before .before .before .before .before .before .before .before in let p = k .args .output .now in let w = k .args .work .now in let i = k .args .i in let g = k .pre .0 in let h : i + 1 < length w = omega (arith, c .before .before .before .before .before .before .before .before .before .if1 .left) in let q = placed p w g i h in let e : getD w (i + 1) 0 + c .before .before .before .before .before .size-of .result ≡ getD w (i + 1) 0 + length (second p w g i h) = ap (λ (n : ℕ). getD w (i + 1) 0 + n) (c .before .before .before .before .before .size-of .ensures ∙ second-size p w g i h) in
     (omega (arith, q .first-long), omega (arith, e, q .second-long), omega (arith, e, q .ends), omega (arith, e, q .short))
 
 sub-work : tie.Need-sub-work
 sub-work c = search needs
 
 add-work : tie.Need-add-work
-add-work c = let k = c .before .before .before .before .before .before .before .before .before .before .before .before .before .before .before .before .before .before in let p = k .args .output .now in let w = k .args .work .now in let i = k .args .i in let g = k .pre .0 in let h : i + 1 < length w = omega (arith, c .before .before .before .before .before .before .before .before .before .before .before .before .before .before .if1 .left) in let q = placed p w g i h in
-    omega (arith, c .before .before .before .before .before .before .before .before .before .before .size-of .ensures, second-size p w g i h, q .first-long, q .ends, g .sound .short)
+add-work c = let k = c .before .before .before .before .before .before .before .before .before .before .before .before .before .before .before .before in let p = k .args .output .now in let w = k .args .work .now in let i = k .args .i in let g = k .pre .0 in let h : i + 1 < length w = omega (arith, c .before .before .before .before .before .before .before .before .before .before .before .before .if1 .left) in let q = placed p w g i h in
+    omega (arith, c .before .before .before .before .before .before .before .before .size-of .ensures, second-size p w g i h, q .first-long, q .ends, g .sound .short)
 
 cast-work : tie.Need-cast-work
-cast-work c = let k = c .before .before .before .before .before .before .before .before .before .before .before .before .before .before .before .before .before .before in let p = k .args .output .now in let w = k .args .work .now in let i = k .args .i in let g = k .pre .0 in let h : i + 1 < length w = omega (arith, c .before .before .before .before .before .before .before .before .before .before .before .before .before .before .if1 .left) in let q = placed p w g i h in
-    omega (arith, c .before .before .before .before .before .before .before .before .before .before .size-of .ensures, second-size p w g i h, q .first-long, q .ends, g .sound .short)
+cast-work c = let k = c .before .before .before .before .before .before .before .before .before .before .before .before .before .before .before .before in let p = k .args .output .now in let w = k .args .work .now in let i = k .args .i in let g = k .pre .0 in let h : i + 1 < length w = omega (arith, c .before .before .before .before .before .before .before .before .before .before .before .before .if1 .left) in let q = placed p w g i h in
+    omega (arith, c .before .before .before .before .before .before .before .before .size-of .ensures, second-size p w g i h, q .first-long, q .ends, g .sound .short)
 
 add-work-2 : tie.Need-add-work-2
 add-work-2 c = search needs
@@ -130,11 +123,8 @@ same-length-4 c = search needs
 
 returns-3 : tie.Need-returns-3
 unfolding Left
-returns-3 c = let k = c .before .before .before .before .before .before .before .before .before .before .before .before .before .before .before .before .before .before in let p = k .args .output .now in let w = k .args .work .now in let i = k .args .i in let g = k .pre .0 in let h : i + 1 < length w = omega (arith, c .before .before .before .before .before .before .before .before .before .before .before .before .before .before .if1 .left) in
-    let b = getD w (i + 1) 0 in
-    let e : b + c .before .before .before .before .before .before .before .before .before .before .size-of .result ≡ b + length (second p w g i h) = ap (λ (n : ℕ). b + n) (c .before .before .before .before .before .before .before .before .before .before .size-of .ensures ∙ second-size p w g i h) in
-    made-left p w g i
-    (pair-made p w g i h (c .before .before .before .before .before .before .before .racking-at .result) _ _ (c .before .before .before .before .before .before .before .racking-at .ensures) (first-part p w g i h _ e) (second-part p w g i h _ e) (sym (c .before .before .before .before .before .tied-at .ensures) ∙ c .before .before .before .before .if2 .left))
+returns-3 c = let k = c .before .before .before .before .before .before .before .before .before .before .before .before .before .before .before .before in let p = k .args .output .now in let w = k .args .work .now in let i = k .args .i in let g = k .pre .0 in let h : i + 1 < length w = omega (arith, c .before .before .before .before .before .before .before .before .before .before .before .before .if1 .left) in let e : getD w (i + 1) 0 + c .before .before .before .before .before .before .before .before .size-of .result ≡ getD w (i + 1) 0 + length (second p w g i h) = ap (λ (n : ℕ). getD w (i + 1) 0 + n) (c .before .before .before .before .before .before .before .before .size-of .ensures ∙ second-size p w g i h) in
+    made-left p w g i (pair-made p w g i h _ e (sym (c .before .before .before .before .before .tied .ensures) ∙ c .before .before .before .before .if2 .left))
     (c .before .before .exchange .ensures ∙ pair-bytes p w g i h _ e) (pair-starts p w g i h _ e)
 
 pub swap-spec : {M : Type 1} → statement M
@@ -153,8 +143,7 @@ swap-spec =
     slice-read-size-of
     size-of-requires
     add-e
-    racking-at-requires
-    tied-at-requires
+    tied-requires
     same-length
     same-length-2
     returns-2

@@ -1,37 +1,73 @@
--- Four tests. Assumes nothing.
+-- What holds at every racking first, then the extents. Assumes nothing.
 use borrow.Author.Needs.{needs}
-use mathlib.Core.Path.{_≡_, sym, ap, _∙_}
-use Rattle.rewrite.specs.Extents.{meets}
-use Rattle.rewrite.proofs.Extents.{rack-first, rack-second, carrier-shared, extents-only}
+use mathlib.Core.Path.{_≡_, sym, _∙_}
+use Rattle.record.specs.declared.Record.{Record}
+use Rattle.record.specs.Names.{outlineOf}
+use Rattle.rewrite.specs.Extents.{extentOf, meets}
+use Rattle.rewrite.specs.Programs.{what}
+use Rattle.rewrite.specs.Laid.{boundTo, inForceAt, part}
+use Rattle.rewrite.proofs.Extents.{bound-tied, unbound-tied, outline-extent, outline-bound}
 use Rattle.rewrite.proofs.tied.Statement.{statement}
 use Rattle.rewrite.proofs.tied.Tie as tie
 
+sub-outline : tie.Need-sub-outline
+sub-outline c = c .before .before .before .pre .3 .order
+
+part-outline-start : tie.Need-part-outline-start
+part-outline-start c = search needs
+
+part-outline-end : tie.Need-part-outline-end
+part-outline-end c = search needs
+
+outline-requires : tie.Need-outline-requires
+outline-requires c κs = c .before .before .before .before .pre .3 .reads
+
+sub-outline-2 : tie.Need-sub-outline-2
+sub-outline-2 c = c .before .before .before .before .before .pre .4 .order
+
+part-outline-start-2 : tie.Need-part-outline-start-2
+part-outline-start-2 c = search needs
+
+part-outline-end-2 : tie.Need-part-outline-end-2
+part-outline-end-2 c = search needs
+
+outline-requires-2 : tie.Need-outline-requires-2
+outline-requires-2 c κs = c .before .before .before .before .before .before .pre .4 .reads
+
+bound-requires : tie.Need-bound-requires
+bound-requires c κs = search needs
+
 returns : tie.Need-returns
-returns c = let a = c .before .before .args in sym (rack-first (a .r) (a .x) (a .y) (c .if1 .taken))
+returns c = let a = c .before .before .before .before .before .before .before .before .before .args in let o = a .output .now in let x = what (part o (a .a) (a .b)) in let y = what (part o (a .b) (a .e)) in
+    sym (bound-tied x y (inForceAt o (a .i)) (sym (outline-bound x y) ∙ (λ i. boundTo (sym (c .before .before .before .before .outline .ensures) i) (sym (c .before .before .outline2 .ensures) i)) ∙ sym (c .before .bound .ensures) ∙ c .if1 .taken))
+
+racking-at-requires : tie.Need-racking-at-requires
+racking-at-requires c κs = let p = c .before .before .before .before .before .before .before .before .before .pre in (p .0, p .1, p .2)
+
+meet-requires : tie.Need-meet-requires
+meet-requires c κs = search needs
 
 returns-2 : tie.Need-returns-2
-returns-2 c = let a = c .before .before .before .before .args in sym (rack-second (a .r) (a .x) (a .y) (c .before .before .if1 .left) (c .if2 .taken))
-
-share-carrier-requires : tie.Need-share-carrier-requires
-share-carrier-requires c κs = search needs
-
-returns-3 : tie.Need-returns-3
-returns-3 c = let a = c .before .before .before .before .before .before .args in sym (carrier-shared (a .r) (a .x) (a .y) (c .before .before .before .before .if1 .left) (c .before .before .if2 .left) (sym (c .before .share-carrier .ensures) ∙ c .if3 .taken))
-
-extent-of-requires : tie.Need-extent-of-requires
-extent-of-requires c κs = search needs
-
-extent-of-requires-2 : tie.Need-extent-of-requires-2
-extent-of-requires-2 c κs = search needs
-
-meets-requires : tie.Need-meets-requires
-meets-requires c κs = search needs
-
-returns-4 : tie.Need-returns-4
-returns-4 c = let a = c .before .before .before .before .before .before .before .before .before .args in
-    c .meets .ensures ∙ (λ i. meets (c .before .before .extent-of .ensures i) (c .before .extent-of2 .ensures i))
-    ∙ sym (extents-only (a .r) (a .x) (a .y) (c .before .before .before .before .before .before .before .if1 .left) (c .before .before .before .before .before .if2 .left) (sym (c .before .before .before .before .share-carrier .ensures) ∙ c .before .before .before .if3 .left))
+returns-2 c = let a = c .before .before .before .before .before .before .before .before .before .before .before .args in let o = a .output .now in let x = what (part o (a .a) (a .b)) in let y = what (part o (a .b) (a .e)) in let r = inForceAt o (a .i) in
+    c .meet .ensures
+    ∙ (λ i. meets (extentOf (c .before .racking-at .ensures i) (c .before .before .before .before .before .before .outline .ensures i)) (extentOf (c .before .racking-at .ensures i) (c .before .before .before .before .outline2 .ensures i)))
+    ∙ (λ i. meets (outline-extent r x i) (outline-extent r y i))
+    ∙ sym (unbound-tied x y r (sym (outline-bound x y) ∙ (λ i. boundTo (sym (c .before .before .before .before .before .before .outline .ensures) i) (sym (c .before .before .before .before .outline2 .ensures) i)) ∙ sym (c .before .before .before .bound .ensures) ∙ c .before .before .if1 .left))
 
 pub tied-spec : {M : Type 1} → statement M
 tied-spec =
-    tie.close (tie.spec returns returns-2 share-carrier-requires returns-3 extent-of-requires extent-of-requires-2 meets-requires returns-4)
+    tie.close
+    (tie.spec
+    sub-outline
+    part-outline-start
+    part-outline-end
+    outline-requires
+    sub-outline-2
+    part-outline-start-2
+    part-outline-end-2
+    outline-requires-2
+    bound-requires
+    returns
+    racking-at-requires
+    meet-requires
+    returns-2)
