@@ -16,4 +16,4 @@ pub read-back : ReadBack
 read-back p = word-read (runOf p) (omega (arith, place-bound p))
 
 pub rewrite-read-back : RewriteReadBack
-rewrite-read-back p log output work = word-read (rewriteOf p log output work .answer) (rewrite-bound p log output work)
+rewrite-read-back p log output work = word-read (rewriteOf p log output work .answer) (omega (arith, rewrite-bound p log output work))

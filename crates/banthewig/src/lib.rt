@@ -25,7 +25,12 @@ pub extern "C" fn knitout_run(program: &[u8]) -> u64
 // Rewrites a program by a log: number times 65,536 plus place. The output begins with the program as the swaps left it,
 // the work area with its records' starts; numbers 1 to 11 write nothing.
 #[no_mangle]
-pub extern "C" fn knitout_rewrite(program: &[u8], log: &[u8], output: &mut [u8], work: &mut [u16]) -> u64
+pub extern "C" fn knitout_rewrite(
+    program: &[u8],
+    log: &[u8],
+    output: &mut [u8],
+    work: &mut [u16],
+) -> u64
     ensures answer { λ n. ⌜ n ≡ packed (rewriteOf (now (program .entry)) (now (log .entry)) (now (output .entry)) (now (work .entry)) .answer) ⌝ }
     ensures bytes { λ _. ⌜ now (output .exit) ≡ rewriteOf (now (program .entry)) (now (log .entry)) (now (output .entry)) (now (work .entry)) .output ⌝ }
     ensures starts { λ _. ⌜ now (work .exit) ≡ rewriteOf (now (program .entry)) (now (log .entry)) (now (output .entry)) (now (work .entry)) .work ⌝ }

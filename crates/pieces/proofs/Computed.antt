@@ -20,7 +20,7 @@ use Rattle.run.specs.Run.{runOf, runFrom, turn, answerOf}
 use Rattle.trace.specs.Records.{tied}
 use Rattle.rewrite.specs.Extents.{halfColumn, layerOf, extentOf, meets, member, common}
 use Rattle.rewrite.specs.Programs.{cut, startsOf, sameBytes, knitting}
-use Rattle.rewrite.specs.Rewrite.{noRacking, replay, lentNo, rewriteOf}
+use Rattle.rewrite.specs.Rewrite.{rackingZero, replay, lentNo, rewriteOf}
 use Rattle.rewrite.proofs.Lawful.{lawful}
 use Rattle.pieces.specs.Rows.{Row, rows, Swap, swaps, Pair, pairs}
 use Rattle.pieces.specs.Pieces.{Each, Holds, front, rewritten, Rewrites, Ties, PiecesHold}
@@ -107,7 +107,7 @@ swap-says r e =
     record { number = eqb-true _ _ p; place = eqb-true _ _ q; output = lawful .same-eq _ _ t; work = lawful .same-eq _ _ u }
 
 pairTest : Pair → Bool
-pairTest r = sameBool (tied knitting noRacking (r .first) (r .second)) (r .tied)
+pairTest r = sameBool (tied knitting rackingZero (r .first) (r .second)) (r .tied)
 
 pair-says : (r : Pair) → pairTest r ≡ true → Ties r
 unfolding pairTest

@@ -9,7 +9,7 @@ use Rattle.machine.specs.Machine.{loopsOn, carrierOf}
 use Rattle.run.specs.Run.{runOf}
 use Rattle.trace.specs.Records.{tied}
 use Rattle.rewrite.specs.Programs.{knitting}
-use Rattle.rewrite.specs.Rewrite.{noRacking, Rewritten, rewriteOf}
+use Rattle.rewrite.specs.Rewrite.{rackingZero, Rewritten, rewriteOf}
 use Rattle.pieces.specs.Rows.{Row, rows, Swap, swaps, Pair, pairs}
 
 -- true of each element
@@ -42,7 +42,7 @@ pub record Rewrites (r : Swap) : Type 0 where
   pub work : rewritten r .work ≡ front (r .starts) (r .program)
 
 abbrev pub Ties : Pair → Type 0
-Ties r = tied knitting noRacking (r .first) (r .second) ≡ r .tied
+Ties r = tied knitting rackingZero (r .first) (r .second) ≡ r .tied
 
 abbrev pub PiecesHold : Type 0
 PiecesHold = Each Holds rows × Each Rewrites swaps × Each Ties pairs

@@ -17,19 +17,23 @@ use Rattle.trace.specs.Machine.{Kept}
 use Rattle.trace.proofs.Theorems.{made-iff-untied, refused-iff-tied, reaches-exactly, swaps-keep}
 use Rattle.trace.proofs.Swaps.{swaps-append}
 use Rattle.rewrite.specs.Programs.{flat, recordsOf, knitting, needle, carrier, names}
-use Rattle.rewrite.specs.Rewrite.{noRacking, swapOf, Replay, ended, replay, Rewritten, written}
-use Rattle.rewrite.specs.Calls.{Call, callOf, numberOf, handedOn, after, AllAccepted}
-use Rattle.rewrite.specs.Claims.{RecordsEndToEnd, MeetsExactly, EqualRecordsTied, PlaceIsSmall, SameProgram, Keeps, ComesTo, MadeExactly, Demand3}
+use Rattle.rewrite.specs.Rewrite.{rackingZero, swapOf, Replay, ended, replay, Rewritten, written}
+use Rattle.rewrite.specs.Calls.{Call, callOf, numberOf, handedOn, after, logOf, AllAccepted}
+use Rattle.rewrite.specs.Claims.{RecordsEndToEnd, EachEncodes, RecordsEncode, TiedExactly, EqualRecordsTied, RewritePlaceIsSmall, SameProgram, Keeps, Lent, ComesTo, SwapExactly, Demand3}
+use Rattle.rewrite.specs.Laid.{Whole}
 use Rattle.rewrite.proofs.Machine.{machine, Good}
-use Rattle.rewrite.proofs.Lawful.{lawful, orderly, meets-exactly, equal-tied}
-use Rattle.rewrite.proofs.Records.{records-flat}
+use Rattle.rewrite.proofs.Lawful.{lawful, orderly, tied-exactly, equal-tied}
+use Rattle.rewrite.proofs.Records.{records-flat, whole-form, steps-whole}
 use Rattle.rewrite.proofs.Joined.{valid-ends, ends-valid}
-use Rattle.rewrite.proofs.Replays.{swaps-moved, replay-made, replay-tied, replay-place, replay-front}
+use Rattle.rewrite.proofs.Replays.{swaps-moved, replay-made, replay-tied, replay-place, replay-front, replay-log}
 use Rattle.rewrite.proofs.Rewriting.{place-small}
 use Rattle.rewrite.proofs.Handed.{call-written, moved-length, handed-on, call-of-swap}
 
 -- ---- a swap that a log comes to
-module _ {p : List ℕ} {t : State} (w : Valid p t) (c : Call) (front rest : List ℕ) (u v : List (List ℕ)) (x y : List ℕ) (h : ComesTo p c front u x y v rest) where
+module _ {p : List ℕ} {t : State} (w : Valid p t) (c : Call) (is rest : List ℕ) (u v : List (List ℕ)) (x y : List ℕ) (h : ComesTo p c is u x y v rest) where
+  abbrev front : List ℕ
+  front = logOf is
+
   -- the log is replayed up to it
   up-to : callOf p c ≡ written p (replay (64 ∷ h .high ∷ h .low ∷ rest) (length front) (u ++ x ∷ y ∷ v)) (c .output) (c .work)
   up-to =
@@ -38,24 +42,24 @@ module _ {p : List ℕ} {t : State} (w : Valid p t) (c : Call) (front rest : Lis
       call-written w c (h .lent)
       ∙ ap (λ (r : Replay). written p r (c .output) (c .work))
       (ap (λ (log : List ℕ). replay log 0 (recordsOf p)) (h .log)
-      ∙ replay-front front swap 0 0 (recordsOf p) (u ++ x ∷ y ∷ v) (h .before)
+      ∙ replay-front front swap 0 0 (recordsOf p) (u ++ x ∷ y ∷ v) (replay-log (h .before) 0)
       ∙ ap (λ (n : ℕ). replay swap n (u ++ x ∷ y ∷ v)) e)
 
   at-pair : swapOf (h .high * 256 + h .low) (u ++ x ∷ y ∷ v) ≡ swapOf (length u) (u ++ x ∷ y ∷ v)
   at-pair = ap (λ (i : ℕ). swapOf i (u ++ x ∷ y ∷ v)) (sym (h .position))
 
   abbrev areTied : Bool
-  areTied = tied knitting (inForce knitting noRacking u) x y
+  areTied = tied knitting (inForce knitting rackingZero u) x y
 
   swap-made : areTied ≡ false → callOf p c ≡ written p (replay rest (length front + 3) (u ++ y ∷ x ∷ v)) (c .output) (c .work)
   swap-made e =
       up-to ∙ ap (λ (r : Replay). written p r (c .output) (c .work))
-      (replay-made (h .high) (h .low) rest (length front) (u ++ x ∷ y ∷ v) (u ++ y ∷ x ∷ v) (at-pair ∙ made-iff-untied knitting noRacking u x y v .1 e))
+      (replay-made (h .high) (h .low) rest (length front) (u ++ x ∷ y ∷ v) (u ++ y ∷ x ∷ v) (at-pair ∙ made-iff-untied knitting rackingZero u x y v .1 e))
 
   swap-refused : areTied ≡ true → callOf p c ≡ written p (ended 13 (length front) (u ++ x ∷ y ∷ v)) (c .output) (c .work)
   swap-refused e =
       up-to ∙ ap (λ (r : Replay). written p r (c .output) (c .work))
-      (replay-tied (h .high) (h .low) rest (length front) (u ++ x ∷ y ∷ v) (at-pair ∙ refused-iff-tied knitting noRacking u x y v .1 e))
+      (replay-tied (h .high) (h .low) rest (length front) (u ++ x ∷ y ∷ v) (at-pair ∙ refused-iff-tied knitting rackingZero u x y v .1 e))
 
   -- a swap that is made leaves no 13 at its place
   later-place : areTied ≡ false → numberOf p c ≡ 13 → length front + 3 ≤ callOf p c .answer .place
@@ -64,7 +68,7 @@ module _ {p : List ℕ} {t : State} (w : Valid p t) (c : Call) (front rest : Lis
       let z = ap (λ (r : Rewritten). r .answer .number) f in
       omega (arith, ap (λ (r : Rewritten). r .answer .place) f, replay-place rest (length front + 3) (u ++ y ∷ x ∷ v) (λ k. omega (arith, z, k, n)))
 
-  made-exactly : MadeExactly p c front u x y v rest
+  made-exactly : SwapExactly p c (length front) u x y v rest
   made-exactly =
       record {
         made = swap-made;
@@ -75,19 +79,25 @@ module _ {p : List ℕ} {t : State} (w : Valid p t) (c : Call) (front rest : Lis
         );
       }
 
+-- a log of swaps that are made
+log-done : {p : List ℕ} {t : State} → Valid p t → (c : Call) (is : List ℕ) (m : List (List ℕ)) → Lent p c → c .log ≡ logOf is → Swaps knitting rackingZero is (recordsOf p) m
+    → callOf p c ≡ written p (ended 0 0 m) (c .output) (c .work)
+log-done {p} w c is m lent e s =
+    call-written w c lent ∙ ap (λ (r : Replay). written p r (c .output) (c .work)) (ap (λ (log : List ℕ). replay log 0 (recordsOf p)) e ∙ replay-log s 0)
+
 -- ---- every list of calls
 -- every program starts at racking 0
-empty-racking : emptyState .racking ≡ noRacking
+empty-racking : emptyState .racking ≡ rackingZero
 unfolding emptyState
 empty-racking = refl
 
 -- swaps of a valid program's records keep all that is to be kept
-kept-swaps : {p : List ℕ} {t : State} {is : List ℕ} {m : List (List ℕ)} → Valid p t → Swaps knitting noRacking is (recordsOf p) m → Kept knitting machine names emptyState t (recordsOf p) m
+kept-swaps : {p : List ℕ} {t : State} {is : List ℕ} {m : List (List ℕ)} → Valid p t → Swaps knitting rackingZero is (recordsOf p) m → Kept knitting machine names emptyState t (recordsOf p) m
 kept-swaps {p} {t} {is} {m} v s =
     swaps-keep knitting machine names Good lawful orderly emptyState t tt is (recordsOf p) m (valid-ends v)
     (subst (λ (r : Racking). Swaps knitting r is (recordsOf p) m) (sym empty-racking) s)
 
-keeps-all : {p q : List ℕ} {t : State} {is : List ℕ} → Valid p t → Swaps knitting noRacking is (recordsOf p) (recordsOf q) → Keeps p t q
+keeps-all : {p q : List ℕ} {t : State} {is : List ℕ} → Valid p t → Swaps knitting rackingZero is (recordsOf p) (recordsOf q) → Keeps p t q
 keeps-all {p} {q} {t} {is} v s =
     let k : Kept knitting machine names emptyState t (recordsOf p) (recordsOf q) = kept-swaps v s in
     let n : length q ≡ length p = sym (ap length (records-flat q)) ∙ moved-length v (swaps-moved knitting s) in
@@ -99,7 +109,7 @@ keeps-all {p} {q} {t} {is} v s =
     }
 
 -- every list of calls leaves a program that swaps reach
-after-swaps : (cs : List Call) (p : List ℕ) {t : State} → Valid p t → (is : List ℕ) × Swaps knitting noRacking is (recordsOf p) (recordsOf (after p cs))
+after-swaps : (cs : List Call) (p : List ℕ) {t : State} → Valid p t → (is : List ℕ) × Swaps knitting rackingZero is (recordsOf p) (recordsOf (after p cs))
 after-swaps [] p v = ([], no-swap)
 after-swaps (c ∷ cs) p v =
     let (is, s) = handed-on v c in
@@ -110,7 +120,7 @@ after-keeps : {p : List ℕ} {t : State} → Valid p t → (cs : List Call) → 
 after-keeps {p} v cs = keeps-all v (after-swaps cs p v .1)
 
 -- swaps that are made are calls that answer 0, one for each
-one-by-one : {is : List ℕ} {l m : List (List ℕ)} → Swaps knitting noRacking is l m → (p : List ℕ) {t : State} → Valid p t → recordsOf p ≡ l
+one-by-one : {is : List ℕ} {l m : List (List ℕ)} → Swaps knitting rackingZero is l m → (p : List ℕ) {t : State} → Valid p t → recordsOf p ≡ l
     → (cs : List Call) × (recordsOf (after p cs) ≡ m) × AllAccepted p cs
 one-by-one no-swap p v q = ([], q, tt)
 one-by-one (swap-first {i} {is} {l} {m} {n} e s) p v q =
@@ -122,7 +132,7 @@ one-by-one (swap-first {i} {is} {l} {m} {n} e s) p v q =
 -- so that every program with the same records and the same order of tied ones is reached
 by-calls : {p : List ℕ} {t : State} → Valid p t → (q : List ℕ) → SameProgram p q → (cs : List Call) × (after p cs ≡ q) × AllAccepted p cs
 by-calls {p} v q s =
-    let (is, r) = reaches-exactly knitting lawful noRacking (recordsOf p) (recordsOf q) .1 (s .records, s .order) in
+    let (is, r) = reaches-exactly knitting lawful rackingZero (recordsOf p) (recordsOf q) .1 (s .records, s .order) in
     let (cs, e, a) = one-by-one r p v refl in
     (cs, sym (records-flat (after p cs)) ∙ ap flat e ∙ records-flat q, a)
 
@@ -130,20 +140,28 @@ by-calls {p} v q s =
 pub end-to-end : RecordsEndToEnd
 end-to-end = records-flat
 
-pub extents-meet : MeetsExactly
-extents-meet = meets-exactly
+each-encodes : (l : List (List ℕ)) → Whole l → EachEncodes l
+each-encodes [] w = tt
+each-encodes (x ∷ l) (w, v) = (whole-form x w, each-encodes l v)
+
+pub records-encode : RecordsEncode
+records-encode p t v = each-encodes (recordsOf p) (steps-whole (v .steps))
+
+pub ties : TiedExactly
+ties = tied-exactly
 
 pub equals-tied : EqualRecordsTied
 equals-tied = equal-tied
 
-pub place-bound : PlaceIsSmall
+pub place-bound : RewritePlaceIsSmall
 place-bound = place-small
 
 pub demand-3 : Demand3
 demand-3 p t v =
     record {
       keeps = after-keeps v;
-      exactly = λ cs c front rest u w x y. made-exactly (after-keeps v cs .valid) c front rest u w x y;
+      exactly = λ cs c is rest u w x y. made-exactly (after-keeps v cs .valid) c is rest u w x y;
+      done = λ cs c is m. log-done (after-keeps v cs .valid) c is m;
       reached = λ q. (
         (λ (cs, e). subst (SameProgram p) e (after-keeps v cs .same)),
         (λ s. let (cs, e, a) = by-calls v q s in (cs, e)),

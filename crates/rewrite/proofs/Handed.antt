@@ -16,7 +16,7 @@ use Rattle.run.proofs.Premises.{by, is}
 use Rattle.run.proofs.Demand.{final}
 use Rattle.trace.specs.Swaps.{made, Swaps, no-swap, swap-first}
 use Rattle.rewrite.specs.Programs.{flat, recordsOf, knitting}
-use Rattle.rewrite.specs.Rewrite.{noRacking, swapOf, Replay, ended, replay, lentNo, Rewritten, refused, written, rewriteOf}
+use Rattle.rewrite.specs.Rewrite.{rackingZero, swapOf, Replay, ended, replay, lentNo, Rewritten, refused, written, rewriteOf}
 use Rattle.rewrite.specs.Calls.{Below, Call, callOf, numberOf, handedOn, logOf, Accepted}
 use Rattle.rewrite.specs.Laid.{Whole}
 use Rattle.rewrite.proofs.Records.{records-flat, flat-records, steps-whole, whole-length}
@@ -70,7 +70,7 @@ module _ {p : List ℕ} {t : State} (v : Valid p t) where
       ∙ take-at (flat (r .left)) (drop (length p) (c .output)) (length p) (moved-length (replay-moved (c .log) 0 (recordsOf p))))
 
   -- so that every call hands on what swaps reach
-  pub handed-on : (c : Call) → (is : List ℕ) × Swaps knitting noRacking is (recordsOf p) (recordsOf (handedOn p c))
+  pub handed-on : (c : Call) → (is : List ℕ) × Swaps knitting rackingZero is (recordsOf p) (recordsOf (handedOn p c))
   handed-on c =
       is (lent p c) 0
       (λ e. let (js, s) = replay-swaps (c .log) 0 (recordsOf p) in
@@ -104,13 +104,13 @@ swap-lent p i h k =
 module _ {p : List ℕ} {t : State} (v : Valid p t) (i : ℕ) {m : List (List ℕ)} (e : swapOf i (recordsOf p) ≡ made m) where
   -- a position is a 16-bit number: a program has at most 16,384 records
   small : i < 65536
-  small = omega (arith, made-pair knitting (recordsOf p) m noRacking i e, whole-length (recordsOf p) (valid-whole v), ap length (records-flat p), v .short)
+  small = omega (arith, made-pair knitting (recordsOf p) m rackingZero i e, whole-length (recordsOf p) (valid-whole v), ap length (records-flat p), v .short)
 
   -- its call, which answers 0 and hands on the records with the swap made
   abbrev one : Call
   one = swapCall (length p) i small
 
-  one-swap : Swaps knitting noRacking (i ∷ []) (recordsOf p) m
+  one-swap : Swaps knitting rackingZero (i ∷ []) (recordsOf p) m
   one-swap = swap-first e no-swap
 
   one-replay : replay (one .log) 0 (recordsOf p) ≡ ended 0 0 m

@@ -1,4 +1,4 @@
--- The laws that the theory of swaps (crate trace) asks of records and of the machine, and two claims of extents. Assumes nothing.
+-- The laws that the theory of swaps (crate trace) asks of records and of the machine, and ties in 01's words. Assumes nothing.
 use Prim.Native.Nat.{ℕ, _≤_}
 use mathlib.Core.Path.{_≡_, refl, sym, ap, subst, _∙_}
 use mathlib.Core.Bool.{Bool, true, false, _||_, true≢false, and-comm}
@@ -26,9 +26,10 @@ use Rattle.trace.specs.Records.{Lawful, tied}
 use Rattle.trace.specs.Machine.{andThen, Orderly}
 use Rattle.trace.proofs.Tests.{by-test}
 use Rattle.rewrite.specs.declared.Extent.{Extent}
-use Rattle.rewrite.specs.Extents.{halfColumn, extentOf, meets, member, common, shareCarrier, isRack, rackingAfter}
+use mathlib.Core.Logic.{_↔_}
+use Rattle.rewrite.specs.Extents.{halfColumn, extentOf, Share, meets, member, common, shareCarrier, isRack, rackingAfter}
 use Rattle.rewrite.specs.Programs.{what, sameBytes, knitting, memberNeedle, Named, needle, carrier, names}
-use Rattle.rewrite.specs.Claims.{MeetsExactly, EqualRecordsTied}
+use Rattle.rewrite.specs.Claims.{Tied, TiedExactly, EqualRecordsTied}
 use Rattle.rewrite.specs.Laid.{whole}
 use Rattle.rewrite.proofs.Machine.{machine, Good}
 use Rattle.rewrite.proofs.Edits.{Each}
@@ -36,7 +37,7 @@ use Rattle.rewrite.proofs.Footprints.{footprint, some-layer, share-meet
 use Rattle.rewrite.proofs.Commute.{needle-eq, racking-left, number-settled, racking-applied, untied-commute}
 
 -- ---- extents
-pub meets-exactly : MeetsExactly
+meets-exactly : (r : Racking) (x y : Record) → x .carrier ≤ 10 → y .carrier ≤ 10 → (meets (extentOf r x) (extentOf r y) ≡ true) ↔ Share (extentOf r x) (extentOf r y)
 meets-exactly r x y g h =
     let (k, p) = some-layer (footprint r x) g in let (m, q) = some-layer (footprint r y) h in (
       meets-share (extentOf r x) (extentOf r y) (halfColumn (x .at) r) (halfColumn (y .at) r) k m p q,
@@ -97,6 +98,21 @@ common-member i [] js e f = absurd (true≢false (sym e))
 common-member i (j ∷ is) js e f =
     by-test (eqb i j) (λ q. let p : member j js ≡ true = subst (λ (n : ℕ). member n js ≡ true) (eqb-true i j q) f in simp p)
     (λ q. let p = common-member i is js (sym (simp q) ∙ e) f in by-test (member j js) (λ m. simp m) (λ m. simp (m, p)))
+
+member-self : (i : ℕ) (l : List ℕ) → member i (i ∷ l) ≡ true
+unfolding member
+member-self i l = simp (eq-eqb i i refl)
+
+member-more : (i j : ℕ) (l : List ℕ) → member i l ≡ true → member i (j ∷ l) ≡ true
+unfolding member
+member-more i j l e = by-test (eqb i j) (λ q. simp q) (λ q. simp (q, e))
+
+common-some : (is js : List ℕ) → common is js ≡ true → (k : ℕ) × (member k is ≡ true) × (member k js ≡ true)
+unfolding common
+common-some [] js e = absurd (true≢false (sym e))
+common-some (i ∷ is) js e =
+    by-test (member i js) (λ m. (i, member-self i is, m))
+    (λ m. let (k, p, q) = common-some is js (sym (simp m) ∙ e) in (k, member-more k i is p, q))
 
 -- ---- the laws of records
 same-self : (x : List ℕ) → sameBytes x x ≡ true
@@ -214,3 +230,29 @@ orderly =
       commute = λ s x y g t. commute s x y t;
       named = λ n s t u x y g e f p q. named n s t u x y e f p q;
     }
+
+-- ---- a tie in 01's words
+tied-words : (r : Racking) (x y : List ℕ) → tied knitting r x y ≡ true → Tied r x y
+tied-words r x y e =
+    by-test (isRack (what x)) (λ a. Tied.first-rack (eqb-true _ 1 a)) λ a.
+    by-test (isRack (what y)) (λ b. Tied.second-rack (eqb-true _ 1 b)) λ b.
+    by-test (shareCarrier (what x) (what y)) (λ c. let (k, p, q) = common-some (carriersOf (what x)) (carriersOf (what y)) c in Tied.one-carrier k p q) λ c.
+    Tied.extents-meet (meets-exactly r (what x) (what y) (carrier-high x) (carrier-high y) .0 (sym (simp (a, b, c)) ∙ e))
+
+or-tied : (a b c d : Bool) → (a ≡ false → b ≡ false → c ≡ false → d ≡ true) → (a || (b || (c || d))) ≡ true
+or-tied true b c d f = refl
+or-tied false true c d f = refl
+or-tied false false true d f = refl
+or-tied false false false d f = f refl refl refl
+
+words-tied : (r : Racking) (x y : List ℕ) → Tied r x y → tied knitting r x y ≡ true
+words-tied r x y t = or-tied (isRack (what x)) (isRack (what y)) (shareCarrier (what x) (what y)) (meets (extentOf r (what x)) (extentOf r (what y))) (last t)
+  where
+    last : Tied r x y → isRack (what x) ≡ false → isRack (what y) ≡ false → shareCarrier (what x) (what y) ≡ false → meets (extentOf r (what x)) (extentOf r (what y)) ≡ true
+    last (Tied.first-rack e) a b c = absurd (eqb-false _ 1 a e)
+    last (Tied.second-rack e) a b c = absurd (eqb-false _ 1 b e)
+    last (Tied.one-carrier k p q) a b c = absurd (true≢false (sym (common-member k (carriersOf (what x)) (carriersOf (what y)) p q) ∙ c))
+    last (Tied.extents-meet s) a b c = meets-exactly r (what x) (what y) (carrier-high x) (carrier-high y) .1 s
+
+pub tied-exactly : TiedExactly
+tied-exactly r x y = (tied-words r x y, words-tied r x y)

@@ -77,7 +77,7 @@ module _ (p w : List ℕ) (laid : Laid p w) where
       let cut : l ≡ u ++ x ∷ v = split-at l j [] i in
       let n : length u ≡ j = length-take-le j l (omega arith) in
       let s : getD w j 0 ≡ length (flat u) =
-        ap (λ (q : List ℕ). getD q j 0) (laid .starts) ∙ (λ k. getD (startsOf 0 (cut k)) (sym n k) 0) ∙ start-between u x v in
+      ap (λ (q : List ℕ). getD q j 0) (laid .starts) ∙ (λ k. getD (startsOf 0 (cut k)) (sym n k) 0) ∙ start-between u x v in
       let e : whole x ≡ true = whole-part u (x ∷ v) (subst Whole cut (laid .sound .whole)) .1 .0 in
       let whole-p : p ≡ flat (u ++ x ∷ v) = sym (records-flat p) ∙ ap flat cut in
       record {
@@ -154,7 +154,7 @@ module _ (p : List ℕ) (sound : Sound p) (n at : ℕ) (h : Upto p n at) where
         let k = not-yet i in
         let e : take (n + 1) l ≡ take n l ++ nth p n ∷ [] = ap (λ (m : ℕ). take m l) (add-one n) ∙ take-suc l n [] k in
         let f : length (flat (take (n + 1) l)) ≡ length (flat (take n l)) + length (nth p n) =
-          ap (λ (m : List (List ℕ)). length (flat m)) e ∙ length-between (take n l) (nth p n) [] ∙ omega arith in
+        ap (λ (m : List (List ℕ)). length (flat m)) e ∙ length-between (take n l) (nth p n) [] ∙ omega arith in
         record { some = omega arith; place = omega (arith, f, h .place, kind-next) }
 
     -- the work area with it

@@ -15,7 +15,7 @@ use Rattle.trace.specs.Swaps.{Outcome, no-pair, is-tied, made, swapAt}
 use Rattle.trace.proofs.Swaps.{behind-made, front-made}
 use Rattle.rewrite.specs.Extents.{isRack, shareCarrier, meets, extentOf}
 use Rattle.rewrite.specs.Programs.{flat, recordsOf, startsOf, what, knitting}
-use Rattle.rewrite.specs.Rewrite.{noRacking, swapOf, Replay, ended, onOutcome, replay}
+use Rattle.rewrite.specs.Rewrite.{rackingZero, swapOf, Replay, ended, onOutcome, replay}
 use Rattle.rewrite.specs.Laid.{Whole, Laid, Marked, rackByte, swapNo, leftBy}
 use Rattle.rewrite.proofs.Records.{records-flat, flat-records}
 use Rattle.rewrite.proofs.Laying.{starts-length, work-length}
@@ -112,7 +112,7 @@ made-rack (x ∷ l) m r (suc i) (w, v) e (suc k) b =
 module _ (p w table : List ℕ) (laid : Laid p w) (marked : Marked p table) (i : ℕ) (m : List (List ℕ)) (e : swapOf i (recordsOf p) ≡ made m)
     (q v : List ℕ) (bytes : q ≡ flat m) (starts : v ≡ startsOf 0 m) where
   moved : Moved (recordsOf p) m
-  moved = made-moved knitting (recordsOf p) m noRacking i e
+  moved = made-moved knitting (recordsOf p) m rackingZero i e
 
   pub records-after : recordsOf q ≡ m
   records-after = ap recordsOf bytes ∙ flat-records m (moved .whole (laid .sound .whole))
@@ -135,6 +135,6 @@ module _ (p w table : List ℕ) (laid : Laid p w) (marked : Marked p table) (i :
       record {
         long = marked .long;
         marks = λ k h. marked .marks k (omega (arith, ap length records-after, moved .records))
-          ∙ made-rack (recordsOf p) m noRacking i (laid .sound .whole) e (k * 64) 0
-          ∙ ap (λ (l : List (List ℕ)). rackByte 0 (take (k * 64) l)) (sym records-after);
+            ∙ made-rack (recordsOf p) m rackingZero i (laid .sound .whole) e (k * 64) 0
+            ∙ ap (λ (l : List (List ℕ)). rackByte 0 (take (k * 64) l)) (sym records-after);
       }

@@ -16,7 +16,7 @@ use Rattle.trace.specs.Swaps.{no-pair, is-tied, made}
 use Rattle.trace.specs.Order.{inForce}
 use Rattle.trace.proofs.Theorems.{made-iff-untied, refused-iff-tied, no-pair-iff-short}
 use Rattle.rewrite.specs.Programs.{flat, recordsOf, startsOf, what, knitting}
-use Rattle.rewrite.specs.Rewrite.{noRacking, swapOf}
+use Rattle.rewrite.specs.Rewrite.{rackingZero, swapOf}
 use Rattle.rewrite.specs.Laid.{tiedAt, whole, Whole, Laid, Between, inForceAt, exchanged, part}
 use Rattle.rewrite.proofs.Extents.{tied-bytes}
 use Rattle.rewrite.proofs.Records.{records-flat}
@@ -41,8 +41,8 @@ module _ (u : List (List ℕ)) (x y : List ℕ) (v : List (List ℕ)) where
       let first : drop a o ≡ x ++ (y ++ flat v) = drop-at (flat u) _ a refl in
       let second : drop b o ≡ y ++ flat v = drop-append-add (flat u) (x ++ (y ++ flat v)) (length x) ∙ drop-at x _ (length x) refl in
       let past : drop e o ≡ flat v =
-        ap (λ (n : ℕ). drop n o) (assoc a (length x) (length y)) ∙ drop-append-add (flat u) (x ++ (y ++ flat v)) (length x + length y)
-        ∙ drop-append-add x (y ++ flat v) (length y) ∙ drop-at y _ (length y) refl in
+      ap (λ (n : ℕ). drop n o) (assoc a (length x) (length y)) ∙ drop-append-add (flat u) (x ++ (y ++ flat v)) (length x + length y)
+      ∙ drop-append-add x (y ++ flat v) (length y) ∙ drop-at y _ (length y) refl in
       let m : e - b ≡ length y = omega arith in
       let n : b - a ≡ length x = omega arith in
       ap (λ (q : List ℕ). take a q ++ (take (e - b) (drop b q) ++ (take (b - a) (drop a q) ++ drop e q))) flat-pair
@@ -60,9 +60,9 @@ module _ (u : List (List ℕ)) (x y : List ℕ) (v : List (List ℕ)) where
       let s = startsOf 0 u in
       let c : ℕ = 0 + before in
       let one : startsOf 0 (u ++ x ∷ y ∷ v) ≡ (s ++ c ∷ []) ++ (c + length x) ∷ startsOf (c + length x + length y) v =
-        starts-append 0 u (x ∷ y ∷ v) ∙ sym (append-assoc s (c ∷ []) ((c + length x) ∷ startsOf (c + length x + length y) v)) in
+      starts-append 0 u (x ∷ y ∷ v) ∙ sym (append-assoc s (c ∷ []) ((c + length x) ∷ startsOf (c + length x + length y) v)) in
       let two : startsOf 0 (u ++ y ∷ x ∷ v) ≡ (s ++ c ∷ []) ++ (c + length y) ∷ startsOf (c + length y + length x) v =
-        starts-append 0 u (y ∷ x ∷ v) ∙ sym (append-assoc s (c ∷ []) ((c + length y) ∷ startsOf (c + length y + length x) v)) in
+      starts-append 0 u (y ∷ x ∷ v) ∙ sym (append-assoc s (c ∷ []) ((c + length y) ∷ startsOf (c + length y + length x) v)) in
       let long : length (s ++ c ∷ []) ≡ n = omega (arith, length-append s (c ∷ []), starts-length 0 u) in
       let f : before + length y ≡ c + length y = omega arith in
       let g : c + length x + length y ≡ c + length y + length x = omega arith in
@@ -112,7 +112,7 @@ module _ (p w : List ℕ) (laid : Laid p w) (i : ℕ) (h : i + 1 < length w) whe
       let l = recordsOf p in
       let e : take (i + 1) l ≡ front ++ first ∷ [] = ap (λ (n : ℕ). take n l) (add-one i) ∙ take-suc l i [] (omega (arith, enough)) in
       let f : length (flat (front ++ first ∷ [])) ≡ length (flat front) + length first =
-        ap length (flat-append front (first ∷ [])) ∙ omega (arith, length-append (flat front) (first ++ []), length-append first []) in
+      ap length (flat-append front (first ∷ [])) ∙ omega (arith, length-append (flat front) (first ++ []), length-append first []) in
       omega (arith, two .start, ap (λ (m : List (List ℕ)). length (flat m)) e, f, one .start)
 
   pub second-size : sizeOf (getD p (getD w (i + 1) 0) 0) ≡ length second
@@ -181,14 +181,14 @@ module _ (p w : List ℕ) (laid : Laid p w) (i : ℕ) (h : i + 1 < length w) whe
         }
 
     -- ---- the swap
-    tie-read : tiedAt (inForceAt p i) (what (part p (getD w i 0) (getD w (i + 1) 0))) (what (part p (getD w (i + 1) 0) e)) ≡ tied knitting (inForce knitting noRacking front) first second
+    tie-read : tiedAt (inForceAt p i) (what (part p (getD w i 0) (getD w (i + 1) 0))) (what (part p (getD w (i + 1) 0) e)) ≡ tied knitting (inForce knitting rackingZero front) first second
     tie-read = tied-bytes (inForceAt p i) _ _ ∙ (λ k. tied knitting (sym (force-is front front-whole) k) (first-part k) (second-part k))
 
     pub pair-tied : tiedAt (inForceAt p i) (what (part p (getD w i 0) (getD w (i + 1) 0))) (what (part p (getD w (i + 1) 0) e)) ≡ true → swapOf i (recordsOf p) ≡ is-tied
-    pair-tied t = swap-read ∙ refused-iff-tied knitting noRacking front first second rest .1 (sym tie-read ∙ t)
+    pair-tied t = swap-read ∙ refused-iff-tied knitting rackingZero front first second rest .1 (sym tie-read ∙ t)
 
     pub pair-made : tiedAt (inForceAt p i) (what (part p (getD w i 0) (getD w (i + 1) 0))) (what (part p (getD w (i + 1) 0) e)) ≡ false → swapOf i (recordsOf p) ≡ made exchangedPair
-    pair-made t = swap-read ∙ made-iff-untied knitting noRacking front first second rest .1 (sym tie-read ∙ t)
+    pair-made t = swap-read ∙ made-iff-untied knitting rackingZero front first second rest .1 (sym tie-read ∙ t)
 
 pub pair-none : (p w : List ℕ) → Laid p w → (i : ℕ) → length w ≤ i + 1 → swapOf i (recordsOf p) ≡ no-pair
-pair-none p w laid i h = no-pair-iff-short knitting noRacking i (recordsOf p) .1 (omega (arith, work-length p w laid, add-one i))
+pair-none p w laid i h = no-pair-iff-short knitting rackingZero i (recordsOf p) .1 (omega (arith, work-length p w laid, add-one i))

@@ -16,7 +16,7 @@ use Rattle.run.proofs.Premises.{is}
 use Rattle.trace.specs.Order.{inForce}
 use Rattle.rewrite.specs.Extents.{isRack, rackingAfter}
 use Rattle.rewrite.specs.Programs.{recordsOf, what, knitting}
-use Rattle.rewrite.specs.Rewrite.{noRacking}
+use Rattle.rewrite.specs.Rewrite.{rackingZero}
 use Rattle.rewrite.specs.Laid.{whole, Whole, rackByte, Marked}
 use Rattle.rewrite.proofs.Records.{whole-form}
 
@@ -75,11 +75,11 @@ unfolding rackByte
 in-force b [] w = refl
 in-force b (x ∷ u) (w, v) = ap (λ (r : Racking). inForce knitting r u) (form-rack (whole-form x w) b) ∙ in-force (byteAfter b x) u v
 
-no-rack : noRacking ≡ racked 0
+no-rack : rackingZero ≡ racked 0
 unfolding signedOf
 no-rack = refl
 
-pub force-is : (u : List (List ℕ)) → Whole u → inForce knitting noRacking u ≡ racked (rackByte 0 u)
+pub force-is : (u : List (List ℕ)) → Whole u → inForce knitting rackingZero u ≡ racked (rackByte 0 u)
 force-is u w = ap (λ (r : Racking). inForce knitting r u) no-rack ∙ in-force 0 u w
 
 pub kind-is : (x : List ℕ) → whole x ≡ true → eqb (byte x 0) 1 ≡ isRack (what x)
@@ -98,8 +98,8 @@ one-more p table j b m h e =
     record {
       long = length-set table j b ∙ m .long;
       marks = λ k i. is k j
-        (λ q. ap (λ (n : ℕ). getD (set table j b) n 0) q ∙ getD-set-same table j b 0 (omega (arith, m .long)) ∙ e ∙ ap (λ (n : ℕ). rackByte 0 (take (n * 64) (recordsOf p))) (sym q))
-        (λ d. getD-set-other table j k b 0 d ∙ m .marks k (omega arith));
+          (λ q. ap (λ (n : ℕ). getD (set table j b) n 0) q ∙ getD-set-same table j b 0 (omega (arith, m .long)) ∙ e ∙ ap (λ (n : ℕ). rackByte 0 (take (n * 64) (recordsOf p))) (sym q))
+          (λ d. getD-set-other table j k b 0 d ∙ m .marks k (omega arith));
     }
 
 pub all-marked : (p table : List ℕ) (j : ℕ) → MarkedUpto p table j → length (recordsOf p) ≤ j * 64 → Marked p table

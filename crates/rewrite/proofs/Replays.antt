@@ -13,7 +13,7 @@ use Rattle.trace.specs.Records.{Records}
 use Rattle.trace.specs.Swaps.{Outcome, no-pair, is-tied, made, swapAt, Swaps, no-swap, swap-first}
 use Rattle.trace.proofs.Swaps.{behind-made, front-made}
 use Rattle.rewrite.specs.Programs.{flat, knitting}
-use Rattle.rewrite.specs.Rewrite.{noRacking, swapOf, Replay, ended, onOutcome, replay}
+use Rattle.rewrite.specs.Rewrite.{rackingZero, swapOf, Replay, ended, onOutcome, replay}
 use Rattle.rewrite.specs.Calls.{logOf}
 use Rattle.rewrite.specs.Laid.{Whole}
 
@@ -78,7 +78,7 @@ replay-tied high low log at l e = rw e
 -- ---- every replay goes through its log or stops at a log record with 12, 13 or 14
 data Replayed : List ℕ → ℕ → List (List ℕ) → Replay → Type 0 where
   through : {at : ℕ} {l : List (List ℕ)} → Replayed [] at l (ended 0 0 l)
-  stopped : {log : List ℕ} {at : ℕ} {l : List (List ℕ)} (n : ℕ) → 12 ≤ n → n ≤ 14 → Replayed log at l (ended n at l)
+  stopped : {k at : ℕ} {log : List ℕ} {l : List (List ℕ)} (n : ℕ) → 12 ≤ n → n ≤ 14 → Replayed (k ∷ log) at l (ended n at l)
   next : {high low at : ℕ} {log : List ℕ} {l m : List (List ℕ)} {r : Replay} → swapOf (high * 256 + low) l ≡ made m → Replayed log (at + 3) m r → Replayed (64 ∷ high ∷ low ∷ log) at l r
 
 replayed : (log : List ℕ) (at : ℕ) (l : List (List ℕ)) → Replayed log at l (replay log at l)
@@ -96,12 +96,12 @@ replayed (k ∷ high ∷ low ∷ log) at l =
     go (made m) e more = Replayed.next e (more m)
 
 -- the records that it leaves are reached by swaps that are made
-left-by-swaps : {log : List ℕ} {at : ℕ} {l : List (List ℕ)} {r : Replay} → Replayed log at l r → (is : List ℕ) × Swaps knitting noRacking is l (r .left)
+left-by-swaps : {log : List ℕ} {at : ℕ} {l : List (List ℕ)} {r : Replay} → Replayed log at l r → (is : List ℕ) × Swaps knitting rackingZero is l (r .left)
 left-by-swaps Replayed.through = ([], no-swap)
 left-by-swaps (Replayed.stopped n h i) = ([], no-swap)
 left-by-swaps (Replayed.next {high} {low} e more) = let (is, s) = left-by-swaps more in ((high * 256 + low) ∷ is, swap-first e s)
 
-pub replay-swaps : (log : List ℕ) (at : ℕ) (l : List (List ℕ)) → (is : List ℕ) × Swaps knitting noRacking is l (replay log at l .left)
+pub replay-swaps : (log : List ℕ) (at : ℕ) (l : List (List ℕ)) → (is : List ℕ) × Swaps knitting rackingZero is l (replay log at l .left)
 replay-swaps log at l = left-by-swaps (replayed log at l)
 
 pub replay-moved : (log : List ℕ) (at : ℕ) (l : List (List ℕ)) → Moved l (replay log at l .left)
@@ -124,13 +124,13 @@ replay-place log at l = go (replayed log at l)
     go (Replayed.stopped n a b) h = omega arith
     go (Replayed.next e more) h = omega (arith, go more h)
 
-pub replay-within : (log : List ℕ) (at : ℕ) (l : List (List ℕ)) → replay log at l .place ≤ at + length log
-replay-within log at l = go (replayed log at l)
+pub replay-within : (bound : ℕ) → 0 < bound → (log : List ℕ) (at : ℕ) (l : List (List ℕ)) → at + length log ≤ bound → replay log at l .place < bound
+replay-within bound some log at l = go (replayed log at l)
   where
-    go : {log : List ℕ} {at : ℕ} {l : List (List ℕ)} {r : Replay} → Replayed log at l r → r .place ≤ at + length log
-    go Replayed.through = omega arith
-    go (Replayed.stopped n a b) = omega arith
-    go (Replayed.next e more) = omega (arith, go more)
+    go : {log : List ℕ} {at : ℕ} {l : List (List ℕ)} {r : Replay} → Replayed log at l r → at + length log ≤ bound → r .place < bound
+    go Replayed.through h = omega arith
+    go (Replayed.stopped n a b) h = omega arith
+    go (Replayed.next e more) h = go more (omega arith)
 
 -- ---- a log whose front goes through goes on behind it
 goes-on : {front : List ℕ} {at : ℕ} {l : List (List ℕ)} {r : Replay} → Replayed front at l r → r .number ≡ 0 → (rest : List ℕ) (from : ℕ)
@@ -147,7 +147,7 @@ replay-front front rest at from l m e =
     ∙ ap (λ (r : Replay). replay rest (from + length front) (r .left)) e
 
 -- ---- a log of swaps that are made goes through
-pub replay-log : {is : List ℕ} {l m : List (List ℕ)} → Swaps knitting noRacking is l m → (at : ℕ) → replay (logOf is) at l ≡ ended 0 0 m
+pub replay-log : {is : List ℕ} {l m : List (List ℕ)} → Swaps knitting rackingZero is l m → (at : ℕ) → replay (logOf is) at l ≡ ended 0 0 m
 unfolding replay
 replay-log no-swap at = refl
 replay-log (swap-first {i} {is} {l} {m} {n} e t) at =

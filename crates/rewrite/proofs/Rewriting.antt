@@ -140,24 +140,23 @@ module _ (p log output work : List ℕ) where
         let done : runOf p .number ≡ 0 = sym (ap (λ (b : Answer). b .number) ran) ∙ z in
         let all : call ≡ written p r output work = simp (eq-eqb number 0 lent, eq-eqb (runOf p .number) 0 done) in
         let g = gives (written p r output work) all in
-        let m : n ≡ length (r .left) = count ∙ sym (replay-moved log 0 (recordsOf p) .records) in
-        (
+        let m : n ≡ length (r .left) = count ∙ sym (replay-moved log 0 (recordsOf p) .records) in (
           (λ i. record { number = e i; place = f i; complete = ran i .complete; state = ran i .state }) ∙ g .0,
           ((λ i. bytes i ++ past-o i) ∙ g .1 .0, (λ i. starts i ++ (past-w ∙ ap (λ (k : ℕ). drop k work) m) i) ∙ g .1 .1),
         )
 
-  -- a place fits sixteen bits
-  pub place-small : call .answer .place < 65536
+  -- a place lies within a program or a log
+  pub place-small : call .answer .place < 32768
   unfolding rewriteOf answerOf
   place-small =
       is number 0
       (λ z. is (runOf p .number) 0
-        (λ y. let all : call ≡ written p (replay log 0 (recordsOf p)) output work = simp (eq-eqb number 0 z, eq-eqb (runOf p .number) 0 y) in
-          omega (arith, ap (λ (r : Rewritten). r .answer .place) all, replay-within log 0 (recordsOf p), log-fits z))
-        (λ d. let all : call ≡ refused (runOf p) output work = simp (eq-eqb number 0 z, ne-eqb (runOf p .number) 0 d) in
-          omega (arith, ap (λ (r : Rewritten). r .answer .place) all, place-bound p)))
+      (λ y. let all : call ≡ written p (replay log 0 (recordsOf p)) output work = simp (eq-eqb number 0 z, eq-eqb (runOf p .number) 0 y) in
+      omega (arith, ap (λ (r : Rewritten). r .answer .place) all, replay-within 32768 (omega arith) log 0 (recordsOf p) (omega (arith, log-fits z))))
+      (λ d. let all : call ≡ refused (runOf p) output work = simp (eq-eqb number 0 z, ne-eqb (runOf p .number) 0 d) in
+      omega (arith, ap (λ (r : Rewritten). r .answer .place) all, place-bound p)))
       (λ d. let all : call ≡ refused (answerOf (reached number 0 emptyState)) output work = simp (ne-eqb number 0 d) in
-        omega (arith, ap (λ (r : Rewritten). r .answer .place) all))
+      omega (arith, ap (λ (r : Rewritten). r .answer .place) all))
     where
       log-fits : number ≡ 0 → length log ≤ 32768
       log-fits z = enough (length p) (length log) (length output) (length work) z .log-short

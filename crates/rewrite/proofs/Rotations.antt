@@ -50,8 +50,8 @@ module _ (p z o q t : List ℕ) (k : ℕ) (h : k ≤ length p) (first : o ≡ ta
         let rest : drop (length q - m) (drop m q) ≡ [] = drop-of-length-le (drop m q) {i = length q - m} (omega (arith, length-drop m q)) in
         let lent : take (length q - m) (drop m q) ≡ drop m q = take-all (length q - m) (drop m q) (omega (arith, length-drop m q)) in
         let t-is : t ≡ take k p =
-          third ∙ ap (λ (l : List ℕ). copied l (take (length q - m) (drop m q))) front
-          ∙ copied-all (take k p) _ (omega (arith, ap length lent, last-long, length-take-le k p h)) in
+        third ∙ ap (λ (l : List ℕ). copied l (take (length q - m) (drop m q))) front
+        ∙ copied-all (take k p) _ (omega (arith, ap length lent, last-long, length-take-le k p h)) in
         (λ i. kept i ++ (t-is i ++ rest i)) ∙ ap (λ (l : List ℕ). drop k p ++ l) (append-nil (take k p))
 
 -- ---- by equal halves
@@ -138,7 +138,7 @@ module _ (p : List ℕ) (k : ℕ) (h : length p ≡ k + k) where
   half-all i e =
       ap (halfway (take k p) (drop k p)) e
       ∙ (λ n. (take-all k (drop k p) (omega (arith, half-back)) n ++ drop-of-length-le (take k p) {i = k} (omega (arith, half-front)) n)
-        ++ (take-all k (take k p) (omega (arith, half-front)) n ++ drop-of-length-le (drop k p) {i = k} (omega (arith, half-back)) n))
+      ++ (take-all k (take k p) (omega (arith, half-front)) n ++ drop-of-length-le (drop k p) {i = k} (omega (arith, half-back)) n))
       ∙ (λ n. append-nil (drop k p) n ++ append-nil (take k p) n)
 
 -- ---- the part put back
@@ -158,7 +158,7 @@ put-back o r a b e ab be eo r-is =
     let g : a + (b - a) ≡ b = omega arith in
     let d : a + (e - a) ≡ e = omega arith in
     let second : drop (b - a) (take (e - a) (drop a o)) ≡ take (e - b) (drop b o) =
-      drop-take (b - a) (e - a) (drop a o) j n ∙ (λ i. take (f i) (drop-drop (b - a) a o i)) ∙ ap (λ (m : ℕ). take (e - b) (drop m o)) g in
+    drop-take (b - a) (e - a) (drop a o) j n ∙ (λ i. take (f i) (drop-drop (b - a) a o i)) ∙ ap (λ (m : ℕ). take (e - b) (drop m o)) g in
     let first : take (b - a) (take (e - a) (drop a o)) ≡ take (b - a) (drop a o) = take-take (b - a) (e - a) (drop a o) j in
     let past : drop (e - a) (drop a o) ≡ drop e o = drop-drop (e - a) a o ∙ ap (λ (m : ℕ). drop m o) d in
     ap (λ (l : List ℕ). take a o ++ l) ((λ i. (r-is ∙ (λ k. second k ++ first k)) i ++ past i) ∙ append-assoc (take (e - b) (drop b o)) (take (b - a) (drop a o)) (drop e o))

@@ -7,7 +7,7 @@ use lib.Dec.{leb}
 use lib.ListN.{length, take}
 use Rattle.trace.specs.Swaps.{Swaps}
 use Rattle.rewrite.specs.Programs.{recordsOf, knitting}
-use Rattle.rewrite.specs.Rewrite.{noRacking, Rewritten, rewriteOf}
+use Rattle.rewrite.specs.Rewrite.{rackingZero, Rewritten, rewriteOf}
 
 -- every element is below n
 abbrev pub Below : ℕ → List ℕ → Type 0
@@ -49,7 +49,7 @@ pub record Accepted (p : List ℕ) (c : Call) : Type 0 where
   pub done : numberOf p c ≡ 0
   pub positions : List ℕ
   pub log : c .log ≡ logOf positions
-  pub swaps : Swaps knitting noRacking positions (recordsOf p) (recordsOf (handedOn p c))
+  pub swaps : Swaps knitting rackingZero positions (recordsOf p) (recordsOf (handedOn p c))
 
 -- and a list of such calls
 abbrev pub AllAccepted : List ℕ → List Call → Type 0

@@ -1,44 +1,61 @@
 -- Demand 3, over the rewriter's own definition. The code's `rewrite` equals rewriteOf by its contract.
-use Prim.Native.Nat.{ℕ, _+_, _*_, _≤_, _<_}
+use Prim.Native.Nat.{ℕ, _+_, _*_, _<_}
 use mathlib.Core.Path.{_≡_}
 use mathlib.Core.Bool.{true, false}
-use mathlib.Core.List.{List, _∷_, _++_}
+use mathlib.Core.List.{List, [], _∷_, _++_}
 use mathlib.Core.Logic.{_↔_}
 use lib.ListN.{length}
 use Rattle.machine.specs.declared.Needle.{Needle}
 use Rattle.machine.specs.declared.Racking.{Racking}
 use Rattle.machine.specs.declared.State.{State}
-use Rattle.record.specs.declared.Record.{Record}
+use Rattle.record.specs.Format.{Encodes}
 use Rattle.run.specs.Relation.{Valid}
 use Rattle.trace.specs.Records.{tied}
+use Rattle.trace.specs.Swaps.{Swaps}
 use Rattle.trace.specs.Order.{inForce, SameRecords, SameOrder}
-use Rattle.rewrite.specs.Extents.{extentOf, meets, Share}
-use Rattle.rewrite.specs.Programs.{flat, recordsOf, knitting, needle, carrier, historyOf}
-use Rattle.rewrite.specs.Rewrite.{noRacking, ended, replay, lentNo, written, rewriteOf}
-use Rattle.rewrite.specs.Calls.{Call, callOf, numberOf, after, AllAccepted}
+use Rattle.rewrite.specs.Extents.{extentOf, Share}
+use Rattle.rewrite.specs.Programs.{flat, recordsOf, what, knitting, needle, carrier, names, historyOf}
+use Rattle.rewrite.specs.Rewrite.{rackingZero, ended, replay, lentNo, written, rewriteOf}
+use Rattle.rewrite.specs.Calls.{Call, callOf, numberOf, after, logOf, AllAccepted}
 
--- a program is its records end to end, whatever its bytes
+-- ---- the definitions in 01's words
+-- a program is its records 'end to end', whatever its bytes
 abbrev pub RecordsEndToEnd : Type 0
 RecordsEndToEnd = (p : List ℕ) → flat (recordsOf p) ≡ p
 
--- the test for extents that meet finds a half column and a layer that they share, where there is one and only there
-abbrev pub MeetsExactly : Type 0
-MeetsExactly = (r : Racking) (x y : Record) → x .carrier ≤ 10 → y .carrier ≤ 10 → (meets (extentOf r x) (extentOf r y) ≡ true) ↔ Share (extentOf r x) (extentOf r y)
+-- those of a valid program are 'whole, of known kinds and with fields in range'
+abbrev pub EachEncodes : List (List ℕ) → Type 0
+EachEncodes [] = Unit {0}
+EachEncodes (x ∷ l) = Encodes x (what x) × EachEncodes l
+
+abbrev pub RecordsEncode : Type 0
+RecordsEncode = (p : List ℕ) (t : State) → Valid p t → EachEncodes (recordsOf p)
+
+-- 'Two records are tied if either is a rack, if they name one carrier, or if their extents meet': 'if they share a half column and a layer'
+pub data Tied (r : Racking) (x y : List ℕ) : Type 0 where
+  first-rack : what x .kind ≡ 1 → Tied r x y
+  second-rack : what y .kind ≡ 1 → Tied r x y
+  one-carrier : (k : ℕ) → names (carrier k) x ≡ true → names (carrier k) y ≡ true → Tied r x y
+  extents-meet : Share (extentOf r (what x)) (extentOf r (what y)) → Tied r x y
+
+abbrev pub TiedExactly : Type 0
+TiedExactly = (r : Racking) (x y : List ℕ) → (tied knitting r x y ≡ true) ↔ Tied r x y
 
 -- 'Equal records of one stretch are always tied'
 abbrev pub EqualRecordsTied : Type 0
 EqualRecordsTied = (r : Racking) (x : List ℕ) → tied knitting r x x ≡ true
 
 -- a place lies within a program or a log, so that number and place go into one word
-abbrev pub PlaceIsSmall : Type 0
-PlaceIsSmall = (program log output work : List ℕ) → rewriteOf program log output work .answer .place < 65536
+abbrev pub RewritePlaceIsSmall : Type 0
+RewritePlaceIsSmall = (program log output work : List ℕ) → rewriteOf program log output work .answer .place < 32768
 
+-- ---- what is kept
 -- the same records between the same racks, and the same order of every two tied records, each known by its bytes and its count
 pub record SameProgram (p q : List ℕ) : Type 0 where
   pub records : SameRecords knitting (recordsOf p) (recordsOf q)
-  pub order : SameOrder knitting noRacking (recordsOf p) (recordsOf q)
+  pub order : SameOrder knitting rackingZero (recordsOf p) (recordsOf q)
 
--- what is kept of a program p with final state t
+-- of a program p with final state t
 pub record Keeps (p : List ℕ) (t : State) (q : List ℕ) : Type 0 where
   -- valid, with p's final state
   pub valid : Valid q t
@@ -47,30 +64,39 @@ pub record Keeps (p : List ℕ) (t : State) (q : List ℕ) : Type 0 where
   pub carriers : (k : ℕ) → historyOf (carrier k) q ≡ historyOf (carrier k) p
   pub same : SameProgram p q
 
--- a call's log comes to a swap of x and y: 1 and 2 do not hold, the records of the log before it (front) are swaps that were made, and x and y stand where it points
-pub record ComesTo (p : List ℕ) (c : Call) (front : List ℕ) (u : List (List ℕ)) (x y : List ℕ) (v : List (List ℕ)) (rest : List ℕ) : Type 0 where
-  pub lent : lentNo (length p) (length (c .log)) (length (c .output)) (length (c .work)) ≡ 0
-  pub before : replay front 0 (recordsOf p) ≡ ended 0 0 (u ++ x ∷ y ∷ v)
+-- ---- which swaps are made
+-- neither 1 nor 2
+abbrev pub Lent : List ℕ → Call → Type 0
+Lent p c = lentNo (length p) (length (c .log)) (length (c .output)) (length (c .work)) ≡ 0
+
+-- a call's log comes to a swap of x and y: what stands before it in the log are swaps that are made (at positions is), and x and y stand where it points
+pub record ComesTo (p : List ℕ) (c : Call) (is : List ℕ) (u : List (List ℕ)) (x y : List ℕ) (v : List (List ℕ)) (rest : List ℕ) : Type 0 where
+  pub lent : Lent p c
+  pub before : Swaps knitting rackingZero is (recordsOf p) (u ++ x ∷ y ∷ v)
   pub high : ℕ
   pub low : ℕ
-  pub log : c .log ≡ front ++ 64 ∷ high ∷ low ∷ rest
+  pub log : c .log ≡ logOf is ++ 64 ∷ high ∷ low ∷ rest
   pub position : length u ≡ high * 256 + low
 
--- it is made exactly if the two are not tied, and else gets 13 (13 at the swap's place, and only there, says so)
-pub record MadeExactly (p : List ℕ) (c : Call) (front : List ℕ) (u : List (List ℕ)) (x y : List ℕ) (v : List (List ℕ)) (rest : List ℕ) : Type 0 where
-  pub made : tied knitting (inForce knitting noRacking u) x y ≡ false
-      → callOf p c ≡ written p (replay rest (length front + 3) (u ++ y ∷ x ∷ v)) (c .output) (c .work)
-  pub refused : tied knitting (inForce knitting noRacking u) x y ≡ true
-      → callOf p c ≡ written p (ended 13 (length front) (u ++ x ∷ y ∷ v)) (c .output) (c .work)
-  pub thirteen : ((numberOf p c ≡ 13) × (callOf p c .answer .place ≡ length front)) ↔ (tied knitting (inForce knitting noRacking u) x y ≡ true)
+-- it is made if the two are not tied: the call goes on behind it with the two exchanged; else it gets 13, and nothing more is made.
+-- The call answers 13 at this log record's place exactly if they are tied; 13 at a later place is another swap's.
+pub record SwapExactly (p : List ℕ) (c : Call) (place : ℕ) (u : List (List ℕ)) (x y : List ℕ) (v : List (List ℕ)) (rest : List ℕ) : Type 0 where
+  pub made : tied knitting (inForce knitting rackingZero u) x y ≡ false
+      → callOf p c ≡ written p (replay rest (place + 3) (u ++ y ∷ x ∷ v)) (c .output) (c .work)
+  pub refused : tied knitting (inForce knitting rackingZero u) x y ≡ true
+      → callOf p c ≡ written p (ended 13 place (u ++ x ∷ y ∷ v)) (c .output) (c .work)
+  pub thirteen : ((numberOf p c ≡ 13) × (callOf p c .answer .place ≡ place)) ↔ (tied knitting (inForce knitting rackingZero u) x y ≡ true)
 
--- demand 3 for a valid program and every list of calls from it
+-- ---- demand 3 for a valid program and every list of calls from it
 pub record EveryList (p : List ℕ) (t : State) : Type 0 where
   -- after every call of every list
   pub keeps : (cs : List Call) → Keeps p t (after p cs)
   -- every swap that the next call's log comes to
-  pub exactly : (cs : List Call) (c : Call) (front rest : List ℕ) (u v : List (List ℕ)) (x y : List ℕ)
-      → ComesTo (after p cs) c front u x y v rest → MadeExactly (after p cs) c front u x y v rest
+  pub exactly : (cs : List Call) (c : Call) (is rest : List ℕ) (u v : List (List ℕ)) (x y : List ℕ)
+      → ComesTo (after p cs) c is u x y v rest → SwapExactly (after p cs) c (length (logOf is)) u x y v rest
+  -- a log of swaps that are made is gone through, with 0
+  pub done : (cs : List Call) (c : Call) (is : List ℕ) (m : List (List ℕ)) → Lent (after p cs) c → c .log ≡ logOf is → Swaps knitting rackingZero is (recordsOf (after p cs)) m
+      → callOf (after p cs) c ≡ written (after p cs) (ended 0 0 m) (c .output) (c .work)
   -- the programs so reached are exactly these
   pub reached : (q : List ℕ) → ((cs : List Call) × (after p cs ≡ q)) ↔ SameProgram p q
   -- each by calls that answer 0 with logs of accepted swaps alone

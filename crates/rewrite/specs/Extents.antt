@@ -32,7 +32,8 @@ broad h low high = record { left = h -ℤ pos 1; right = h +ℤ pos 1; low = low
 abbrev pub formExtent : ℤ → Needle → ℕ → Extent
 formExtent h n k = cond (eqb (n .0) 0) (broad h 0 k) (broad h k 11)
 
--- a record's extent at the racking in force: drop (2), xfer (3), in to miss (4 to 6), tuck and knit (7, 8), split (9); a rack has none, and none is asked for
+-- a record's extent at the racking in force: drop (2), xfer (3), in to miss (4 to 6), tuck and knit (7, 8), split (9).
+-- 01 gives a rack none; the last arm answers for it too, and no tie asks, since a rack is tied by its kind
 unfoldable pub extentOf : Racking → Record → Extent
 extentOf r x =
     cond (eqb (x .kind) 2) (narrow (halfColumn (x .at) r) (layerOf (x .at)) (layerOf (x .at)))
@@ -48,10 +49,11 @@ pub record Covers (e : Extent) (h : ℤ) (layer : ℕ) : Type 0 where
   pub low : e .low ≤ layer
   pub high : layer ≤ e .high
 
--- 'Extents meet if they share a half column and a layer'; the test for it that code makes
+-- 'Extents meet if they share a half column and a layer'
 abbrev pub Share : Extent → Extent → Type 0
 Share a b = (h : ℤ) × (layer : ℕ) × Covers a h layer × Covers b h layer
 
+-- the test for it that code makes; TiedExactly (Claims.antt) says that it is one
 unfoldable pub meets : Extent → Extent → Bool
 meets a b = (leZ (a .left) (b .right) && leZ (b .left) (a .right)) && (leb (a .low) (b .high) && leb (b .low) (a .high))
 

@@ -58,11 +58,12 @@ knitting =
       meet = λ r x y. meets (extentOf r (what x)) (extentOf r (what y));
     }
 
--- 'A needle's history is the list of drop, xfer, tuck, knit and split records naming it', first or second; 'a carrier's is the list of all records naming it'
+-- a needle among those whose hooks a record works (01: in, out and miss 'pass by the hook')
 unfoldable pub memberNeedle : Needle → List Needle → Bool
 memberNeedle n [] = false
 memberNeedle n (m ∷ l) = sameNeedle n m || memberNeedle n l
 
+-- what records name: a needle, first or second, or a carrier
 pub data Named : Type 0 where
   needle : Needle → Named
   carrier : ℕ → Named
@@ -71,5 +72,6 @@ abbrev pub names : Named → List ℕ → Bool
 names (needle n) x = memberNeedle n (needlesOf (what x))
 names (carrier k) x = member k (carriersOf (what x))
 
+-- 'A needle's history is the list of drop, xfer, tuck, knit and split records naming it', first or second; 'a carrier's is the list of all records naming it'
 abbrev pub historyOf : Named → List ℕ → List (List ℕ)
 historyOf n p = keep (names n) (recordsOf p)

@@ -12,13 +12,13 @@ use Rattle.run.specs.Run.{reached, answerOf, runOf}
 use Rattle.trace.specs.Swaps.{Outcome, no-pair, is-tied, made, swapAt}
 use Rattle.rewrite.specs.Programs.{flat, recordsOf, startsOf, knitting}
 
--- every program starts at racking 0
-abbrev pub noRacking : Racking
-noRacking = record { 0 = pos 0 }
+-- racking 0, where every program starts
+abbrev pub rackingZero : Racking
+rackingZero = record { 0 = pos 0 }
 
 -- a swap of records i and i + 1 of a program
 abbrev pub swapOf : ℕ → List (List ℕ) → Outcome (List ℕ)
-swapOf i l = swapAt knitting noRacking i l
+swapOf i l = swapAt knitting rackingZero i l
 
 -- where a log ended: 0 and 0, or the number and place of the log record that was refused; and the records as the swaps made left them
 pub record Replay : Type 0 where

@@ -28,7 +28,7 @@ pub struct Replayed {
     pub place: usize,
 }
 
-// The numbers of refusals, besides those of the run.
+// The numbers of refusals, besides those of the run; 01's word for 2 is no bench.
 pub const NO_ROOM: u8 = 2;
 
 pub const NO_PAIR: u8 = 12;
@@ -342,10 +342,7 @@ fn position(log: &[u8], at: usize) -> usize
 fn ended(number: u8, place: usize) -> Replayed
     ensures { λ d. ⌜ d ≡ record { number = number; place = place } ⌝ }
 {
-    Replayed {
-        number,
-        place,
-    }
+    Replayed { number, place }
 }
 
 // Makes the swaps of a log in order, up to the first that it refuses.

@@ -19,8 +19,10 @@ add-t8 c = let a = c .before .before .before .args in right-fits (a .n) (a .r) (
 
 returns : tie.Need-returns
 returns c = let a = c .before .before .before .args in
-    simp (left-is (a .n) (a .r) (c .before .before .column .result) (c .before .before .column .ensures) (search needs) (c .before .before .before .good .1 .0 .1 .1 .0 .1),
-    right-is (a .n) (a .r) (c .before .before .column .result) (c .before .before .column .ensures) (search needs) (c .before .before .before .good .1 .0 .1 .1 .0 .1))
+    simp (
+      left-is (a .n) (a .r) (c .before .before .column .result) (c .before .before .column .ensures) (search needs) (c .before .before .before .good .1 .0 .1 .1 .0 .1),
+      right-is (a .n) (a .r) (c .before .before .column .result) (c .before .before .column .ensures) (search needs) (c .before .before .before .good .1 .0 .1 .1 .0 .1),
+    )
 
 pub broad-spec : {M : Type 1} → statement M
 broad-spec = tie.close (tie.spec column-requires add-h sub-t7 add-t8 returns)

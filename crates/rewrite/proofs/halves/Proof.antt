@@ -42,12 +42,11 @@ loop-less : tie.Need-loop-less Inv-loop μ-loop
 loop-less c = omega (arith, c .before .before .loop-test .taken)
 
 loop-again : tie.Need-loop-again Inv-loop μ-loop
-loop-again c = let s = c .before .before .before .before in let v = c .before .before .before .loop in let p = s .args .part .now in let k = s .args .k in
-    (
-      half-next (take k p) (drop k p) k (half-front p k (s .pre)) (half-back p k (s .pre)) (v .i) (c .before .before .loop-test .taken) (v .part) (v .inv .0),
-      length-set (set (v .part) (v .i) (getD (v .part) (k + v .i) 0)) (k + v .i) (getD (v .part) (v .i) 0) ∙ length-set (v .part) (v .i) (getD (v .part) (k + v .i) 0) ∙ v .inv .1,
-      omega (arith, c .before .before .loop-test .taken),
-    )
+loop-again c = let s = c .before .before .before .before in let v = c .before .before .before .loop in let p = s .args .part .now in let k = s .args .k in (
+  half-next (take k p) (drop k p) k (half-front p k (s .pre)) (half-back p k (s .pre)) (v .i) (c .before .before .loop-test .taken) (v .part) (v .inv .0),
+  length-set (set (v .part) (v .i) (getD (v .part) (k + v .i) 0)) (k + v .i) (getD (v .part) (v .i) 0) ∙ length-set (v .part) (v .i) (getD (v .part) (k + v .i) 0) ∙ v .inv .1,
+  omega (arith, c .before .before .loop-test .taken),
+)
 
 same-length : tie.Need-same-length Inv-loop μ-loop
 same-length c = c .before .loop .inv .1 ∙ sym (c .before .before .pre)

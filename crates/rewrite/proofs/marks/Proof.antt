@@ -49,8 +49,7 @@ loop-less c = omega (arith, c .before .loop-test .taken)
 
 loop-again : tie.Need-loop-again Inv-loop μ-loop
 loop-again c = let k = c .before .before .before .before .before .before in let p = k .args .program .now in let w = k .args .work .now in let v = c .before .before .loop in
-    let low : v .j < 256 = omega (arith, v .inv .2, c .before .loop-test .taken, work-length p w (k .pre .0), few p w (k .pre .0), k .pre .0 .sound .short) in
-    (
+    let low : v .j < 256 = omega (arith, v .inv .2, c .before .loop-test .taken, work-length p w (k .pre .0), few p w (k .pre .0), k .pre .0 .sound .short) in (
       one-more p (v .table) (v .j) (v .b) (v .inv .0) low (v .inv .1 ∙ ap (λ (m : ℕ). rackByte 0 (take m (recordsOf p))) (v .inv .2)),
       c .racking-after .ensures ∙ ap (λ (b : ℕ). rackByte b (take (v .i + 64 - v .i) (drop (v .i) (recordsOf p)))) (v .inv .1) ∙ rack-on (recordsOf p) (v .i) (v .i + 64) (omega arith),
       omega (arith, v .inv .2),

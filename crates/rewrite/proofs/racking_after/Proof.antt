@@ -66,12 +66,11 @@ loop-again c = let k = c .before .before .before .before .before in let v = c .b
     let p = k .args .program .now in let w = k .args .work .now in
     let s = stands p w (k .pre .0) (v .j) (search needs) in
     let e : c .if1 .b ≡ byteAfter (v .b) (nth p (v .j)) =
-      ⊎-elim {C = c .if1 .b ≡ byteAfter (v .b) (nth p (v .j))} (λ u. at-rack p w (v .j) s (v .b) (c .if1 .b) (u .0 .taken) (u .2)) (λ u. at-other p w (v .j) s (v .b) (c .if1 .b) (u .0 .left) (u .1)) (c .if1 .came) in
-    (
+    ⊎-elim {C = c .if1 .b ≡ byteAfter (v .b) (nth p (v .j))} (λ u. at-rack p w (v .j) s (v .b) (c .if1 .b) (u .0 .taken) (u .2)) (λ u. at-other p w (v .j) s (v .b) (c .if1 .b) (u .0 .left) (u .1)) (c .if1 .came) in (
       omega (arith, c .before .before .before .loop-test .taken),
       omega (arith, v .inv .1),
       v .inv .2 ∙ rack-next (v .b) (recordsOf p) (v .j) (k .args .n) (c .before .before .before .loop-test .taken) (omega (arith, k .pre .2, work-length p w (k .pre .0)))
-      ∙ ap (λ (b : ℕ). rackByte b (take (k .args .n - (v .j + 1)) (drop (v .j + 1) (recordsOf p)))) (sym e),
+          ∙ ap (λ (b : ℕ). rackByte b (take (k .args .n - (v .j + 1)) (drop (v .j + 1) (recordsOf p)))) (sym e),
     )
 
 returns : tie.Need-returns Inv-loop μ-loop

@@ -50,13 +50,12 @@ loop-less c = let k = c .before .before .before .before .before .before in let v
     omega (arith, c .size-of .ensures, next-size (k .args .program .now) (k .pre .0) (v .n) (v .at) (v .inv .0) (c .before .before .loop-test .taken) .0, c .before .before .loop-test .taken)
 
 loop-again : tie.Need-loop-again Inv-loop μ-loop
-loop-again c = let k = c .before .before .before .before .before .before in let v = c .before .before .before .loop in let p = k .args .program .now in let i = c .before .before .loop-test .taken in
-    (
-      subst (λ (z : ℕ). Upto p (v .n + 1) (v .at + z)) (sym (c .size-of .ensures)) (upto-next p (k .pre .0) (v .n) (v .at) (v .inv .0) i),
-      length-set (v .work) (v .n) (v .at) ∙ v .inv .1,
-      starts-next p (k .pre .0) (v .n) (v .at) (v .inv .0) i (v .work) (omega (arith, not-yet p (k .pre .0) (v .n) (v .at) (v .inv .0) i, few-starts p (k .pre .0) (v .n) (v .at) (v .inv .0), k .pre .1, v .inv .1)) (v .inv .2),
-      past-next (v .work) (k .args .work .now) (v .n) (v .at) (v .inv .3),
-    )
+loop-again c = let k = c .before .before .before .before .before .before in let v = c .before .before .before .loop in let p = k .args .program .now in let i = c .before .before .loop-test .taken in (
+  subst (λ (z : ℕ). Upto p (v .n + 1) (v .at + z)) (sym (c .size-of .ensures)) (upto-next p (k .pre .0) (v .n) (v .at) (v .inv .0) i),
+  length-set (v .work) (v .n) (v .at) ∙ v .inv .1,
+  starts-next p (k .pre .0) (v .n) (v .at) (v .inv .0) i (v .work) (omega (arith, not-yet p (k .pre .0) (v .n) (v .at) (v .inv .0) i, few-starts p (k .pre .0) (v .n) (v .at) (v .inv .0), k .pre .1, v .inv .1)) (v .inv .2),
+  past-next (v .work) (k .args .work .now) (v .n) (v .at) (v .inv .3),
+)
 
 same-length : tie.Need-same-length Inv-loop μ-loop
 same-length c = c .before .loop .inv .1
