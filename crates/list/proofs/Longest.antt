@@ -1,6 +1,6 @@
--- A text of 90,000 bytes holds every listing whole: `listing` and `list` then cut nothing off. Assumes nothing.
-use Prim.Native.Nat.{ℕ, zero, suc, _+_, _*_, _/_, _%_, _≤_}
-use mathlib.Core.Path.{_≡_, _∙_}
+-- A text of 90,000 bytes holds every listing whole, so that nothing is cut off. Assumes nothing.
+use Prim.Native.Nat.{ℕ, zero, suc, _+_, _*_, _/_, _%_, _≤_, _<_}
+use mathlib.Core.Path.{_≡_, ap}
 use mathlib.Core.Bool.{Bool, true, false, cond}
 use mathlib.Core.List.{List, [], _∷_, _++_}
 use native.Mathlib.Omega.{arith}
@@ -8,12 +8,15 @@ use native.Mathlib.Nat.{mul-suc}
 use lib.Dec.{eqb, ltb}
 use lib.IntN.{ℤ, pos, negsuc}
 use lib.ListN.{length, take, drop, length-append, length-take, length-drop}
-use lib.Seq.{take-all}
+use lib.Seq.{length-take-le}
 use Rattle.machine.specs.declared.Carrier.{Carrier}
 use Rattle.machine.specs.declared.State.{State}
 use Rattle.run.specs.declared.Answer.{Answer}
 use Rattle.list.specs.Grown.{Grown}
-use Rattle.list.specs.Text.{digitsOf, figures, signed, letterOf, signOf, flagOf, hexOf, lines, hookLine, hooksOf, attachmentOf, carrierLine, carriersOf, rackingLine, bytesOf, programLine, bedsOf, stateOf, listingOf}
+use Rattle.list.specs.Text.{digitsOf, figures, signed, letterOf, signOf, flagOf, hexOf, lines, hookLine, hooksOf, attachmentOf, carrierLine, carriersOf, rackingLine, bytesOf, programLine, bedsOf, stateOf, shownOf, listingOf}
+use Rattle.list.specs.Listed.{listedOf}
+use Rattle.rewrite.specs.Rewrite.{rewriteOf}
+use Rattle.rewrite.proofs.Rewriting.{state-size, output-length}
 
 -- at most so many bytes
 record Short (m : ℕ) (l : List ℕ) : Type 0 where
@@ -104,7 +107,13 @@ unfolding listingOf
 longest a l h k n =
     join (number (a .number)) (join (some 1 (32 ∷ []) (omega arith)) (join (number (a .place)) (join (some 3 (32 ∷ flagOf (a .complete) ∷ 10 ∷ []) (omega arith)) (join (state (a .state) h k) (program l n)))))
 
--- what the contracts of `listing` and `list` then come to
-pub uncut : (a : Answer) (l old new : List ℕ) (end : ℕ) → length (a .state .loops) ≤ 500 → length (a .state .carriers) ≤ 10 → length l ≤ 32768 → 90000 ≤ length old
-    → Grown old 0 (listingOf a l) new end → take end new ≡ listingOf a l
-uncut a l old new end h k n r g = g .text ∙ take-all (length old) (listingOf a l) (omega (arith, longest a l h k n .most))
+-- so that 90,000 bytes hold the listing of every call whose output has 32,768
+pub uncut : (program log output work old new : List ℕ) (end : ℕ) → Grown old 0 (listedOf program log output work) new end → length output ≤ 32768 → 90000 ≤ length old → end < 90000
+unfolding listedOf
+uncut program log output work old new end g h r =
+    let w = rewriteOf program log output work in
+    let n = shownOf (w .answer .number) (length program) in
+    let size = state-size program log output work in
+    let long = longest (w .answer) (take n (w .output)) (omega (arith, size .loops)) (omega (arith, size .carriers)) (omega (arith, length-take n (w .output), output-length program log output work)) in
+    let text = listingOf (w .answer) (take n (w .output)) in
+    omega (arith, length-take-le end new (g .within), ap length (g .text), length-take (length old) text, long .most)

@@ -312,8 +312,10 @@ fn load(path: &[u8], buf: &mut [u8]) -> usize
     n
 }
 
-// Writes the listing of the program and the log in two files.
-pub fn show(program_path: &[u8], log_path: &[u8]) {
+// Writes the listing of the program and the log in two files and answers its length: it is never cut.
+pub fn show(program_path: &[u8], log_path: &[u8]) -> usize
+    ensures { λ n. ⌜ n < 90000 ⌝ }
+{
     let mut program = room();
     let program_length = load(program_path, &mut program);
     let mut log = room();
@@ -329,4 +331,5 @@ pub fn show(program_path: &[u8], log_path: &[u8]) {
         &mut text,
     );
     io::write_all(STDOUT_FILENO, &text[..n]);
+    n
 }

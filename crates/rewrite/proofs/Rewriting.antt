@@ -4,20 +4,21 @@ use mathlib.Core.Path.{_≡_, refl, sym, ap, subst, _∙_}
 use mathlib.Core.Bool.{Bool, true, false, _||_, cond}
 use mathlib.Core.List.{List, _++_}
 use native.Mathlib.Omega.{arith}
-use lib.Dec.{ltb}
+use lib.Dec.{eqb, ltb}
 use lib.ListN.{length, take, drop, length-append, length-drop}
 use lib.Seq.{take-length, take-at, drop-at, length-take-le}
-use borrow.Author.Tests.{eq-eqb, ne-eqb, lt-ltb, le-ltb, ltb-false}
+use borrow.Author.Tests.{eq-eqb, ne-eqb, eqb-true, lt-ltb, le-ltb, ltb-false}
 use Rattle.machine.specs.Machine.{emptyState}
 use Rattle.run.specs.declared.Answer.{Answer}
 use Rattle.run.specs.Run.{reached, answerOf, runOf}
-use Rattle.run.proofs.Premises.{is}
+use Rattle.record.proofs.Forms.{cond-cases}
+use Rattle.run.proofs.Answers.{FullSize, answered, answer-size, empty-size}
 use Rattle.run.proofs.Demand.{place-bound}
 use Rattle.rewrite.specs.declared.Replayed.{Replayed}
 use Rattle.rewrite.specs.Programs.{flat, recordsOf, startsOf}
 use Rattle.rewrite.specs.Rewrite.{Replay, replay, lentNo, Rewritten, refused, written, rewriteOf}
 use Rattle.rewrite.specs.Laid.{Sound, Laid, Marked}
-use Rattle.rewrite.proofs.Records.{accepted-whole}
+use Rattle.rewrite.proofs.Records.{accepted-whole, records-flat}
 use Rattle.rewrite.proofs.Laying.{starts-length}
 use Rattle.rewrite.proofs.Replays.{replay-moved, replay-within}
 
@@ -145,18 +146,31 @@ module _ (p log output work : List ℕ) where
           ((λ i. bytes i ++ past-o i) ∙ g .1 .0, (λ i. starts i ++ (past-w ∙ ap (λ (k : ℕ). drop k work) m) i) ∙ g .1 .1),
         )
 
+  -- what holds of the three ways in which a call ends holds of it
+  by-call : (P : Rewritten → Type 0) → (number ≡ 0 → P (written p (replay log 0 (recordsOf p)) output work)) → P (refused (runOf p) output work)
+      → P (refused (answerOf (reached number 0 emptyState)) output work) → P call
+  unfolding rewriteOf
+  by-call P f g h =
+      cond-cases P (eqb number 0) (λ z. cond-cases P (eqb (runOf p .number) 0) (λ y. f (eqb-true number 0 z)) (λ y. g)) (λ z. h)
+
   -- a place lies within a program or a log
   pub place-small : call .answer .place < 32768
-  unfolding rewriteOf answerOf
+  unfolding answerOf
   place-small =
-      is number 0
-      (λ z. is (runOf p .number) 0
-      (λ y. let all : call ≡ written p (replay log 0 (recordsOf p)) output work = simp (eq-eqb number 0 z, eq-eqb (runOf p .number) 0 y) in
-      omega (arith, ap (λ (r : Rewritten). r .answer .place) all, replay-within 32768 (omega arith) log 0 (recordsOf p) (omega (arith, log-fits z))))
-      (λ d. let all : call ≡ refused (runOf p) output work = simp (eq-eqb number 0 z, ne-eqb (runOf p .number) 0 d) in
-      omega (arith, ap (λ (r : Rewritten). r .answer .place) all, place-bound p)))
-      (λ d. let all : call ≡ refused (answerOf (reached number 0 emptyState)) output work = simp (ne-eqb number 0 d) in
-      omega (arith, ap (λ (r : Rewritten). r .answer .place) all))
+      by-call (λ (r : Rewritten). r .answer .place < 32768)
+      (λ z. replay-within 32768 (omega arith) log 0 (recordsOf p) (omega (arith, enough (length p) (length log) (length output) (length work) z .log-short)))
+      (place-bound p) (omega arith)
+
+  -- its state has 500 hooks and ten carriers
+  pub state-size : FullSize (call .answer .state)
+  unfolding answerOf
+  state-size = by-call (λ (r : Rewritten). FullSize (r .answer .state)) (λ z. answer-size (answered p)) (answer-size (answered p)) empty-size
+
+  -- and its output is as long as before
+  pub output-length : length (call .output) ≡ length output
+  output-length = by-call (λ (r : Rewritten). length (r .output) ≡ length output) whole-output refl refl
     where
-      log-fits : number ≡ 0 → length log ≤ 32768
-      log-fits z = enough (length p) (length log) (length output) (length work) z .log-short
+      whole-output : number ≡ 0 → length (flat (replay log 0 (recordsOf p) .left) ++ drop (length p) output) ≡ length output
+      whole-output z =
+          let m = replay log 0 (recordsOf p) .left in
+          omega (arith, length-append (flat m) (drop (length p) output), length-drop (length p) output, replay-moved log 0 (recordsOf p) .bytes, ap length (records-flat p), enough (length p) (length log) (length output) (length work) z .room)

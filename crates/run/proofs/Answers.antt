@@ -73,12 +73,27 @@ place-small (Answered.through h steps) = omega arith
 place-small (Answered.refused h k before r) = omega arith
 place-small (Answered.too-long h) = omega arith
 
+-- an answer's state has 500 hooks and ten carriers
+pub record FullSize (s : State) : Type 0 where
+  pub loops : length (s .loops) ≡ 500
+  pub carriers : length (s .carriers) ≡ 10
+
+pub empty-size : FullSize emptyState
+unfolding emptyState
+empty-size = record { loops = length-replicate {A = ℕ} 500 0; carriers = length-replicate 10 inactive }
+
+steps-size : {q : List ℕ} {t : State} → Steps emptyState q t → FullSize t
+steps-size steps = let same = steps-lengths steps in record { loops = same .loops ∙ empty-size .loops; carriers = same .carriers ∙ empty-size .carriers }
+
+pub answer-size : {p : List ℕ} {a : Answer} → Answered p a → FullSize (a .state)
+unfolding answerOf
+answer-size (Answered.through h steps) = steps-size steps
+answer-size (Answered.refused h k before r) = steps-size before
+answer-size (Answered.too-long h) = empty-size
+
 -- a state that steps lead to is the empty one exactly where it is complete
 complete-at : {q : List ℕ} {t : State} → Steps emptyState q t → (completeOf t ≡ true) ↔ (t ≡ emptyState)
-unfolding emptyState
-complete-at {t = t} steps =
-    let same = steps-lengths steps in
-    (complete-is-empty t (same .loops ∙ length-replicate {A = ℕ} 500 0) (same .carriers ∙ length-replicate 10 inactive), λ e. ap completeOf e ∙ empty-is-complete)
+complete-at {t = t} steps = let size = steps-size steps in (complete-is-empty t (size .loops) (size .carriers), λ e. ap completeOf e ∙ empty-is-complete)
 
 pub complete-empty : {p : List ℕ} {a : Answer} → Answered p a → (a .complete ≡ true) ↔ (a .state ≡ emptyState)
 unfolding answerOf
