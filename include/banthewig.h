@@ -38,11 +38,11 @@ uint64_t knitout_run(const uint8_t *program, size_t length);
 
 /* Runs a program and makes a log's swaps in a copy of it: number times 65,536 plus place. The place is the start of
    the refused record in the program (3 to 11) or in the log (12 to 14), else 0. Lengths are in bytes, work_count in
-   entries; the output needs length bytes, work length / 2 entries, and neither may overlap another area.
+   entries; the output needs program_length bytes, work program_length / 2 entries, and no two areas may overlap.
    0 writes the program as the swaps made it to the front of the output, and the start of each of its records to the
    front of work; 12 to 14 the same, as the swaps before the refused one made it; 1 to 11 write nothing. Output past
    the program's length and work past the last record's start keep their contents. */
-uint64_t knitout_rewrite(const uint8_t *program, size_t length, const uint8_t *log, size_t log_length,
+uint64_t knitout_rewrite(const uint8_t *program, size_t program_length, const uint8_t *log, size_t log_length,
                          uint8_t *output, size_t output_length, uint16_t *work, size_t work_count);
 
 /* The parts of an answer. */
