@@ -4,7 +4,7 @@ use mathlib.Core.Path.{_≡_, refl, sym, ap, subst, _∙_}
 use mathlib.Core.Bool.{Bool, true, false, _&&_, not, cond}
 use mathlib.Core.List.{List, [], _∷_, map}
 use native.Mathlib.Omega.{arith}
-use lib.IntN.{ℤ, pos, _+ℤ_}
+use lib.IntN.{ℤ, pos, _+ℤ_, _-ℤ_}
 use lib.Signed.{mag}
 use lib.Dec.{eqb}
 use lib.ListN.{getD, length, drop, replicate}
@@ -16,12 +16,12 @@ use Rattle.machine.specs.declared.Carrier.{Carrier}
 use Rattle.machine.specs.declared.State.{State}
 use Rattle.machine.specs.declared.Racking.{Racking}
 use Rattle.machine.specs.declared.Column.{Column}
-use mir.Syntax.{w16, w32}
+use mir.Syntax.{w16, w32, w64}
 use mir.Val.{SFits, toZ, ofZ}
 use mir.Facts.{toZ-ofZ}
 use Rattle.machine.specs.Geometry.{columnOf, eqZ}
 use Rattle.machine.specs.Machine.{OnBed, all, attachedAt, movedTo, noLoops, allInactive, inactive, inactiveCarrier, emptyState, completeOf}
-use Rattle.machine.proofs.Signed.{mag-sum, eqZ-true, back, fits, fits-sum, cast-back}
+use Rattle.machine.proofs.Signed.{mag-sum, eqZ-true, back, fits, fits-sum, fits-difference, cast-back}
 
 -- how far a column reaches
 pub column-reach : (n : Needle) (r : Racking) → mag (r .0) < 128 → mag (columnOf n r .0) ≤ n .1 + 129
@@ -54,6 +54,17 @@ module _ (n : Needle) (r : Racking) (z : Column) (is : z ≡ columnOf n r) (b : 
 
   pub slot-next : toZ w16 (ofZ w16 (toZ w32 (ofZ w32 (toZ w32 (ofZ w32 (z .0)) +ℤ pos 1)))) ≡ columnOf n r .0 +ℤ pos 1
   slot-next = toZ-ofZ next-narrow ∙ next-is ∙ ap (λ (y : Column). y .0 +ℤ pos 1) is
+
+-- the difference of two columns, each cast to 64 bits, as code reads it back
+abbrev pub wide : ℤ → ℤ
+wide z = toZ w64 (ofZ w64 (toZ w32 (ofZ w32 z)))
+
+module _ (a b : ℤ) (h : mag a < 2147483648) (k : mag b < 2147483648) where
+  pub difference-fits : SFits w64 (wide a -ℤ wide b)
+  difference-fits = simp (cast-back w32 w64 a h (omega arith), cast-back w32 w64 b k (omega arith)) (fits-difference w64 a b (omega arith))
+
+  pub difference-is : toZ w64 (ofZ w64 (wide a -ℤ wide b)) ≡ a -ℤ b
+  difference-is = toZ-ofZ difference-fits ∙ simp (cast-back w32 w64 a h (omega arith), cast-back w32 w64 b k (omega arith))
 
 -- a walk along a list
 module _ {A : Type 0} (p : A → Bool) where

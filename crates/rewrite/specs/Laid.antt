@@ -1,11 +1,11 @@
 -- How a program is laid in the lent areas between swaps: what the rewriter's private functions ask and promise. No part of the claims.
-use Prim.Native.Nat.{ℕ, _+_, _-_, _*_, _≤_, _<_}
+use Prim.Native.Nat.{ℕ, _-_, _*_, _≤_, _<_}
 use mathlib.Core.Path.{_≡_}
 use mathlib.Core.Bool.{Bool, true, cond, _&&_, _||_}
 use mathlib.Core.List.{List, [], _∷_, _++_}
 use lib.IntN.{_-ℤ_, natAbs}
 use lib.Dec.{eqb, ltb}
-use lib.ListN.{length, take, drop, getD, set}
+use lib.ListN.{length, take, drop, getD}
 use Rattle.machine.specs.declared.Column.{Column}
 use Rattle.machine.specs.declared.Racking.{Racking}
 use Rattle.record.specs.declared.Record.{Record}
@@ -21,7 +21,7 @@ boundTo x y = isRack x || (isRack y || shareCarrier x y)
 unfoldable pub tiedAt : Racking → Record → Record → Bool
 tiedAt r x y = boundTo x y || meets (extentOf r x) (extentOf r y)
 
--- at least two columns apart, so that no extents there meet
+-- two columns apart or more, so that no extents there meet
 unfoldable pub farApart : Column → Column → Bool
 farApart a b = ltb 1 (natAbs (a .0 -ℤ b .0))
 

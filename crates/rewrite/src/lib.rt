@@ -2,7 +2,7 @@
 ghost use mathlib.Core.Path.{_≡_};
 ghost use mathlib.Core.List.{_++_};
 ghost use Prim.Native.Nat.{_+_, _-_, _*_, _/_, _≤_, _<_};
-ghost use lib.ListN.{length, take, drop, getD, set};
+ghost use lib.ListN.{length, take, drop, getD};
 ghost use Rattle.rewrite.specs.Extents.{halfColumn, layerOf, narrow, broad, formExtent, extentOf, meets, shareCarrier};
 ghost use Rattle.rewrite.specs.Programs.{flat, recordsOf, startsOf, what};
 ghost use Rattle.rewrite.specs.Rewrite.{swapOf, replay, lentNo, rewriteOf};
@@ -23,7 +23,7 @@ pub struct Extent {
 }
 
 // Where a log ended: the refusal's number and the log record's start, or 0 and 0.
-pub struct Replayed {
+struct Replayed {
     pub number: u8,
     pub place: usize,
 }
@@ -164,7 +164,7 @@ fn bound(x: Record, y: Record) -> bool
     share_carrier(x, y)
 }
 
-// Whether at least two columns lie between them.
+// Whether the two are two columns apart or more.
 fn apart(a: Column, b: Column) -> bool
     ensures { λ f. ⌜ f ≡ farApart a b ⌝ }
 {

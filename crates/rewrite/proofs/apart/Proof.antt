@@ -6,32 +6,22 @@ use mathlib.Core.Bool.{Bool, true, false, _||_}
 use lib.IntN.{ℤ, pos, negsuc, _-ℤ_}
 use lib.Signed.{mag, ltZ}
 use mir.Syntax.{w32, w64}
-use mir.Val.{SFits, toZ, ofZ}
-use mir.Facts.{toZ-ofZ}
+use mir.Val.{toZ, ofZ}
 use Rattle.machine.specs.declared.Column.{Column}
-use Rattle.machine.proofs.Signed.{back, fits, fits-difference, cast-back}
+use Rattle.machine.proofs.Signed.{back, fits}
+use Rattle.machine.proofs.Laws.{wide, difference-fits, difference-is}
 use Rattle.rewrite.specs.Laid.{farApart}
 use Rattle.rewrite.proofs.Extents.{outside}
 use Rattle.rewrite.proofs.apart.Statement.{statement}
 use Rattle.rewrite.proofs.apart.Tie as tie
 
--- a column cast to 64 bits, and the difference, as the code reads them back
-abbrev wide : ℤ → ℤ
-wide z = toZ w64 (ofZ w64 (toZ w32 (ofZ w32 z)))
-
 module _ (a b : Column) (h : mag (a .0) < 2147483648) (k : mag (b .0) < 2147483648) where
-  fitting : SFits w64 (wide (a .0) -ℤ wide (b .0))
-  fitting = simp (cast-back w32 w64 (a .0) h (omega arith), cast-back w32 w64 (b .0) k (omega arith)) (fits-difference w64 (a .0) (b .0) (omega arith))
-
   abbrev d : ℤ
   d = toZ w64 (ofZ w64 (wide (a .0) -ℤ wide (b .0)))
 
-  is : d ≡ a .0 -ℤ b .0
-  is = toZ-ofZ fitting ∙ simp (cast-back w32 w64 (a .0) h (omega arith), cast-back w32 w64 (b .0) k (omega arith))
-
   both : farApart a b ≡ (ltZ d (negsuc 0) || ltZ (pos 1) d)
   unfolding farApart
-  both = outside (a .0 -ℤ b .0) ∙ ap (λ (z : ℤ). ltZ z (negsuc 0) || ltZ (pos 1) z) (sym is)
+  both = outside (a .0 -ℤ b .0) ∙ ap (λ (z : ℤ). ltZ z (negsuc 0) || ltZ (pos 1) z) (sym (difference-is (a .0) (b .0) h k))
 
   below : ltZ d (negsuc 0) ≡ true → ltZ d (negsuc 0) ≡ farApart a b
   below e = e ∙ sym (both ∙ simp e)
@@ -46,7 +36,7 @@ cast-d-2 : tie.Need-cast-d-2
 cast-d-2 c = let z = c .before .before .before .before .args .b .0 in let h = c .struct-told2 .given .0 .1 in simp (back w32 z h) (fits w64 z (omega arith))
 
 sub-d : tie.Need-sub-d
-sub-d c = let g = c .before .before .before .before .args in fitting (g .a) (g .b) (c .before .before .struct-told .given .0 .1) (c .struct-told2 .given .0 .1)
+sub-d c = let g = c .before .before .before .before .args in difference-fits (g .a .0) (g .b .0) (c .before .before .struct-told .given .0 .1) (c .struct-told2 .given .0 .1)
 
 returns : tie.Need-returns
 returns c = let g = c .before .before .before .before .before .args in below (g .a) (g .b) (c .before .before .before .struct-told .given .0 .1) (c .before .struct-told2 .given .0 .1) (c .if1 .taken)

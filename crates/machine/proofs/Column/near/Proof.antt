@@ -1,28 +1,16 @@
 -- A distance of at most 20 is two comparisons of the difference. Assumes nothing.
 use native.Mathlib.Omega.{arith}
-use mathlib.Core.Path.{_≡_, refl, sym, ap, _∙_}
-use Prim.Native.Nat.{_<_}
-use mathlib.Core.Bool.{Bool, true, false}
-use lib.IntN.{ℤ, pos, negsuc, _+ℤ_, _-ℤ_}
-use lib.Signed.{mag, leZ}
+use mathlib.Core.Path.{_≡_, sym, _∙_}
+use mathlib.Core.Bool.{true, false}
+use lib.IntN.{ℤ, pos, negsuc, _-ℤ_}
+use lib.Signed.{leZ}
 use mir.Syntax.{w32, w64}
-use mir.Val.{SFits, toZ, ofZ}
-use mir.Facts.{toZ-ofZ}
 use Rattle.machine.specs.declared.Column.{Column}
 use Rattle.machine.specs.Geometry.{withinFloat}
-use Rattle.machine.proofs.Signed.{back, fits, fits-difference, cast-back, abs-in}
+use Rattle.machine.proofs.Signed.{back, fits, abs-in}
+use Rattle.machine.proofs.Laws.{difference-fits, difference-is}
 use Rattle.machine.proofs.Column.near.Statement.{statement}
 use Rattle.machine.proofs.Column.near.Tie as tie
-
--- a column cast to 64 bits, and the difference, as the code reads them back
-abbrev wide : ℤ → ℤ
-wide z = toZ w64 (ofZ w64 (toZ w32 (ofZ w32 z)))
-
-fitting : (a b : ℤ) → mag a < 2147483648 → mag b < 2147483648 → SFits w64 (wide a -ℤ wide b)
-fitting a b h k = simp (cast-back w32 w64 a h (omega arith), cast-back w32 w64 b k (omega arith)) (fits-difference w64 a b (omega arith))
-
-is : (a b : ℤ) → mag a < 2147483648 → mag b < 2147483648 → toZ w64 (ofZ w64 (wide a -ℤ wide b)) ≡ a -ℤ b
-is a b h k = toZ-ofZ (fitting a b h k) ∙ simp (cast-back w32 w64 a h (omega arith), cast-back w32 w64 b k (omega arith))
 
 low : (a b : Column) (d : ℤ) → d ≡ a .0 -ℤ b .0 → leZ (negsuc 19) d ≡ true → leZ d (pos 20) ≡ withinFloat a b
 unfolding withinFloat
@@ -41,15 +29,15 @@ cast-d-2 c = let z = c .before .before .before .before .args .other .0 in let h 
     simp (back w32 z h) (fits w64 z (omega arith))
 
 sub-d : tie.Need-sub-d
-sub-d c = fitting (c .before .before .before .before .args .self .0) (c .before .before .before .before .args .other .0) (c .before .before .struct-told .given .0 .1) (c .struct-told2 .given .0 .1)
+sub-d c = difference-fits (c .before .before .before .before .args .self .0) (c .before .before .before .before .args .other .0) (c .before .before .struct-told .given .0 .1) (c .struct-told2 .given .0 .1)
 
 returns : tie.Need-returns
 returns c = let a = c .before .before .before .before .before .args .self in let b = c .before .before .before .before .before .args .other in
-    low a b _ (is (a .0) (b .0) (c .before .before .before .struct-told .given .0 .1) (c .before .struct-told2 .given .0 .1)) (c .if1 .taken)
+    low a b _ (difference-is (a .0) (b .0) (c .before .before .before .struct-told .given .0 .1) (c .before .struct-told2 .given .0 .1)) (c .if1 .taken)
 
 returns-2 : tie.Need-returns-2
 returns-2 c = let a = c .before .before .before .before .before .args .self in let b = c .before .before .before .before .before .args .other in
-    over a b _ (is (a .0) (b .0) (c .before .before .before .struct-told .given .0 .1) (c .before .struct-told2 .given .0 .1)) (c .if1 .left)
+    over a b _ (difference-is (a .0) (b .0) (c .before .before .before .struct-told .given .0 .1) (c .before .struct-told2 .given .0 .1)) (c .if1 .left)
 
 pub near-spec : {M : Type 1} → statement M
 near-spec = tie.close (tie.spec cast-d cast-d-2 sub-d returns returns-2)
