@@ -30,15 +30,17 @@ model: $(LIB)
 	rustc --edition 2021 -O -D warnings -o $(OUT)/model model/main.rs -L native=target/staticlib -l static=banthewig
 	$(OUT)/model
 
-$(OUT)/knitrun: examples/knitrun.c include/banthewig.h $(LIB)
+$(OUT)/%: examples/%.c include/banthewig.h $(LIB)
 	@mkdir -p $(OUT)
-	$(CC) $(CFLAGS) -o $@ examples/knitrun.c $(LIB)
+	$(CC) $(CFLAGS) -o $@ $< $(LIB)
 
-# The header from C++, and the C example on every sample against what it must print.
+# The header from C++, and the C examples on every sample against what they must print.
 header:
 	@mkdir -p $(OUT)
 	echo '#include "banthewig.h"' | $(CXX) -std=c++17 -Wall -Wextra -Werror -pedantic -Iinclude -x c++ -fsyntax-only -
 
-example: $(OUT)/knitrun header
+example: $(OUT)/knitrun $(OUT)/knitswap header
 	for f in examples/*.prg examples/none.prg; do $(OUT)/knitrun $$f; done >$(OUT)/knitrun.out
 	diff examples/knitrun.out $(OUT)/knitrun.out
+	for f in examples/none.log examples/*.log; do $(OUT)/knitswap examples/p.prg $$f; done >$(OUT)/knitswap.out
+	diff examples/knitswap.out $(OUT)/knitswap.out
