@@ -47,6 +47,9 @@ pub const SWAP_SIZE: usize = 3;
 
 pub const LOG_MOST: usize = 32768;
 
+// The length of in, out, miss, tuck and knit.
+pub const FIVE: usize = 5;
+
 // The racking is kept of every 64th record.
 pub const STRIDE: usize = 64;
 
@@ -227,16 +230,20 @@ fn halves(part: &mut [u8], k: usize)
     }
 }
 
-// The records from a to b and from b to e change places. Most are equally long.
+// The records from a to b and from b to e change places. Most have five bytes, a length that the compiler then knows.
 fn exchange(output: &mut [u8], a: usize, b: usize, e: usize)
     requires { ⌜ (a ≤ b) × (b ≤ e) × (e ≤ length (now output)) × (e - a ≤ 12) ⌝ }
     ensures { λ _. ⌜ now (output .exit) ≡ exchanged (now (output .entry)) a b e ⌝ }
 {
     let k = b - a;
-    if e - b == k {
-        halves(&mut output[a..e], k);
-    } else {
+    if e - b != k {
         rotate(&mut output[a..e], k);
+        return;
+    }
+    if k == FIVE {
+        halves(&mut output[a..e], FIVE);
+    } else {
+        halves(&mut output[a..e], k);
     }
 }
 
