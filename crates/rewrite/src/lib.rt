@@ -48,7 +48,7 @@ pub const SWAP_SIZE: usize = 3;
 pub const LOG_MOST: usize = 32768;
 
 // The length of in, out, miss, tuck and knit.
-pub const FIVE: usize = 5;
+pub const WORK_SIZE: usize = 5;
 
 // The racking is kept of every 64th record.
 pub const STRIDE: usize = 64;
@@ -240,8 +240,8 @@ fn exchange(output: &mut [u8], a: usize, b: usize, e: usize)
         rotate(&mut output[a..e], k);
         return;
     }
-    if k == FIVE {
-        halves(&mut output[a..e], FIVE);
+    if k == WORK_SIZE {
+        halves(&mut output[a..e], WORK_SIZE);
     } else {
         halves(&mut output[a..e], k);
     }
