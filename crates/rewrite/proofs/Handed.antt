@@ -12,7 +12,8 @@ use Rattle.machine.specs.declared.State.{State}
 use Rattle.machine.specs.Machine.{emptyState}
 use Rattle.run.specs.Relation.{Valid}
 use Rattle.run.specs.Run.{reached, answerOf, runOf}
-use Rattle.run.proofs.Premises.{by, is}
+use Rattle.run.proofs.Premises.{is}
+use Rattle.trace.proofs.Tests.{by-test}
 use Rattle.run.proofs.Demand.{final}
 use Rattle.trace.specs.Swaps.{made, Swaps, no-swap, swap-first}
 use Rattle.rewrite.specs.Programs.{flat, recordsOf, knitting}
@@ -20,6 +21,7 @@ use Rattle.rewrite.specs.Rewrite.{rackingZero, swapOf, Replay, ended, re
 use Rattle.rewrite.specs.Calls.{Below, Call, callOf, numberOf, handedOn, logOf, Accepted}
 use Rattle.rewrite.specs.Laid.{Whole}
 use Rattle.rewrite.proofs.Records.{records-flat, flat-records, steps-whole, whole-length}
+use Rattle.rewrite.proofs.Rewriting.{lent-call, written-call}
 use Rattle.rewrite.proofs.Replays.{Moved, swaps-moved, made-pair, replay-swaps, replay-moved, replay-number, replay-log}
 
 -- ---- one call on a valid program
@@ -30,13 +32,12 @@ lent p c = lentNo (length p) (length (c .log)) (length (c .output)) (length (c .
 lent-number : (p : List ℕ) (c : Call) → lent p c ≤ 2
 unfolding lentNo
 lent-number p c =
-    by (ltb 32768 (length p) || ltb 32768 (length (c .log))) (λ a. simp a (omega arith))
-    (λ a. by (ltb (length (c .output)) (length p) || ltb (length (c .work)) (length p / 2)) (λ b. simp (a, b) (omega arith)) (λ b. simp (a, b) (omega arith)))
+    by-test (ltb 32768 (length p) || ltb 32768 (length (c .log))) (λ a. simp a (omega arith))
+    (λ a. by-test (ltb (length (c .output)) (length p) || ltb (length (c .work)) (length p / 2)) (λ b. simp (a, b) (omega arith)) (λ b. simp (a, b) (omega arith)))
 
 -- 1 and 2 hand the same program on
 call-refused : (p : List ℕ) (c : Call) → (lent p c ≡ 0 → ⊥) → callOf p c ≡ refused (answerOf (reached (lent p c) 0 emptyState)) (c .output) (c .work)
-unfolding rewriteOf
-call-refused p c h = simp (ne-eqb (lent p c) 0 h)
+call-refused p c h = lent-call p (c .log) (c .output) (c .work) h
 
 refused-number : (p : List ℕ) (c : Call) → (lent p c ≡ 0 → ⊥) → numberOf p c ≡ lent p c
 unfolding answerOf
@@ -48,8 +49,7 @@ kept-program p c h = simp (refused-number p c h, le-leb 1 (lent p c) (omega arit
 module _ {p : List ℕ} {t : State} (v : Valid p t) where
   -- with 0 the log is replayed
   pub call-written : (c : Call) → lent p c ≡ 0 → callOf p c ≡ written p (replay (c .log) 0 (recordsOf p)) (c .output) (c .work)
-  unfolding rewriteOf
-  call-written c e = simp (eq-eqb (lent p c) 0 e, eq-eqb (runOf p .number) 0 (final p t v .number))
+  call-written c e = written-call p (c .log) (c .output) (c .work) e (final p t v .number)
 
   valid-whole : Whole (recordsOf p)
   valid-whole = steps-whole (v .steps)

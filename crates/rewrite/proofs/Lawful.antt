@@ -141,7 +141,7 @@ lawful =
     }
 
 -- ---- ties
-or-parts : (a b c d : Bool) → (a || (b || (c || d))) ≡ false → (a ≡ false) × (b ≡ false) × (c ≡ false) × (d ≡ false)
+pub or-parts : (a b c d : Bool) → (a || (b || (c || d))) ≡ false → (a ≡ false) × (b ≡ false) × (c ≡ false) × (d ≡ false)
 or-parts true b c d e = absurd (true≢false e)
 or-parts false true c d e = absurd (true≢false e)
 or-parts false false true d e = absurd (true≢false e)

@@ -1,7 +1,7 @@
 -- A log replayed from a place on, one record at a time, and the program laid again after a swap. Assumes nothing.
 use Prim.Native.Nat.{ℕ, zero, suc, _+_, _-_, _*_, _≤_, _<_}
 use mathlib.Core.Path.{_≡_, refl, sym, ap, subst, _∙_}
-use mathlib.Core.Bool.{Bool, true, false, true≢false, cond, _||_}
+use mathlib.Core.Bool.{false, true≢false, cond}
 use mathlib.Core.List.{List, [], _∷_}
 use native.Mathlib.Omega.{arith}
 use native.Mathlib.Numerals.{add-one}
@@ -17,6 +17,7 @@ use Rattle.rewrite.specs.Extents.{isRack, shareCarrier, meets, extentOf}
 use Rattle.rewrite.specs.Programs.{flat, recordsOf, startsOf, what, knitting}
 use Rattle.rewrite.specs.Rewrite.{rackingZero, swapOf, Replay, ended, onOutcome, replay}
 use Rattle.rewrite.specs.Laid.{Whole, Laid, Marked, rackByte, swapNo, leftBy}
+use Rattle.rewrite.proofs.Lawful.{or-parts}
 use Rattle.rewrite.proofs.Records.{records-flat, flat-records}
 use Rattle.rewrite.proofs.Laying.{starts-length, work-length}
 use Rattle.rewrite.proofs.Replays.{Moved, made-moved}
@@ -80,11 +81,6 @@ swap-made is-tied at n l more e z = absurd (omega arith)
 swap-made (made m) at n l more e z = (refl, refl)
 
 -- ---- racks stay where they are
-no-racks : (a b c d : Bool) → (a || (b || (c || d))) ≡ false → (a ≡ false) × (b ≡ false)
-no-racks true b c d e = absurd (true≢false e)
-no-racks false true c d e = absurd (true≢false e)
-no-racks false false c d e = (refl, refl)
-
 pair-rack : (x y : List ℕ) (l : List (List ℕ)) → eqb (byte x 0) 1 ≡ false → eqb (byte y 0) 1 ≡ false → (k b : ℕ)
     → rackByte b (take k (x ∷ y ∷ l)) ≡ rackByte b (take k (y ∷ x ∷ l))
 unfolding rackByte
@@ -101,7 +97,7 @@ made-rack [] m r i w e k b = absurd (true≢false (cc))
 made-rack (x ∷ []) m r zero w e k b = absurd (true≢false (cc))
 made-rack (x ∷ y ∷ l) m r zero (w, (v, u)) e k b =
     let (t, f) = front-made knitting r x y l m e in
-    let (p, q) = no-racks (isRack (what x)) (isRack (what y)) (shareCarrier (what x) (what y)) (meets (extentOf r (what x)) (extentOf r (what y))) t in
+    let (p, q, _, _) = or-parts (isRack (what x)) (isRack (what y)) (shareCarrier (what x) (what y)) (meets (extentOf r (what x)) (extentOf r (what y))) t in
     rw f (pair-rack x y l (kind-is x w ∙ p) (kind-is y v ∙ q) k b)
 made-rack (x ∷ l) m r (suc i) (w, v) e zero b = refl
 made-rack (x ∷ l) m r (suc i) (w, v) e (suc k) b =

@@ -8,7 +8,7 @@ use native.Mathlib.Nat.{div-add-mod'}
 use lib.Dec.{eqb, leb}
 use lib.ListN.{length, length-append}
 use borrow.Author.Tests.{eqb-true, le-leb, lt-leb}
-use Rattle.run.proofs.Premises.{by}
+use Rattle.trace.proofs.Tests.{by-test}
 use Rattle.trace.specs.Records.{Records}
 use Rattle.trace.specs.Swaps.{Outcome, no-pair, is-tied, made, swapAt, Swaps, no-swap, swap-first}
 use Rattle.trace.proofs.Swaps.{behind-made, front-made}
@@ -87,7 +87,7 @@ replayed [] at l = Replayed.through
 replayed (k ∷ []) at l = Replayed.stopped 14 (omega arith) (omega arith)
 replayed (k ∷ high ∷ []) at l = Replayed.stopped 14 (omega arith) (omega arith)
 replayed (k ∷ high ∷ low ∷ log) at l =
-    by (eqb k 64) (λ e. rw (e, eqb-true k 64 e) (go (swapOf (high * 256 + low) l) refl (replayed log (at + 3)))) (λ e. rw e (Replayed.stopped 14 (omega arith) (omega arith)))
+    by-test (eqb k 64) (λ e. rw (e, eqb-true k 64 e) (go (swapOf (high * 256 + low) l) refl (replayed log (at + 3)))) (λ e. rw e (Replayed.stopped 14 (omega arith) (omega arith)))
   where
     go : (o : Outcome (List ℕ)) → swapOf (high * 256 + low) l ≡ o → ((m : List (List ℕ)) → Replayed log (at + 3) m (replay log (at + 3) m))
         → Replayed (64 ∷ high ∷ low ∷ log) at l (onOutcome o at l (λ m. replay log (at + 3) m))

@@ -110,6 +110,19 @@ module _ (p log output work : List ℕ) where
   abbrev call : Rewritten
   call = rewriteOf p log output work
 
+  -- it ends in three ways
+  pub lent-call : (number ≡ 0 → ⊥) → call ≡ refused (answerOf (reached number 0 emptyState)) output work
+  unfolding rewriteOf
+  lent-call d = simp (ne-eqb number 0 d)
+
+  pub refused-call : number ≡ 0 → (runOf p .number ≡ 0 → ⊥) → call ≡ refused (runOf p) output work
+  unfolding rewriteOf
+  refused-call z d = simp (eq-eqb number 0 z, ne-eqb (runOf p .number) 0 d)
+
+  pub written-call : number ≡ 0 → runOf p .number ≡ 0 → call ≡ written p (replay log 0 (recordsOf p)) output work
+  unfolding rewriteOf
+  written-call z y = simp (eq-eqb number 0 z, eq-eqb (runOf p .number) 0 y)
+
   -- what is answered and left
   unfoldable pub Gives : Answer → List ℕ → List ℕ → Type 0
   Gives a q v = (a ≡ call .answer) × ((q ≡ call .output) × (v ≡ call .work))
@@ -119,28 +132,25 @@ module _ (p log output work : List ℕ) where
   gives r e = (sym (ap (λ (c : Rewritten). c .answer) e), (sym (ap (λ (c : Rewritten). c .output) e), sym (ap (λ (c : Rewritten). c .work) e)))
 
   pub gives-lent : (n : ℕ) (a : Answer) → n ≡ number → (n ≡ 0 → ⊥) → a ≡ answerOf (reached n 0 emptyState) → Gives a output work
-  unfolding rewriteOf
   gives-lent n a e d f =
       let none : number ≡ 0 → ⊥ = λ q. d (e ∙ q) in
       subst (λ (b : Answer). Gives b output work) (sym (f ∙ ap (λ (k : ℕ). answerOf (reached k 0 emptyState)) e))
-      (gives (refused (answerOf (reached number 0 emptyState)) output work) (simp (ne-eqb number 0 none)))
+      (gives (refused (answerOf (reached number 0 emptyState)) output work) (lent-call none))
 
   module _ (lent : number ≡ 0) (a : Answer) (ran : a ≡ runOf p) where
     pub gives-refused : (a .number ≡ 0 → ⊥) → Gives a output work
-    unfolding rewriteOf
     gives-refused d =
         let none : runOf p .number ≡ 0 → ⊥ = λ q. d (ap (λ (b : Answer). b .number) ran ∙ q) in
-        subst (λ (b : Answer). Gives b output work) (sym ran) (gives (refused (runOf p) output work) (simp (eq-eqb number 0 lent, ne-eqb (runOf p .number) 0 none)))
+        subst (λ (b : Answer). Gives b output work) (sym ran) (gives (refused (runOf p) output work) (refused-call lent none))
 
     pub gives-written : a .number ≡ 0 → (d : Replayed) (q v o w : List ℕ) (n : ℕ) → n ≡ length (recordsOf p) → drop (length p) o ≡ drop (length p) output → drop n w ≡ drop n work
         → (d .number ≡ replay log 0 (recordsOf p) .number) × (d .place ≡ replay log 0 (recordsOf p) .place) → q ≡ flat (replay log 0 (recordsOf p) .left) → v ≡ startsOf 0 (replay log 0 (recordsOf p) .left)
         → Gives (record { number = d .number; place = d .place; complete = a .complete; state = a .state }) (q ++ drop (length p) o) (v ++ drop n w)
-    unfolding Gives rewriteOf
+    unfolding Gives
     gives-written z d q v o w n count past-o past-w (e, f) bytes starts =
         let r = replay log 0 (recordsOf p) in
         let done : runOf p .number ≡ 0 = sym (ap (λ (b : Answer). b .number) ran) ∙ z in
-        let all : call ≡ written p r output work = simp (eq-eqb number 0 lent, eq-eqb (runOf p .number) 0 done) in
-        let g = gives (written p r output work) all in
+        let g = gives (written p r output work) (written-call lent done) in
         let m : n ≡ length (r .left) = count ∙ sym (replay-moved log 0 (recordsOf p) .records) in (
           (λ i. record { number = e i; place = f i; complete = ran i .complete; state = ran i .state }) ∙ g .0,
           ((λ i. bytes i ++ past-o i) ∙ g .1 .0, (λ i. starts i ++ (past-w ∙ ap (λ (k : ℕ). drop k work) m) i) ∙ g .1 .1),

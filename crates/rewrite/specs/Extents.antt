@@ -1,4 +1,5 @@
--- Extents and ties of document 01, 'Extents and ties'.
+-- Extents of document 01, 'Extents and ties', and what a tie looks at besides: racks and carriers. The tie itself is crate trace's `tied`;
+-- TiedExactly (Claims.antt) says it in 01's words.
 use Prim.Native.Nat.{ℕ, _≤_}
 use mathlib.Core.Path.{_≡_}
 use mathlib.Core.Bool.{Bool, true, false, cond, _&&_, _||_}
