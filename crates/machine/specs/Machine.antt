@@ -7,8 +7,6 @@ use lib.Dec.{eqb}
 use lib.ListN.{getD, replicate}
 use Rattle.machine.specs.Geometry.{eqZ}
 use Rattle.machine.specs.declared.Needle.{Needle}
-use Rattle.machine.specs.declared.Racking.{Racking}
-use Rattle.machine.specs.declared.Slot.{Slot}
 use Rattle.machine.specs.declared.Carrier.{Carrier}
 use Rattle.machine.specs.declared.State.{State}
 

@@ -6,7 +6,6 @@ use lib.IntN.{ℤ, pos, negsuc, natAbs}
 use lib.ListN.{getD, length}
 use lib.Dec.{eqb, leb, ltb}
 use Rattle.machine.specs.declared.Needle.{Needle}
-use Rattle.machine.specs.declared.Racking.{Racking}
 use Rattle.record.specs.declared.Record.{Record}
 use Rattle.record.specs.declared.Decoded.{Decoded}
 

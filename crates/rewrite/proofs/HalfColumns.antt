@@ -1,5 +1,5 @@
 -- Half columns as code computes them in 32 bits. Assumes nothing.
-use Prim.Native.Nat.{ℕ, _+_, _≤_, _<_}
+use Prim.Native.Nat.{_+_, _<_}
 use mathlib.Core.Path.{_≡_, sym, ap, subst, _∙_}
 use native.Mathlib.Omega.{arith}
 use lib.IntN.{ℤ, pos, _+ℤ_, _-ℤ_}
@@ -11,7 +11,7 @@ use Rattle.machine.specs.declared.Needle.{Needle}
 use Rattle.machine.specs.declared.Column.{Column}
 use Rattle.machine.specs.declared.Racking.{Racking}
 use Rattle.machine.specs.Geometry.{columnOf}
-use Rattle.machine.proofs.Signed.{back, fits, fits-sum, fits-difference, mag-sum, mag-difference}
+use Rattle.machine.proofs.Signed.{back, fits-sum, fits-difference, mag-sum}
 use Rattle.machine.proofs.Laws.{column-reach}
 use Rattle.rewrite.specs.Extents.{halfColumn}
 

@@ -7,17 +7,17 @@ use native.Mathlib.Omega.{arith}
 use lib.Dec.{leb, ltb}
 use lib.ListN.{length, take, drop, replicate, length-replicate}
 use lib.Seq.{take-at}
-use borrow.Author.Tests.{eq-eqb, ne-eqb, le-leb, le-ltb}
+use borrow.Author.Tests.{le-leb, le-ltb}
 use Rattle.machine.specs.declared.State.{State}
 use Rattle.machine.specs.Machine.{emptyState}
 use Rattle.run.specs.Relation.{Valid}
-use Rattle.run.specs.Run.{reached, answerOf, runOf}
+use Rattle.run.specs.Run.{reached, answerOf}
 use Rattle.run.proofs.Premises.{is}
 use Rattle.trace.proofs.Tests.{by-test}
 use Rattle.run.proofs.Demand.{final}
 use Rattle.trace.specs.Swaps.{made, Swaps, no-swap, swap-first}
 use Rattle.rewrite.specs.Programs.{flat, recordsOf, knitting}
-use Rattle.rewrite.specs.Rewrite.{rackingZero, swapOf, Replay, ended, replay, lentNo, Rewritten, refused, written, rewriteOf}
+use Rattle.rewrite.specs.Rewrite.{rackingZero, swapOf, Replay, ended, replay, lentNo, Rewritten, refused, written}
 use Rattle.rewrite.specs.Calls.{Below, Call, callOf, numberOf, handedOn, logOf, Accepted}
 use Rattle.rewrite.specs.Laid.{Whole}
 use Rattle.rewrite.proofs.Records.{records-flat, flat-records, steps-whole, whole-length}

@@ -1,16 +1,16 @@
 -- A program laid in the lent areas: where its records start, and what stands there. Assumes nothing.
-use Prim.Native.Nat.{ℕ, zero, suc, _+_, _-_, _*_, _/_, _≤_, _<_}
+use Prim.Native.Nat.{ℕ, suc, _+_, _-_, _*_, _≤_, _<_}
 use mathlib.Core.Path.{_≡_, refl, sym, ap, subst, _∙_}
 use mathlib.Core.Bool.{true}
-use mathlib.Core.List.{List, [], _∷_, _++_, append-nil, append-assoc}
+use mathlib.Core.List.{List, [], _∷_, _++_, append-assoc}
 use native.Mathlib.Omega.{arith}
 use native.Mathlib.Numerals.{add-one}
-use lib.ListN.{length, take, drop, getD, set, length-append, length-drop, length-set, take-append-drop, List·getD-append}
-use lib.Seq.{length-take-le, take-length, take-suc, take-suc-set, take-at, drop-at, drop-drop, drop-set-lt, split-at, getD-at, getD-drop, set-at}
+use lib.ListN.{length, take, drop, getD, set, length-append, take-append-drop, List·getD-append}
+use lib.Seq.{length-take-le, take-length, take-suc, take-suc-set, take-at, drop-at, drop-drop, drop-set-lt, split-at, getD-at, getD-drop}
 use Rattle.run.proofs.Premises.{is}
 use Rattle.record.specs.Format.{byte, sizeOf}
 use Rattle.rewrite.specs.Programs.{flat, recordsOf, startsOf}
-use Rattle.rewrite.specs.Laid.{whole, Whole, Sound, Laid, exchanged, part}
+use Rattle.rewrite.specs.Laid.{whole, Whole, Sound, Laid, part}
 use Rattle.rewrite.proofs.Records.{Sized, whole-size, whole-length, records-flat}
 
 -- ---- lists of records

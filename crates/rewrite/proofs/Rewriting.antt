@@ -6,7 +6,7 @@ use mathlib.Core.List.{List, _++_}
 use native.Mathlib.Omega.{arith}
 use lib.Dec.{eqb, ltb}
 use lib.ListN.{length, take, drop, length-append, length-drop}
-use lib.Seq.{take-length, take-at, drop-at, length-take-le}
+use lib.Seq.{take-length, take-at, drop-at}
 use borrow.Author.Tests.{eq-eqb, ne-eqb, eqb-true, lt-ltb, le-ltb, ltb-false}
 use Rattle.machine.specs.Machine.{emptyState}
 use Rattle.run.specs.declared.Answer.{Answer}
@@ -16,7 +16,7 @@ use Rattle.run.proofs.Answers.{FullSize, answered, answer-size, empty-size}
 use Rattle.run.proofs.Demand.{place-bound}
 use Rattle.rewrite.specs.declared.Replayed.{Replayed}
 use Rattle.rewrite.specs.Programs.{flat, recordsOf, startsOf}
-use Rattle.rewrite.specs.Rewrite.{Replay, replay, lentNo, Rewritten, refused, written, rewriteOf}
+use Rattle.rewrite.specs.Rewrite.{replay, lentNo, Rewritten, refused, written, rewriteOf}
 use Rattle.rewrite.specs.Laid.{Sound, Laid, Marked}
 use Rattle.rewrite.proofs.Records.{accepted-whole, records-flat}
 use Rattle.rewrite.proofs.Laying.{starts-length}

@@ -1,6 +1,6 @@
 -- The rewriter as a definition that computes (document 01, 'Calls'), which its contract cites: answer, output and work area, for every program, log and loan.
 use Prim.Native.Nat.{ℕ, _+_, _*_, _/_}
-use mathlib.Core.Bool.{Bool, cond, _||_}
+use mathlib.Core.Bool.{cond, _||_}
 use mathlib.Core.List.{List, [], _∷_, _++_}
 use lib.Dec.{eqb, ltb}
 use lib.IntN.{pos}

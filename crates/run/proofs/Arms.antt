@@ -13,7 +13,6 @@ use Rattle.machine.specs.declared.Carrier.{Carrier}
 use Rattle.machine.specs.declared.Slot.{Slot}
 use Rattle.machine.specs.declared.State.{State}
 use Rattle.machine.specs.Machine.{inactive, hookOf, loopsOn, carrierOf, movedTo, anyAttached}
-use Rattle.machine.specs.Geometry.{columnOf}
 use Rattle.machine.proofs.Laws.{none-moved}
 use Rattle.record.specs.declared.Record.{Record}
 use Rattle.record.proofs.Ranges.{InRange}

@@ -7,12 +7,10 @@ use lib.ListN.{length, drop, take, length-drop}
 use lib.Seq.{take-all, drop-drop, drop-length}
 use borrow.Author.Tests.{eq-eqb, ne-eqb}
 use Rattle.machine.specs.declared.State.{State}
-use Rattle.record.specs.declared.Record.{Record}
 use Rattle.record.specs.declared.Decoded.{Decoded}
 use Rattle.record.specs.Format.{decodeOf}
 use Rattle.record.proofs.Ranges.{InRange}
 use Rattle.record.proofs.Forms.{decode-size, decode-in}
-use Rattle.run.specs.declared.Reached.{Reached}
 use Rattle.run.specs.Step.{numberAt, applyOf}
 use Rattle.run.specs.Run.{reached, turn, runFrom}
 

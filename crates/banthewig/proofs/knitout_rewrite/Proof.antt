@@ -1,7 +1,7 @@
 -- The rewriter's number and place, and what it leaves in the lent areas. Assumes nothing.
 use borrow.Author.Needs.{needs}
 use native.Mathlib.Omega.{arith}
-use mathlib.Core.Path.{_≡_, ap, _∙_}
+use mathlib.Core.Path.{ap, _∙_}
 use Rattle.run.specs.declared.Answer.{Answer}
 use Rattle.rewrite.proofs.Demand.{place-bound}
 use Rattle.banthewig.specs.Entries.{packed}

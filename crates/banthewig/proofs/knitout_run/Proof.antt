@@ -1,7 +1,7 @@
 -- The run's number and place, which lies in a program. Assumes nothing.
 use borrow.Author.Needs.{needs}
 use native.Mathlib.Omega.{arith}
-use mathlib.Core.Path.{_≡_, ap, _∙_}
+use mathlib.Core.Path.{ap, _∙_}
 use Rattle.run.specs.declared.Answer.{Answer}
 use Rattle.run.proofs.Demand.{place-bound}
 use Rattle.banthewig.specs.Entries.{packed}

@@ -2,9 +2,9 @@
 use borrow.Author.Needs.{needs}
 use native.Mathlib.Omega.{arith}
 use mathlib.Core.Path.{_≡_, refl, sym, ap, _∙_}
-use Prim.Native.Nat.{ℕ, _+_, _-_, _≤_, _<_}
-use mathlib.Core.Bool.{true, false, not}
-use lib.ListN.{length, drop, getD}
+use Prim.Native.Nat.{_-_, _≤_}
+use mathlib.Core.Bool.{not}
+use lib.ListN.{length, drop}
 use Rattle.machine.specs.declared.Carrier.{Carrier}
 use Rattle.machine.specs.Machine.{inactive, attachedAt, anyAttached}
 use Rattle.machine.proofs.Laws.{all-next, all-end}

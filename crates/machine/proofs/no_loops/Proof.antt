@@ -2,12 +2,11 @@
 use borrow.Author.Needs.{needs}
 use borrow.Author.Tests.{eq-eqb, ne-eqb}
 use native.Mathlib.Omega.{arith}
-use mathlib.Core.Path.{_≡_, refl, sym, ap, _∙_}
-use Prim.Native.Nat.{ℕ, _+_, _-_, _≤_, _<_}
-use mathlib.Core.Bool.{Bool, true, false, _&&_}
-use lib.ListN.{length, drop, getD}
+use mathlib.Core.Path.{_≡_, refl, sym, _∙_}
+use Prim.Native.Nat.{ℕ, _-_, _≤_}
+use lib.ListN.{length, drop}
 use lib.Dec.{eqb}
-use Rattle.machine.specs.Machine.{all, noLoops}
+use Rattle.machine.specs.Machine.{noLoops}
 use Rattle.machine.proofs.Laws.{all-next, all-end}
 use Rattle.machine.proofs.no_loops.Statement.{statement}
 use Rattle.machine.proofs.no_loops.Tie as tie

@@ -1,5 +1,5 @@
 -- The bed and the number in range. Assumes nothing.
-use borrow.Author.Tests.{eq-eqb, ne-eqb, le-leb, lt-leb, lt-ltb, le-ltb, not-true, not-false}
+use borrow.Author.Tests.{le-leb, lt-leb}
 use Rattle.record.specs.Format.{needleOk}
 use Rattle.record.proofs.needle_ok.Statement.{statement}
 use Rattle.record.proofs.needle_ok.Tie as tie

@@ -1,10 +1,9 @@
 -- By the kind. Assumes nothing.
 use borrow.Author.Needs.{needs}
 use native.Mathlib.Omega.{arith}
-use mathlib.Core.Path.{_≡_, sym, ap, subst, _∙_}
+use mathlib.Core.Path.{_≡_, sym, ap, _∙_}
 use Prim.Native.Nat.{ℕ, _≤_, _<_}
 use mathlib.Core.List.{List}
-use Rattle.record.specs.declared.Record.{Record}
 use Rattle.record.specs.Format.{byte, needle, decodeOf}
 use Rattle.record.specs.Names.{outlineAt, outlineOf}
 use Rattle.record.proofs.Outlines.{Long, long, outlines}

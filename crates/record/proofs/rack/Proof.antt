@@ -1,16 +1,15 @@
 -- The racking in range, or refused. Assumes nothing.
 use borrow.Author.Needs.{needs}
 use native.Mathlib.Omega.{arith}
-use mathlib.Core.Path.{_≡_, refl, sym, ap, _∙_}
-use borrow.Author.Tests.{eq-eqb, ne-eqb, le-leb, lt-leb, lt-ltb, le-ltb, not-true, not-false}
-use mathlib.Core.Bool.{true, false, _&&_}
+use mathlib.Core.Path.{_≡_, _∙_}
+use borrow.Author.Tests.{lt-ltb, le-ltb}
+use mathlib.Core.Bool.{true, false}
 use mathlib.Core.List.{List}
-use Prim.Native.Nat.{ℕ, _<_, _≤_}
+use Prim.Native.Nat.{ℕ, _≤_}
 use lib.IntN.{ℤ, pos, negsuc}
-use lib.Signed.{leZ, ltZ}
+use lib.Signed.{ltZ}
 use lib.ListN.{length}
 use mir.Syntax.{w8}
-use mir.Val.{toZ, ofZ}
 use Rattle.record.specs.declared.Decoded.{Decoded}
 use Rattle.machine.proofs.Signed.{back, abs-in, ltZ-true, ltZ-false}
 use Rattle.record.specs.Format.{sizeOf, byte, signedOf, rackOk, rackRecord, refusedAs, ranged, whole, rackAt}

@@ -1,5 +1,5 @@
 -- A refusal, field by field. Assumes nothing.
-use mathlib.Core.Path.{_≡_, refl, sym, ap, _∙_}
+use mathlib.Core.Path.{refl}
 use Rattle.record.specs.Format.{refusedAs}
 use Rattle.record.proofs.refused.Statement.{statement}
 use Rattle.record.proofs.refused.Tie as tie

@@ -1,7 +1,6 @@
 -- Direction, needle and carrier in range. Assumes nothing.
 use borrow.Author.Needs.{needs}
-use borrow.Author.Tests.{eq-eqb, ne-eqb, le-leb, lt-leb, lt-ltb, le-ltb, not-true, not-false}
-use mathlib.Core.Path.{_≡_, refl, sym, ap, _∙_}
+use borrow.Author.Tests.{le-leb, lt-leb, not-true, not-false}
 use Rattle.record.specs.Format.{workOk}
 use Rattle.record.proofs.work_ok.Statement.{statement}
 use Rattle.record.proofs.work_ok.Tie as tie

@@ -1,6 +1,6 @@
 -- Three tests. Assumes nothing.
 use borrow.Author.Needs.{needs}
-use mathlib.Core.Path.{_≡_, sym, _∙_}
+use mathlib.Core.Path.{sym, _∙_}
 use Rattle.rewrite.proofs.Extents.{rack-first, rack-second, carriers-only}
 use Rattle.rewrite.proofs.bound.Statement.{statement}
 use Rattle.rewrite.proofs.bound.Tie as tie

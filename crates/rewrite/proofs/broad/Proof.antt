@@ -1,6 +1,5 @@
 -- Three half columns. Assumes nothing.
 use borrow.Author.Needs.{needs}
-use mathlib.Core.Path.{_≡_, sym}
 use Rattle.rewrite.proofs.HalfColumns.{half-fits, left-fits, left-is, right-fits, right-is}
 use Rattle.rewrite.proofs.broad.Statement.{statement}
 use Rattle.rewrite.proofs.broad.Tie as tie

@@ -2,7 +2,7 @@
 use borrow.Author.Needs.{needs}
 use native.Mathlib.Omega.{arith}
 use mathlib.Core.Logic.{⊎-elim}
-use mathlib.Core.Path.{_≡_, sym, ap, _∙_}
+use mathlib.Core.Path.{_≡_, sym, _∙_}
 use Rattle.rewrite.specs.Extents.{halfColumn, narrow, broad, extentOf}
 use Rattle.rewrite.proofs.Extents.{drop-extent, xfer-extent, pass-extent, form-extent, below-extent, split-extent}
 use Rattle.rewrite.proofs.extent_of.Statement.{statement}

@@ -1,7 +1,7 @@
 -- The two beds' extents of a loop formed. Assumes nothing.
 use borrow.Author.Needs.{needs}
 use borrow.Author.Tests.{eq-eqb, ne-eqb}
-use mathlib.Core.Path.{_≡_, sym, _∙_}
+use mathlib.Core.Path.{sym, _∙_}
 use Rattle.rewrite.proofs.form.Statement.{statement}
 use Rattle.rewrite.proofs.form.Tie as tie
 

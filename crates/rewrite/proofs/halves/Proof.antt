@@ -1,7 +1,7 @@
 -- A walk along both halves. Assumes nothing.
-use Prim.Native.Nat.{ℕ, _+_, _-_, _≤_, _<_}
+use Prim.Native.Nat.{_+_, _-_, _≤_}
 use native.Mathlib.Omega.{arith}
-use mathlib.Core.Path.{_≡_, refl, sym, ap, _∙_}
+use mathlib.Core.Path.{_≡_, sym, _∙_}
 use lib.ListN.{length, take, drop, getD, set, length-set}
 use Rattle.rewrite.proofs.Rotations.{halfway, half-next, half-front, half-back, half-none, half-all}
 use borrow.Author.Needs.{needs}

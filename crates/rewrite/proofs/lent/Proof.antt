@@ -1,6 +1,5 @@
 -- The four lengths in order. Assumes nothing.
-use native.Mathlib.Omega.{arith}
-use mathlib.Core.Path.{_≡_, sym}
+use mathlib.Core.Path.{sym}
 use Rattle.rewrite.proofs.Rewriting.{program-long, log-long, output-short, work-short, all-enough}
 use Rattle.rewrite.proofs.lent.Statement.{statement}
 use Rattle.rewrite.proofs.lent.Tie as tie

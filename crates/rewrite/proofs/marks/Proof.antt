@@ -7,7 +7,6 @@ use Rattle.rewrite.specs.Programs.{recordsOf}
 use Rattle.rewrite.specs.Laid.{rackByte}
 use Rattle.rewrite.proofs.Laying.{work-length, few}
 use Rattle.rewrite.proofs.Rackings.{rack-on, rack-none, MarkedUpto, none-marked, one-more, all-marked}
-use borrow.Author.Needs.{needs}
 use Rattle.rewrite.proofs.marks.Statement.{statement}
 use Rattle.rewrite.proofs.marks.Tie as tie
 

@@ -1,6 +1,6 @@
 -- Columns first, then extents. Assumes nothing.
 use borrow.Author.Needs.{needs}
-use mathlib.Core.Path.{_≡_, sym, _∙_}
+use mathlib.Core.Path.{sym, _∙_}
 use Rattle.rewrite.specs.Extents.{meets}
 use Rattle.rewrite.specs.Laid.{farApart}
 use Rattle.rewrite.proofs.Extents.{far-apart}

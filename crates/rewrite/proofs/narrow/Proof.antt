@@ -1,6 +1,5 @@
 -- One half column. Assumes nothing.
 use borrow.Author.Needs.{needs}
-use mathlib.Core.Path.{_≡_, sym}
 use Rattle.rewrite.proofs.HalfColumns.{half-fits, half-is}
 use Rattle.rewrite.proofs.narrow.Statement.{statement}
 use Rattle.rewrite.proofs.narrow.Tie as tie

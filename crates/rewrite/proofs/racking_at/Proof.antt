@@ -1,8 +1,8 @@
 -- On from the last mark. Assumes nothing.
-use Prim.Native.Nat.{ℕ, _*_, _/_, _-_, _≤_, _<_}
+use Prim.Native.Nat.{ℕ, _*_, _/_, _-_, _≤_}
 use native.Mathlib.Omega.{arith}
-use mathlib.Core.Path.{_≡_, sym, ap, _∙_}
-use lib.ListN.{length, take, drop}
+use mathlib.Core.Path.{ap, _∙_}
+use lib.ListN.{take, drop}
 use lib.IntN.{ℤ}
 use mir.Syntax.{w8}
 use Rattle.machine.proofs.Signed.{back}

@@ -1,9 +1,8 @@
 -- Refused by its lengths or by its run, or laid and replayed. Assumes nothing.
-use Prim.Native.Nat.{ℕ, _≤_}
-use native.Mathlib.Omega.{arith}
+use Prim.Native.Nat.{ℕ}
 use mathlib.Core.Path.{_≡_, refl, sym, ap, _∙_}
-use mathlib.Core.List.{List, _++_}
-use lib.ListN.{length, take, drop}
+use mathlib.Core.List.{List}
+use lib.ListN.{length, take}
 use lib.Seq.{length-take-le}
 use Rattle.run.specs.declared.Answer.{Answer}
 use Rattle.rewrite.specs.Programs.{flat, recordsOf, startsOf}

@@ -1,7 +1,7 @@
 -- Three copies. Assumes nothing.
-use mathlib.Core.Path.{_≡_, sym}
+use mathlib.Core.Path.{sym}
 use native.Mathlib.Omega.{arith}
-use lib.ListN.{length, take, drop, length-take, length-drop}
+use lib.ListN.{length-take, length-drop}
 use lib.Seq.{length-take-le}
 use Rattle.rewrite.proofs.Rotations.{turned-by-copies}
 use borrow.Author.Needs.{needs}

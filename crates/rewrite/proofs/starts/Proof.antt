@@ -1,9 +1,8 @@
 -- A walk along the records, one start each. Assumes nothing.
-use Prim.Native.Nat.{ℕ, _+_, _-_, _*_, _/_, _≤_, _<_}
+use Prim.Native.Nat.{ℕ, _+_, _-_}
 use native.Mathlib.Omega.{arith}
-use mathlib.Core.Path.{_≡_, refl, sym, ap, subst, _∙_}
+use mathlib.Core.Path.{_≡_, refl, sym, subst, _∙_}
 use lib.ListN.{length, take, drop, length-set}
-use Rattle.record.specs.Format.{sizeOf}
 use Rattle.rewrite.specs.Programs.{recordsOf, startsOf}
 use Rattle.rewrite.proofs.Laying.{Upto, few-starts, not-yet, all-written, next-size, upto-next, starts-next, upto-none, past-next, starts-all}
 use borrow.Author.Needs.{needs}

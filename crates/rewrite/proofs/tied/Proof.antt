@@ -1,8 +1,6 @@
 -- What holds at every racking first, then the extents. Assumes nothing.
 use borrow.Author.Needs.{needs}
-use mathlib.Core.Path.{_≡_, sym, _∙_}
-use Rattle.record.specs.declared.Record.{Record}
-use Rattle.record.specs.Names.{outlineOf}
+use mathlib.Core.Path.{sym, _∙_}
 use Rattle.rewrite.specs.Extents.{extentOf, meets}
 use Rattle.rewrite.specs.Programs.{what}
 use Rattle.rewrite.specs.Laid.{boundTo, inForceAt, part}

@@ -1,7 +1,7 @@
 -- A tuck by its own function, a knit by one store. Assumes nothing.
 use borrow.Author.Needs.{needs}
 use borrow.Author.Tests.{eq-eqb, ne-eqb}
-use mathlib.Core.Path.{_≡_, sym, ap, _∙_}
+use mathlib.Core.Path.{sym, _∙_}
 use Rattle.run.specs.Loops.{formNo, formed}
 use Rattle.run.proofs.form.Statement.{statement}
 use Rattle.run.proofs.form.Tie as tie

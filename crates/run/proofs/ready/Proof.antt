@@ -1,9 +1,9 @@
 -- Parked at the entry slot, then the float. Assumes nothing.
 use borrow.Author.Needs.{needs}
-use borrow.Author.Tests.{eq-eqb, ne-eqb, le-leb, lt-leb, not-true, not-false}
-use mathlib.Core.Path.{_≡_, refl, sym, ap, _∙_}
+use borrow.Author.Tests.{eq-eqb, ne-eqb}
+use mathlib.Core.Path.{_≡_, sym, ap, _∙_}
 use Prim.Native.Nat.{ℕ}
-use mathlib.Core.Bool.{Bool, true, false}
+use mathlib.Core.Bool.{true, false}
 use Rattle.machine.specs.declared.Carrier.{Carrier}
 use Rattle.machine.specs.declared.Column.{Column}
 use Rattle.machine.specs.declared.Slot.{Slot}

@@ -1,7 +1,6 @@
 -- The empty state with a number. Assumes nothing.
 use borrow.Author.Needs.{needs}
-use mathlib.Core.Path.{_≡_, ap, _∙_}
-use Rattle.machine.specs.declared.State.{State}
+use mathlib.Core.Path.{ap, _∙_}
 use Rattle.run.specs.Run.{reached, answerOf}
 use Rattle.run.proofs.refused.Statement.{statement}
 use Rattle.run.proofs.refused.Tie as tie

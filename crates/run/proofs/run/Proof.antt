@@ -1,6 +1,6 @@
 -- Too long, or the run from the empty state. Assumes nothing.
 use borrow.Author.Needs.{needs}
-use mathlib.Core.Path.{_≡_, _∙_}
+use mathlib.Core.Path.{_∙_}
 use borrow.Author.Tests.{le-leb, lt-leb}
 use Rattle.run.specs.Run.{runOf}
 use Rattle.run.proofs.run.Statement.{statement}

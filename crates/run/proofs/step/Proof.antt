@@ -1,9 +1,8 @@
 -- The record alone, run. Assumes nothing.
 use borrow.Author.Needs.{needs}
-use mathlib.Core.Path.{_≡_, refl, sym, ap, subst, _∙_}
+use mathlib.Core.Path.{_≡_, sym, subst}
 use lib.Seq.{length-take-le}
 use Rattle.record.specs.declared.Decoded.{Decoded}
-use Rattle.record.specs.Format.{decodeOf}
 use Prim.Native.Nat.{_≤_}
 use lib.ListN.{length}
 use Rattle.record.proofs.Forms.{decode-size}

@@ -1,7 +1,7 @@
 -- Attached, and at that needle. Assumes nothing.
 use borrow.Author.Needs.{needs}
 use borrow.Author.Tests.{eq-eqb, ne-eqb}
-use mathlib.Core.Path.{_≡_, refl, sym, ap, _∙_}
+use mathlib.Core.Path.{_∙_}
 use Rattle.machine.specs.Machine.{attachedAt}
 use Rattle.machine.proofs.Carrier.attached_at.Statement.{statement}
 use Rattle.machine.proofs.Carrier.attached_at.Tie as tie

@@ -1,5 +1,5 @@
 -- Four comparisons. Assumes nothing.
-use mathlib.Core.Path.{_≡_, sym}
+use mathlib.Core.Path.{sym}
 use Rattle.rewrite.proofs.Extents.{less, not-less, right-of, left-of, above, else-meets}
 use Rattle.rewrite.proofs.Extent.meets.Statement.{statement}
 use Rattle.rewrite.proofs.Extent.meets.Tie as tie
