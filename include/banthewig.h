@@ -1,4 +1,6 @@
-/* The C interface of Banthewig: the run of a knitout program on the machine model, and the swaps of its records. */
+/* The C interface of Banthewig: the run of a knitout program on the machine model, the swaps of its records, and the
+   panel's services on one machine state. Nothing here needs an allocator, a file or a thread; no call keeps a pointer.
+   C11 or later, C++11 or later. docs/CALLS.md has the same in full. */
 #ifndef BANTHEWIG_H
 #define BANTHEWIG_H
 
@@ -13,7 +15,8 @@ extern "C" {
 enum knitout_number {
     KNITOUT_DONE = 0,
     KNITOUT_TOO_LONG = 1,        /* program or log over its limit */
-    KNITOUT_NO_ROOM = 2,         /* output shorter than the program, or fewer work entries than half its bytes */
+    KNITOUT_NO_ROOM = 2,         /* output shorter than the program, fewer work entries than half its bytes, or a carrier
+                                    list under ten */
     KNITOUT_UNKNOWN_KIND = 3,    /* a byte that is no kind */
     KNITOUT_CUT_SHORT = 4,       /* fewer bytes than the kind needs */
     KNITOUT_FIELD_RANGE = 5,     /* a field outside its range */
@@ -25,12 +28,56 @@ enum knitout_number {
     KNITOUT_HOOK_FULL = 11,      /* over 8 loops on a hook */
     KNITOUT_NO_PAIR = 12,        /* position + 1 is not a record */
     KNITOUT_TIED = 13,           /* the two records are tied */
-    KNITOUT_TORN_LOG = 14        /* log kind not 40 (hexadecimal), or fewer than three bytes */
+    KNITOUT_TORN_LOG = 14,       /* log kind not 40 (hexadecimal), or fewer than three bytes */
+    KNITOUT_BAD_STATE = 15       /* a lent machine state with a value out of its range */
 };
 
 /* The longest program and the longest log, in bytes. */
 #define KNITOUT_PROGRAM_MOST 32768u
 #define KNITOUT_LOG_MOST 32768u
+
+/* The machine: needles on a bed (0 to 249), hooks on both beds, carriers; the furthest racking, the most loops on a hook,
+   the outermost slots, the longest float in columns, the longest record in bytes. */
+#define KNITOUT_NEEDLES 250
+#define KNITOUT_HOOKS 500
+#define KNITOUT_CARRIERS 10
+#define KNITOUT_RACKING_LEAST (-8)
+#define KNITOUT_RACKING_MOST 8
+#define KNITOUT_LOOPS_MOST 8
+#define KNITOUT_SLOT_LEAST (-8)
+#define KNITOUT_SLOT_MOST 258
+#define KNITOUT_FLOAT_MOST 20
+#define KNITOUT_RECORD_MOST 6
+
+/* Values of fields. */
+enum knitout_bed { KNITOUT_FRONT = 0, KNITOUT_BACK = 1 };
+enum knitout_side { KNITOUT_UNATTACHED = 0, KNITOUT_LEFT = 1, KNITOUT_RIGHT = 2 };
+
+/* A yarn carrier. A field without meaning is 0: all of an inactive carrier's, bed and needle of an unattached one's. */
+struct knitout_carrier {
+    uint8_t active;  /* 1 parked, 0 inactive */
+    uint8_t side;    /* the attachment's side of its needle: 0 unattached, 1 left, 2 right */
+    int16_t slot;    /* where it is parked, -8 to 258: slot z lies just left of column z */
+    uint16_t bed;    /* the attachment's needle: 0 front, 1 back */
+    uint16_t needle; /* its number there, 0 to 249 */
+};
+
+/* A machine state. All 0 is the empty state, where a run starts: racking 0, no loops, no active carrier. The byte after
+   the loops is padding: no call reads it, and what a call leaves there is not said. */
+struct knitout_state {
+    int8_t racking;                                    /* -8 to 8: the back bed's shift to the right, in columns */
+    uint8_t loops[KNITOUT_HOOKS];                      /* 0 to 8 on each hook: f.0 to f.249, then b.0 to b.249 */
+    struct knitout_carrier carriers[KNITOUT_CARRIERS]; /* carrier k at k - 1 */
+};
+
+/* The answer of a panel service. */
+struct knitout_served {
+    uint8_t number; /* enum knitout_number */
+    size_t length;  /* the record's length in bytes, or the entries written; 0 if refused */
+};
+
+/* The hook of a needle among a state's loops. */
+#define KNITOUT_HOOK(bed, needle) ((bed) * KNITOUT_NEEDLES + (needle))
 
 /* Runs a program from the empty state: number times 65,536 plus place. The place is the start of the refused
    record (3 to 11), else 0. Reads program[0] to program[length - 1] at most and writes nothing. */
@@ -45,9 +92,40 @@ uint64_t knitout_run(const uint8_t *program, size_t length);
 uint64_t knitout_rewrite(const uint8_t *program, size_t program_length, const uint8_t *log, size_t log_length,
                          uint8_t *output, size_t output_length, uint16_t *work, size_t work_count);
 
-/* The parts of an answer. */
+/* The parts of an answer of knitout_run and knitout_rewrite. */
 #define KNITOUT_NUMBER(answer) ((unsigned)((answer) >> 16))
 #define KNITOUT_PLACE(answer) ((unsigned)((answer) & 0xFFFFu))
+
+/* Makes the step of the first record of bytes[0] to bytes[length - 1] on the lent state; what follows the record is not
+   looked at. 0 changes the state and gives the record's length. 15 (looked at first) and 3 to 11 give length 0 and leave
+   every field of the state as it was; the state's memory must be writable all the same, and may not overlap the bytes. */
+struct knitout_served knitout_step(struct knitout_state *state, const uint8_t *bytes, size_t length);
+
+/* Lists the carriers of a state. 0 writes carriers 1 to 10 to list[0] to list[9] and gives length 10; entries from list[10]
+   on keep their contents. 15 (looked at first) and 2 (count under ten) give length 0 and write nothing. The list may not
+   overlap the state. */
+struct knitout_served knitout_carriers(const struct knitout_state *state, struct knitout_carrier *list, size_t count);
+
+/* The layout that the library is built with. */
+#ifdef __cplusplus
+#define KNITOUT_ASSERT(holds) static_assert(holds, #holds)
+#else
+#define KNITOUT_ASSERT(holds) _Static_assert(holds, #holds)
+#endif
+KNITOUT_ASSERT(sizeof(struct knitout_carrier) == 8);
+KNITOUT_ASSERT(offsetof(struct knitout_carrier, active) == 0);
+KNITOUT_ASSERT(offsetof(struct knitout_carrier, side) == 1);
+KNITOUT_ASSERT(offsetof(struct knitout_carrier, slot) == 2);
+KNITOUT_ASSERT(offsetof(struct knitout_carrier, bed) == 4);
+KNITOUT_ASSERT(offsetof(struct knitout_carrier, needle) == 6);
+KNITOUT_ASSERT(sizeof(struct knitout_state) == 582);
+KNITOUT_ASSERT(offsetof(struct knitout_state, racking) == 0);
+KNITOUT_ASSERT(offsetof(struct knitout_state, loops) == 1);
+KNITOUT_ASSERT(offsetof(struct knitout_state, carriers) == 502);
+KNITOUT_ASSERT(sizeof(struct knitout_served) == 2 * sizeof(size_t));
+KNITOUT_ASSERT(offsetof(struct knitout_served, number) == 0);
+KNITOUT_ASSERT(offsetof(struct knitout_served, length) == sizeof(size_t));
+#undef KNITOUT_ASSERT
 
 #ifdef __cplusplus
 }

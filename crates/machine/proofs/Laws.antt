@@ -4,13 +4,13 @@ use mathlib.Core.Path.{_≡_, refl, sym, ap, subst, _∙_}
 use mathlib.Core.Bool.{Bool, true, false, _&&_, not, cond}
 use mathlib.Core.List.{List, [], _∷_, map}
 use native.Mathlib.Omega.{arith}
-use lib.IntN.{ℤ, pos, _+ℤ_, _-ℤ_}
-use lib.Signed.{mag}
-use lib.Dec.{eqb}
+use lib.IntN.{ℤ, pos, negsuc, _+ℤ_, _-ℤ_}
+use lib.Signed.{leZ, mag}
+use lib.Dec.{eqb, leb, ltb}
 use lib.ListN.{getD, length, drop, replicate}
 use lib.Seq.{drop-cons, drop-length}
 use native.Mathlib.Numerals.{add-one}
-use borrow.Author.Tests.{eqb-true, not-true}
+use borrow.Author.Tests.{eqb-true, not-true, ltb-true, ltb-false, leb-true, le-leb}
 use Rattle.machine.specs.declared.Needle.{Needle}
 use Rattle.machine.specs.declared.Carrier.{Carrier}
 use Rattle.machine.specs.declared.State.{State}
@@ -21,6 +21,7 @@ use mir.Val.{SFits, toZ, ofZ}
 use mir.Facts.{toZ-ofZ}
 use Rattle.machine.specs.Geometry.{columnOf, eqZ}
 use Rattle.machine.specs.Machine.{OnBed, all, attachedAt, movedTo, noLoops, allInactive, inactive, inactiveCarrier, emptyState, completeOf}
+use Rattle.machine.specs.Range.{slotOk}
 use Rattle.machine.proofs.Signed.{mag-sum, eqZ-true, back, fits, fits-sum, fits-difference, cast-back}
 
 -- how far a column reaches
@@ -134,3 +135,37 @@ complete-is-empty s hl hc e =
 pub empty-is-complete : completeOf emptyState ≡ true
 unfolding completeOf emptyState all inactiveCarrier eqZ
 empty-is-complete = refl
+
+-- a slot in range, as two comparisons
+pub slot-in : (z : ℤ) → slotOk z ≡ (leZ (negsuc 7) z && leZ z (pos 258))
+unfolding slotOk
+slot-in (pos n) = refl
+slot-in (negsuc n) = and-true (leb n 7)
+  where
+    and-true : (t : Bool) → t ≡ (t && true)
+    and-true true = refl
+    and-true false = refl
+
+-- the most of two is at most 8 exactly if both are
+pub larger-leb : (a b : ℕ) → leb (cond (ltb a b) b a) 8 ≡ (leb a 8 && leb b 8)
+larger-leb a b = go (ltb a b) (λ e. ltb-true a b e) (λ e. ltb-false a b e)
+  where
+    less : (t : Bool) → (t ≡ true → b ≤ 8) → a < b → t ≡ (leb a 8 && t)
+    less true f l = simp (le-leb a 8 (omega (arith, f refl, l)))
+    less false f l = sym (and-false (leb a 8))
+      where
+        and-false : (t : Bool) → (t && false) ≡ false
+        and-false true = refl
+        and-false false = refl
+
+    more : (t : Bool) → (t ≡ true → a ≤ 8) → b ≤ a → t ≡ (t && leb b 8)
+    more true f l = simp (le-leb b 8 (omega (arith, f refl, l)))
+    more false f l = refl
+
+    go : (t : Bool) → (t ≡ true → a < b) → (t ≡ false → b ≤ a) → leb (cond t b a) 8 ≡ (leb a 8 && leb b 8)
+    go true f g = less (leb b 8) (λ e. leb-true b 8 e) (f refl)
+    go false f g = more (leb a 8) (λ e. leb-true a 8 e) (g refl)
+
+pub and-assoc : (a b d : Bool) → ((a && b) && d) ≡ (a && (b && d))
+and-assoc true b d = refl
+and-assoc false b d = refl

@@ -1,3 +1,4 @@
 -- The machine, in reading order.
 pub mod Machine
 pub mod Geometry
+pub mod Range

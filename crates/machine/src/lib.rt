@@ -3,6 +3,11 @@ ghost use mathlib.Core.Path.{_≡_};
 ghost use mathlib.Core.List.{map};
 ghost use Rattle.machine.specs.Machine.{OnBed, inactive, emptyState, hookOf, sameNeedle, attachedAt, movedTo, anyAttached, noLoops, inactiveCarrier, allInactive, completeOf};
 ghost use Rattle.machine.specs.Geometry.{columnOf, entryOf, exitOf, sameColumn, withinFloat};
+ghost use lib.Dec.{leb, ltb};
+ghost use Prim.Native.Nat.{ℕ};
+ghost use mathlib.Core.Bool.{cond};
+ghost use Rattle.machine.specs.Machine.{all};
+ghost use Rattle.machine.specs.Range.{slotOk, onBed, attachmentOk, carrierOk, stateOk};
 
 // A needle by its bed (0 front, 1 back) and its number there: where a program says it is.
 #[repr(C)]
@@ -54,6 +59,10 @@ impl State {
     pub const RACKING_LEAST: i8 = -8;
 
     pub const RACKING_MOST: i8 = 8;
+    // the outermost slots
+    pub const SLOT_LEAST: i16 = -8;
+
+    pub const SLOT_MOST: i16 = 258;
     // a float's columns, counted to the left and to the right
     pub const FLOAT_LEAST: i64 = -20;
 
@@ -88,6 +97,24 @@ impl State {
         }
         let cs = self.carriers;
         all_inactive(cs)
+    }
+
+    // Whether every value is in its range (01: the state is not foul).
+    pub fn in_range(self) -> bool
+        ensures { λ b. ⌜ b ≡ stateOk self ⌝ }
+    {
+        let r = self.racking;
+        if r.0 < State::RACKING_LEAST {
+            return false;
+        }
+        if State::RACKING_MOST < r.0 {
+            return false;
+        }
+        if !loops_in_range(&self.loops) {
+            return false;
+        }
+        let cs = self.carriers;
+        carriers_in_range(cs)
     }
 }
 
@@ -138,6 +165,16 @@ impl Needle {
         }
     }
 
+    // Whether the machine has the needle.
+    pub fn on_bed(self) -> bool
+        ensures { λ b. ⌜ b ≡ onBed self ⌝ }
+    {
+        if 1 < self.0 {
+            return false;
+        }
+        self.1 <= (State::NEEDLE_MOST as u16)
+    }
+
     pub fn equals(self, other: Needle) -> bool
         ensures { λ b. ⌜ b ≡ sameNeedle self other ⌝ }
     {
@@ -158,6 +195,18 @@ impl Column {
     {
         let d = (self.0 as i64) - (other.0 as i64);
         State::FLOAT_LEAST <= d && d <= State::FLOAT_MOST
+    }
+}
+
+impl Slot {
+    // Whether a carrier can be parked there.
+    pub fn in_range(self) -> bool
+        ensures { λ b. ⌜ b ≡ slotOk (self .0) ⌝ }
+    {
+        if self.0 < State::SLOT_LEAST {
+            return false;
+        }
+        self.0 <= State::SLOT_MOST
     }
 }
 
@@ -192,6 +241,40 @@ impl Carrier {
             return false;
         }
         n.1 == 0
+    }
+
+    // Whether a parked carrier's attachment is in range, or 0 where there is none.
+    pub fn attachment_in_range(self) -> bool
+        ensures { λ b. ⌜ b ≡ attachmentOk self ⌝ }
+    {
+        let n = self.needle;
+        if self.side == 0 {
+            if n.0 != 0 {
+                return false;
+            }
+            return n.1 == 0;
+        }
+        if 2 < self.side {
+            return false;
+        }
+        n.on_bed()
+    }
+
+    // Whether every field is in its range, and 0 where it has no meaning.
+    pub fn in_range(self) -> bool
+        ensures { λ b. ⌜ b ≡ carrierOk self ⌝ }
+    {
+        if self.active == 0 {
+            return self.is_inactive();
+        }
+        if self.active != 1 {
+            return false;
+        }
+        let z = self.slot;
+        if !z.in_range() {
+            return false;
+        }
+        self.attachment_in_range()
     }
 
     // Whether the carrier is attached at the needle.
@@ -232,6 +315,41 @@ pub fn no_loops(loops: &[u8]) -> bool
             return false;
         }
         i += 1;
+    }
+    true
+}
+
+// The larger of two.
+fn larger(a: u8, b: u8) -> u8
+    ensures { λ m. ⌜ m ≡ cond (ltb a b) b a ⌝ }
+{
+    if a < b { b } else { a }
+}
+
+// Whether no hook holds more loops than it can. The most loops are looked for, and compared once.
+pub fn loops_in_range(loops: &[u8]) -> bool
+    ensures { λ b. ⌜ b ≡ all (λ (n : ℕ). leb n 8) (now (loops .entry)) ⌝ }
+{
+    let mut most = 0;
+    let mut i = 0;
+    while i < loops.len() {
+        most = larger(most, loops[i]);
+        i += 1;
+    }
+    most <= State::LOOPS_MOST
+}
+
+// Whether every carrier is in range.
+pub fn carriers_in_range(carriers: [Carrier; State::CARRIERS]) -> bool
+    ensures { λ b. ⌜ b ≡ all carrierOk carriers ⌝ }
+{
+    let mut k = 0;
+    while k < State::CARRIERS {
+        let c = carriers[k];
+        if !c.in_range() {
+            return false;
+        }
+        k += 1;
     }
     true
 }

@@ -1,20 +1,22 @@
 -- Demand 2: what the run and the step say of every program, against the validity relation. The code's `run` equals runOf and its
 -- `step` equals stepOf by their contracts.
-use Prim.Native.Nat.{ℕ, _≤_, _<_}
+use Prim.Native.Nat.{ℕ, _+_, _≤_, _<_}
 use mathlib.Core.Path.{_≡_}
 use mathlib.Core.Bool.{true}
-use mathlib.Core.List.{List, _++_}
+use mathlib.Core.List.{List, [], _++_}
 use mathlib.Core.Logic.{_↔_}
 use lib.ListN.{length, take, drop}
 use Rattle.machine.specs.declared.State.{State}
 use Rattle.machine.specs.Machine.{emptyState}
+use Rattle.machine.specs.Range.{StateInRange}
 use Rattle.record.specs.declared.Record.{Record}
 use Rattle.record.specs.Format.{Encodes}
 use Rattle.run.specs.declared.Answer.{Answer}
+use Rattle.run.specs.declared.Reached.{Reached}
 use Rattle.run.specs.declared.Stepped.{Stepped}
 use Rattle.run.specs.Relation.{Step, Steps, Valid}
 use Rattle.run.specs.Reason.{Reason}
-use Rattle.run.specs.Run.{runOf, stepOf}
+use Rattle.run.specs.Run.{reached, runFrom, runOf, stepOf, answerOf}
 
 -- the run accepts a program exactly if it is valid
 abbrev pub AcceptsExactlyValid : Type 0
@@ -95,3 +97,27 @@ pub record StepRefusal (s : State) (l : List ℕ) (a : Stepped) : Type 0 where
 
 abbrev pub StepRefuses : Type 0
 StepRefuses = (s : State) (l : List ℕ) → (stepOf s l .number ≡ 0 → ⊥) → StepRefusal s l (stepOf s l)
+
+-- every state that the run gives is in range, refused or done, and a step keeps a state in range: none of them gets 15
+abbrev pub RunInRange : Type 0
+RunInRange = (p : List ℕ) → StateInRange (runOf p .state)
+
+abbrev pub StepInRange : Type 0
+StepInRange = (s : State) (l : List ℕ) → StateInRange s → StateInRange (stepOf s l .state)
+
+-- a program stepped record by record by a service: each call is lent the rest of the bytes and the state as the last one left it,
+-- until there are none left or one is refused; the place is counted on
+module _ (service : State → List ℕ → Stepped) where
+  pub data Stepwise : State → List ℕ → ℕ → Reached → Type 0 where
+    ended : {s : State} {at : ℕ} → Stepwise s [] at (reached 0 0 s)
+    refused : {s : State} {l : List ℕ} {at : ℕ} → 0 < length l → (service s l .number ≡ 0 → ⊥)
+        → Stepwise s l at (reached (service s l .number) at (service s l .state))
+    next : {s : State} {l : List ℕ} {at : ℕ} {r : Reached} → 0 < length l → service s l .number ≡ 0
+        → Stepwise (service s l .state) (drop (service s l .length) l) (at + service s l .length) r → Stepwise s l at r
+
+-- stepped from the empty state, a program that is not too long gives the run's answer, and no other
+abbrev pub StepsAreTheRun : (State → List ℕ → Stepped) → Type 0
+StepsAreTheRun service = (p : List ℕ) → length p ≤ 32768 → (r : Reached) × Stepwise service emptyState p 0 r × (runOf p ≡ answerOf r)
+
+abbrev pub StepsAreOne : (State → List ℕ → Stepped) → Type 0
+StepsAreOne service = (p : List ℕ) (r : Reached) → length p ≤ 32768 → Stepwise service emptyState p 0 r → runOf p ≡ answerOf r

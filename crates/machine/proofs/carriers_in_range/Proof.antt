@@ -1,0 +1,69 @@
+-- A walk along the carriers. Assumes nothing.
+use borrow.Author.Needs.{needs}
+use native.Mathlib.Omega.{arith}
+use mathlib.Core.Path.{_≡_, refl, sym, _∙_}
+use Prim.Native.Nat.{_-_, _≤_}
+use lib.ListN.{length, drop}
+use borrow.Author.Tests.{not-true, not-false}
+use mathlib.Core.Bool.{Bool}
+use mathlib.Core.List.{List}
+use Rattle.machine.specs.declared.Carrier.{Carrier}
+use Rattle.machine.specs.Machine.{inactive, all}
+use Rattle.machine.specs.Range.{carrierOk}
+use Rattle.machine.proofs.Laws.{all-next, all-end}
+use Rattle.machine.proofs.carriers_in_range.Statement.{statement}
+use Rattle.machine.proofs.carriers_in_range.Tie as tie
+
+abbrev fine : List Carrier → Bool
+fine l = all carrierOk l
+
+abbrev Inv-loop : tie.InvT-loop
+Inv-loop carriers k₀ k = (k ≤ 10) × (length carriers ≡ 10) × (fine carriers ≡ fine (drop k carriers))
+
+abbrev μ-loop : tie.MeasureT-loop
+μ-loop carriers k₀ k = 10 - k
+
+loop-holds : tie.Need-loop-holds Inv-loop μ-loop
+loop-holds c = (search needs, c .good .0 .1 .0 .1, refl)
+
+mul-c : tie.Need-mul-c Inv-loop μ-loop
+mul-c c = search needs
+
+array-copy-out-c : tie.Need-array-copy-out-c Inv-loop μ-loop
+array-copy-out-c c = search needs
+
+in-range-requires : tie.Need-in-range-requires Inv-loop μ-loop
+in-range-requires c κs = search needs
+
+returns : tie.Need-returns Inv-loop μ-loop
+returns c = let l = c .before .before .before .before .before .args .t1 in let k = c .before .before .before .before .loop .k in
+    sym (c .before .before .before .before .loop .inv .2 ∙ all-next carrierOk l k inactive (omega arith) ∙ simp (← c .before .in-range .ensures, not-true (c .before .in-range .result) (c .if1 .taken)))
+
+add-k : tie.Need-add-k Inv-loop μ-loop
+add-k c = search needs
+
+loop-less : tie.Need-loop-less Inv-loop μ-loop
+loop-less c = omega arith
+
+loop-again : tie.Need-loop-again Inv-loop μ-loop
+loop-again c = let l = c .before .before .before .before .before .args .t1 in let k = c .before .before .before .before .loop .k in
+    (search needs, c .before .before .before .before .loop .inv .1, c .before .before .before .before .loop .inv .2 ∙ all-next carrierOk l k inactive (omega arith) ∙ simp (← c .before .in-range .ensures, not-false (c .before .in-range .result) (c .if1 .left)))
+
+returns-2 : tie.Need-returns-2 Inv-loop μ-loop
+returns-2 c = sym (c .before .loop .inv .2 ∙ all-end carrierOk (c .before .before .args .t1) (c .before .loop .k) (omega arith))
+
+pub carriers-in-range-spec : {M : Type 1} → statement M
+carriers-in-range-spec =
+    tie.close
+    (tie.spec
+    Inv-loop
+    μ-loop
+    loop-holds
+    mul-c
+    array-copy-out-c
+    in-range-requires
+    returns
+    add-k
+    loop-less
+    loop-again
+    returns-2)
