@@ -6,7 +6,7 @@ use mathlib.Core.List.{List, [], _∷_, _++_}
 use native.Mathlib.Omega.{arith}
 use lib.IntN.{natAbs}
 use lib.ListN.{length, take, drop, length-append}
-use lib.Seq.{drop-cons}
+use lib.Seq.{drop-cons, getD-take, length-take-le}
 use lib.Dec.{eqb, leb, ltb}
 use borrow.Author.Tests.{ne-eqb, eqb-true, eqb-false, leb-true, le-leb, lt-leb, ltb-true, ltb-false, le-ltb}
 use Rattle.machine.specs.Machine.{OnBed, hookOf}
@@ -109,6 +109,77 @@ fields-positive (Fields.three e) = omega arith
 fields-positive (Fields.middle a b) = omega arith
 fields-positive (Fields.nine e) = omega arith
 
+-- ---- decoding looks no further than the kind's length
+fields-decode : {l : List ℕ} {size : ℕ} {ok : Bool} {x : Record} → Fields l size ok x → 0 < length l → decodeOf l ≡ whole l size (ranged ok size x)
+unfolding decodeOf
+fields-decode {l} (Fields.one e) h = simp (ne-eqb (length l) 0 (λ q. omega arith), e)
+fields-decode {l} (Fields.two e) h = simp (ne-eqb (length l) 0 (λ q. omega arith), e)
+fields-decode {l} (Fields.three e) h = simp (ne-eqb (length l) 0 (λ q. omega arith), e)
+fields-decode {l} (Fields.middle a b) h =
+    simp (ne-eqb (length l) 0 (λ q. omega arith), ne-eqb (byte l 0) 1 (λ q. omega arith), ne-eqb (byte l 0) 2 (λ q. omega arith), ne-eqb (byte l 0) 3 (λ q. omega arith), le-leb 4 (byte l 0) a, le-leb (byte l 0) 8 b)
+fields-decode {l} (Fields.nine e) h = simp (ne-eqb (length l) 0 (λ q. omega arith), e)
+
+-- the front of a list has its bytes
+kept : (n i : ℕ) (l : List ℕ) → i < n → byte l i ≡ byte (take n l) i
+kept n i l h = sym (getD-take n l i 0 h)
+
+fields-front : {l : List ℕ} {size : ℕ} {ok : Bool} {x : Record} → Fields l size ok x → Fields (take size l) size ok x
+fields-front {l} (Fields.one e) = rw (kept 2 1 l (omega arith)) (Fields.one (sym (kept 2 0 l (omega arith)) ∙ e))
+fields-front {l} (Fields.two e) = rw (kept 3 1 l (omega arith), kept 3 2 l (omega arith)) (Fields.two (sym (kept 3 0 l (omega arith)) ∙ e))
+fields-front {l} (Fields.three e) =
+    rw (kept 4 1 l (omega arith), kept 4 2 l (omega arith), kept 4 3 l (omega arith)) (Fields.three (sym (kept 4 0 l (omega arith)) ∙ e))
+fields-front {l} (Fields.middle a b) =
+    let k = kept 5 0 l (omega arith) in
+    rw (k, kept 5 1 l (omega arith), kept 5 2 l (omega arith), kept 5 3 l (omega arith), kept 5 4 l (omega arith)) (Fields.middle (omega (arith, k)) (omega (arith, k)))
+fields-front {l} (Fields.nine e) =
+    rw (kept 6 1 l (omega arith), kept 6 2 l (omega arith), kept 6 3 l (omega arith), kept 6 4 l (omega arith), kept 6 5 l (omega arith))
+    (Fields.nine (sym (kept 6 0 l (omega arith)) ∙ e))
+
+whole-front : (l : List ℕ) (size : ℕ) (d : Decoded) → size ≤ length l → whole (take size l) size d ≡ whole l size d
+unfolding whole
+whole-front l size d h = let e = length-take-le size l h in simp (le-ltb (length (take size l)) size (omega arith), le-ltb (length l) size h)
+
+front-decode : {l : List ℕ} {size : ℕ} {ok : Bool} {x : Record} → Fields l size ok x → size ≤ length l → decodeOf (take size l) ≡ decodeOf l
+front-decode {l} {size} {ok} {x} f h =
+    let some = fields-positive f in
+    let e = length-take-le size l h in
+    fields-decode (fields-front f) (omega arith) ∙ whole-front l size (ranged ok size x) h ∙ sym (fields-decode f (omega arith))
+
+front-read : {l : List ℕ} {d : Decoded} → Reads l d → 0 < sizeOf (byte l 0) → sizeOf (byte l 0) ≤ length l → decodeOf (take (sizeOf (byte l 0)) l) ≡ decodeOf l
+front-read (Reads.none a) p h = absurd (omega arith)
+front-read (Reads.strange a b) p h = absurd (omega arith)
+front-read (Reads.short f a b) p h = absurd (omega (arith, fields-size f))
+front-read {l} (Reads.outside f a b) p h = rw (fields-size f) (front-decode f a)
+front-read {l} (Reads.done f a b) p h = rw (fields-size f) (front-decode f a)
+
+pub decode-front : (l : List ℕ) → 0 < sizeOf (byte l 0) → sizeOf (byte l 0) ≤ length l → decodeOf (take (sizeOf (byte l 0)) l) ≡ decodeOf l
+decode-front l = front-read (reads l)
+
+-- without a byte, with an unknown kind, with too few bytes
+pub decode-none : (l : List ℕ) → length l ≡ 0 → decodeOf l ≡ refusedAs 4
+unfolding decodeOf
+decode-none l h = simp h
+
+pub decode-strange : (l : List ℕ) → 0 < length l → sizeOf (byte l 0) ≡ 0 → decodeOf l ≡ refusedAs 3
+decode-strange l h z = read-strange (reads l)
+  where
+    read-strange : {d : Decoded} → Reads l d → d ≡ refusedAs 3
+    read-strange (Reads.none a) = absurd (omega arith)
+    read-strange (Reads.strange a b) = refl
+    read-strange (Reads.short f a b) = absurd (omega (arith, fields-size f, fields-positive f))
+    read-strange (Reads.outside f a b) = absurd (omega (arith, fields-size f, fields-positive f))
+    read-strange (Reads.done f a b) = absurd (omega (arith, fields-size f, fields-positive f))
+
+pub decode-short : (l : List ℕ) → 0 < length l → length l < sizeOf (byte l 0) → decodeOf l ≡ refusedAs 4
+decode-short l h z = read-short (reads l)
+  where
+    read-short : {d : Decoded} → Reads l d → d ≡ refusedAs 4
+    read-short (Reads.none a) = refl
+    read-short (Reads.strange a b) = absurd (omega arith)
+    read-short (Reads.short f a b) = refl
+    read-short (Reads.outside f a b) = absurd (omega (arith, fields-size f))
+    read-short (Reads.done f a b) = absurd (omega (arith, fields-size f))
+
 -- ---- the form at the front of the bytes
 bytesFrom : ℕ → ℕ → List ℕ → List ℕ
 bytesFrom zero i l = []
@@ -135,6 +206,10 @@ fields-form {l} (Fields.nine e) t =
     (work-number (byte l 1) (byte l 2) (byte l 3) (byte l 4) p) (work-low (byte l 1) (byte l 2) (byte l 3) (byte l 4) p) (work-high (byte l 1) (byte l 2) (byte l 3) (byte l 4) p)
     (leb-true (byte l 5) 249 q))
 
+refused-number : (n : ℕ) → refusedAs (suc n) .number ≡ 0 → ⊥
+unfolding refusedAs
+refused-number n e = omega arith
+
 -- what was decoded: its length and its form
 read-done : {l : List ℕ} {d : Decoded} → Reads l d → d .number ≡ 0 → (0 < d .size) × (d .size ≤ length l) × Encodes (take (d .size) l) (d .what)
 unfolding refusedAs
@@ -147,6 +222,17 @@ read-done {l} (Reads.done {size = size} {x = x} f a b) e =
 
 pub decode-size : (l : List ℕ) → decodeOf l .number ≡ 0 → (0 < decodeOf l .size) × (decodeOf l .size ≤ length l)
 decode-size l e = let (a, b, c) = read-done (reads l) e in (a, b)
+
+-- the length decoded is the kind's
+pub decode-kind : (l : List ℕ) → decodeOf l .number ≡ 0 → decodeOf l .size ≡ sizeOf (byte l 0)
+decode-kind l = read-kind (reads l)
+  where
+    read-kind : {d : Decoded} → Reads l d → d .number ≡ 0 → d .size ≡ sizeOf (byte l 0)
+    read-kind (Reads.none a) e = absurd (refused-number 3 e)
+    read-kind (Reads.strange a b) e = absurd (refused-number 2 e)
+    read-kind (Reads.short f a b) e = absurd (refused-number 3 e)
+    read-kind (Reads.outside f a b) e = absurd (refused-number 4 e)
+    read-kind (Reads.done f a b) e = sym (fields-size f)
 
 pub decode-form : (l : List ℕ) → decodeOf l .number ≡ 0 → Encodes (take (decodeOf l .size) l) (decodeOf l .what)
 decode-form l e = let (a, b, c) = read-done (reads l) e in c

@@ -1,8 +1,7 @@
 -- The run of one record alone is its step. Assumes nothing.
-use Prim.Native.Nat.{ℕ, _+_, _<_}
+use Prim.Native.Nat.{ℕ, suc, _+_, _≤_, _<_}
 use mathlib.Core.Path.{_≡_, refl, sym, ap, subst, _∙_}
-use mathlib.Core.Bool.{Bool, true, false}
-use mathlib.Core.List.{List, [], append-nil}
+use mathlib.Core.List.{List, []}
 use native.Mathlib.Omega.{arith}
 use lib.ListN.{length, drop, take}
 use lib.Seq.{drop-length, length-take-le}
@@ -10,61 +9,97 @@ use lib.Dec.{eqb}
 use borrow.Author.Tests.{eq-eqb, ne-eqb, eqb-true, eqb-false}
 use Rattle.machine.specs.declared.State.{State}
 use Rattle.record.specs.declared.Decoded.{Decoded}
-use Rattle.record.specs.Format.{decodeOf}
-use Rattle.record.proofs.Forms.{form-decode, decode-form, decode-size}
+use Rattle.record.specs.Format.{byte, sizeOf, refusedAs, decodeOf}
+use Rattle.record.proofs.Forms.{decode-front, decode-kind}
 use Rattle.run.specs.declared.Reached.{Reached}
 use Rattle.run.specs.declared.Stepped.{Stepped}
 use Rattle.run.specs.Step.{numberAt, applyOf}
-use Rattle.run.specs.Run.{reached, runFrom, stepOf}
-use Rattle.run.proofs.Turns.{run-end, run-stopped, run-next}
+use Rattle.run.specs.Run.{reached, runFrom, stay, stepOf}
+use Rattle.run.proofs.Premises.{by}
+use Rattle.run.proofs.Turns.{run-end, run-refused, run-stopped, run-next}
 
-module _ (s : State) (l : List ℕ) (k : decodeOf l .number ≡ 0) where
-  abbrev q : List ℕ
-  q = take (decodeOf l .size) l
-
-  alone : decodeOf q ≡ record { number = 0; size = length q; what = decodeOf l .what }
-  alone = ap decodeOf (sym (append-nil q)) ∙ form-decode (decode-form l k) []
-
-  some : 0 < length q
-  some = omega (arith, length-take-le (decodeOf l .size) l (decode-size l k .1), decode-size l k .0)
-
-  stops : (numberAt s (decodeOf l .what) ≡ 0 → ⊥) → runFrom 0 q 0 s ≡ reached (numberAt s (decodeOf l .what)) 0 s
-  stops h =
-      run-stopped q 0 s some (ap (λ (d : Decoded). d .number) alone) (λ e. h (sym (ap (λ (d : Decoded). numberAt s (d .what)) alone) ∙ e))
-      ∙ ap (λ (d : Decoded). reached (numberAt s (d .what)) 0 s) alone
-
-  passes : numberAt s (decodeOf l .what) ≡ 0 → runFrom 0 q 0 s ≡ reached 0 0 (applyOf s (decodeOf l .what))
-  passes h =
-      run-next q 0 s some (ap (λ (d : Decoded). d .number) alone) (ap (λ (d : Decoded). numberAt s (d .what)) alone ∙ h)
-      ∙ ap (λ (d : Decoded). runFrom 0 (drop (d .size) q) (0 + d .size) (applyOf s (d .what))) alone
-      ∙ ap (λ (r : List ℕ). runFrom 0 r (0 + length q) (applyOf s (decodeOf l .what))) (drop-length q)
-      ∙ run-end (0 + length q) (applyOf s (decodeOf l .what))
-
-module _ (s : State) (l : List ℕ) (d : Decoded) (is : d ≡ decodeOf l) where
-  pub step-unread : (d .number ≡ 0 → ⊥) → _≡_ {A = Stepped} (record { number = d .number; length = 0; state = s }) (stepOf s l)
+-- ---- the step's three ends
+module _ (s : State) (l : List ℕ) where
+  unread-step : (decodeOf l .number ≡ 0 → ⊥) → stay (decodeOf l .number) s ≡ stepOf s l
   unfolding stepOf
-  step-unread h = simp (← is, ne-eqb (d .number) 0 h)
+  unread-step h = simp (ne-eqb (decodeOf l .number) 0 h)
 
-  module _ (k : d .number ≡ 0) (a : Reached) (run : a ≡ runFrom 0 (take (d .size) l) 0 s) where
-    k' : decodeOf l .number ≡ 0
-    k' = subst (λ (e : Decoded). e .number ≡ 0) is k
-
-    run' : a ≡ runFrom 0 (take (decodeOf l .size) l) 0 s
-    run' = run ∙ ap (λ (e : Decoded). runFrom 0 (take (e .size) l) 0 s) is
-
-    pub step-stopped : (a .number ≡ 0 → ⊥) → _≡_ {A = Stepped} (record { number = a .number; length = 0; state = s }) (stepOf s l)
+  module _ (k : decodeOf l .number ≡ 0) where
+    refused-step : (numberAt s (decodeOf l .what) ≡ 0 → ⊥) → stay (numberAt s (decodeOf l .what)) s ≡ stepOf s l
     unfolding stepOf
-    step-stopped h = go (eqb (numberAt s (decodeOf l .what)) 0) refl
-      where
-        go : (b : Bool) → eqb (numberAt s (decodeOf l .what)) 0 ≡ b → _≡_ {A = Stepped} (record { number = a .number; length = 0; state = s }) (stepOf s l)
-        go true e = absurd (h (ap (λ (r : Reached). r .number) (run' ∙ passes s l k' (eqb-true (numberAt s (decodeOf l .what)) 0 e))))
-        go false e = simp (run' ∙ stops s l k' (eqb-false (numberAt s (decodeOf l .what)) 0 e), eq-eqb (decodeOf l .number) 0 k', e)
+    refused-step h = simp (eq-eqb (decodeOf l .number) 0 k, ne-eqb (numberAt s (decodeOf l .what)) 0 h)
 
-    pub step-passed : a .number ≡ 0 → _≡_ {A = Stepped} (record { number = 0; length = d .size; state = a .state }) (stepOf s l)
+    made-step : numberAt s (decodeOf l .what) ≡ 0 → _≡_ {A = Stepped} (record { number = 0; length = decodeOf l .size; state = applyOf s (decodeOf l .what) }) (stepOf s l)
     unfolding stepOf
-    step-passed h = go (eqb (numberAt s (decodeOf l .what)) 0) refl
-      where
-        go : (b : Bool) → eqb (numberAt s (decodeOf l .what)) 0 ≡ b → _≡_ {A = Stepped} (record { number = 0; length = d .size; state = a .state }) (stepOf s l)
-        go true e = simp (run' ∙ passes s l k' (eqb-true (numberAt s (decodeOf l .what)) 0 e), is, eq-eqb (decodeOf l .number) 0 k', e)
-        go false e =
-            absurd (eqb-false (numberAt s (decodeOf l .what)) 0 e (sym (ap (λ (r : Reached). r .number) (run' ∙ stops s l k' (eqb-false (numberAt s (decodeOf l .what)) 0 e))) ∙ h))
+    made-step h = simp (eq-eqb (decodeOf l .number) 0 k, eq-eqb (numberAt s (decodeOf l .what)) 0 h)
+
+  -- bytes that are no record
+  pub step-unread : (n : ℕ) → decodeOf l ≡ refusedAs (suc n) → stay (suc n) s ≡ stepOf s l
+  unfolding refusedAs
+  step-unread n e = let k = ap (λ (d : Decoded). d .number) e in ap (λ (m : ℕ). stay m s) (sym k) ∙ unread-step (λ z. omega (arith, k, z))
+
+-- ---- a record with all its bytes, alone
+module _ (s : State) (l : List ℕ) (n : ℕ) (size : n ≡ sizeOf (byte l 0)) (some : n ≡ 0 → ⊥) (within : n ≤ length l) where
+  abbrev q : List ℕ
+  q = take n l
+
+  same : decodeOf q ≡ decodeOf l
+  same = ap (λ (m : ℕ). decodeOf (take m l)) size ∙ decode-front l (omega (arith, size, some)) (omega (arith, size))
+
+  long : length q ≡ n
+  long = length-take-le n l within
+
+  -- the run's end and the step's
+  data Both : Reached → Stepped → Type 0 where
+    refused : {m : ℕ} → (m ≡ 0 → ⊥) → Both (reached m 0 s) (stay m s)
+    passed : {t : State} → Both (reached 0 0 t) (record { number = 0; length = n; state = t })
+
+  unread : (decodeOf l .number ≡ 0 → ⊥) → Both (runFrom 0 q 0 s) (stepOf s l)
+  unread h =
+      rw (run-refused q 0 s (omega (arith, long, some)) (λ e. h (sym (ap (λ (d : Decoded). d .number) same) ∙ e)), same, sym (unread-step s l h)) (Both.refused h)
+
+  module _ (k : decodeOf l .number ≡ 0) where
+    number : decodeOf q .number ≡ 0
+    number = ap (λ (d : Decoded). d .number) same ∙ k
+
+    stops : (numberAt s (decodeOf l .what) ≡ 0 → ⊥) → Both (runFrom 0 q 0 s) (stepOf s l)
+    stops h =
+        rw (run-stopped q 0 s (omega (arith, long, some)) number (λ e. h (sym (ap (λ (d : Decoded). numberAt s (d .what)) same) ∙ e)), same, sym (refused-step s l k h)) (Both.refused h)
+
+    no-more : drop (decodeOf q .size) q ≡ []
+    no-more = ap (λ (m : ℕ). drop m q) (ap (λ (d : Decoded). d .size) same ∙ decode-kind l k ∙ sym size ∙ sym long) ∙ drop-length q
+
+    run-passes : numberAt s (decodeOf l .what) ≡ 0 → runFrom 0 q 0 s ≡ reached 0 0 (applyOf s (decodeOf l .what))
+    run-passes h =
+        run-next q 0 s (omega (arith, long, some)) number (ap (λ (d : Decoded). numberAt s (d .what)) same ∙ h)
+        ∙ ap (λ (r : List ℕ). runFrom 0 r (0 + decodeOf q .size) (applyOf s (decodeOf q .what))) no-more
+        ∙ run-end (0 + decodeOf q .size) (applyOf s (decodeOf q .what)) ∙ ap (λ (d : Decoded). reached 0 0 (applyOf s (d .what))) same
+
+    step-passes : numberAt s (decodeOf l .what) ≡ 0 → stepOf s l ≡ record { number = 0; length = n; state = applyOf s (decodeOf l .what) }
+    step-passes h =
+        sym (made-step s l k h) ∙ ap (λ (m : ℕ). record { number = 0; length = m; state = applyOf s (decodeOf l .what) }) (decode-kind l k ∙ sym size)
+
+    passes : numberAt s (decodeOf l .what) ≡ 0 → Both (runFrom 0 q 0 s) (stepOf s l)
+    passes h = rw (run-passes h, step-passes h) Both.passed
+
+  both : Both (runFrom 0 q 0 s) (stepOf s l)
+  both =
+      by (eqb (decodeOf l .number) 0)
+      (λ k. let z = eqb-true (decodeOf l .number) 0 k in
+      by (eqb (numberAt s (decodeOf l .what)) 0) (λ h. passes z (eqb-true (numberAt s (decodeOf l .what)) 0 h)) (λ h. stops z (eqb-false (numberAt s (decodeOf l .what)) 0 h)))
+      (λ k. unread (eqb-false (decodeOf l .number) 0 k))
+
+  stopped : {r : Reached} {t : Stepped} → Both r t → (r .number ≡ 0 → ⊥) → stay (r .number) s ≡ t
+  stopped (Both.refused h) e = refl
+  stopped Both.passed e = absurd (e refl)
+
+  went : {r : Reached} {t : Stepped} → Both r t → r .number ≡ 0 → record { number = 0; length = n; state = r .state } ≡ t
+  went (Both.refused h) e = absurd (h e)
+  went Both.passed e = refl
+
+  module _ (a : Reached) (run : a ≡ runFrom 0 q 0 s) where
+    pub step-stopped : (a .number ≡ 0 → ⊥) → stay (a .number) s ≡ stepOf s l
+    step-stopped = stopped (subst (λ (r : Reached). Both r (stepOf s l)) (sym run) both)
+
+    pub step-passed : a .number ≡ 0 → _≡_ {A = Stepped} (record { number = 0; length = n; state = a .state }) (stepOf s l)
+    step-passed = went (subst (λ (r : Reached). Both r (stepOf s l)) (sym run) both)

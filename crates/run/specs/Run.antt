@@ -37,11 +37,15 @@ answerOf r = record { number = r .number; place = r .place; complete = completeO
 unfoldable pub runOf : List ℕ → Answer
 runOf p = answerOf (cond (leb (length p) 32768) (runFrom 0 p 0 emptyState) (reached 1 0 emptyState))
 
+-- a step that is refused: length 0 and the state kept
+abbrev pub stay : ℕ → State → Stepped
+stay n s = record { number = n; length = 0; state = s }
+
 -- the step of the first record of a slice: number, the record's length (0 if refused), state
 unfoldable pub stepOf : State → List ℕ → Stepped
 stepOf s l =
     cond (eqb (decodeOf l .number) 0)
     (cond (eqb (numberAt s (decodeOf l .what)) 0)
     (record { number = 0; length = decodeOf l .size; state = applyOf s (decodeOf l .what) })
-    (record { number = numberAt s (decodeOf l .what); length = 0; state = s }))
-    (record { number = decodeOf l .number; length = 0; state = s })
+    (stay (numberAt s (decodeOf l .what)) s))
+    (stay (decodeOf l .number) s)

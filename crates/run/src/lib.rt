@@ -7,7 +7,7 @@ ghost use Rattle.machine.specs.Geometry.{columnOf, entryOf, exitOf};
 ghost use Rattle.run.specs.Relation.{unattached, reparked, attached};
 ghost use Rattle.run.specs.Step.{lookOf, parkedNo, floatNo, orNumber};
 ghost use Rattle.run.specs.Loops.{tuckNo, tucked, formNo, formed, transferNo, transferredLoops};
-ghost use Rattle.run.specs.Run.{reached, runFrom, answerOf, runOf, stepOf};
+ghost use Rattle.run.specs.Run.{reached, runFrom, answerOf, runOf, stay, stepOf};
 use machine::Carrier;
 use machine::Needle;
 use machine::Racking;
@@ -345,26 +345,35 @@ pub fn run(program: &[u8]) -> Answer
     answered(run_from(state, program))
 }
 
-// The step of the first record of a slice of any length: the run of that record alone.
+// A step that is refused keeps the state.
+fn kept(number: u8, state: State) -> Stepped
+    ensures { λ t. ⌜ t ≡ stay number state ⌝ }
+{
+    Stepped {
+        number,
+        length: 0,
+        state,
+    }
+}
+
+// The step of the first record of a slice of any length: the run of that record alone. (It does not decode the record
+// itself: a second caller of decode would take it out of the run's loop.)
 pub fn step(state: State, bytes: &[u8]) -> Stepped
     ensures { λ t. ⌜ t ≡ stepOf state (now (bytes .entry)) ⌝ }
 {
-    let d = record::decode(bytes);
-    if d.number != 0 {
-        return Stepped {
-            number: d.number,
-            length: 0,
-            state,
-        };
+    if bytes.len() == 0 {
+        return kept(record::CUT_SHORT, state);
     }
-    let size = d.size;
+    let size = record::size_of(bytes[0]);
+    if size == 0 {
+        return kept(record::UNKNOWN_KIND, state);
+    }
+    if bytes.len() < size {
+        return kept(record::CUT_SHORT, state);
+    }
     let a = run_from(state, &bytes[..size]);
     if a.number != 0 {
-        return Stepped {
-            number: a.number,
-            length: 0,
-            state,
-        };
+        return kept(a.number, state);
     }
     let after = a.state;
     Stepped {
