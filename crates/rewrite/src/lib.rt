@@ -29,8 +29,6 @@ struct Replayed {
 }
 
 // The numbers of refusals, besides those of the run; 01's word for 2 is no bench.
-pub const NO_ROOM: u8 = 2;
-
 pub const NO_PAIR: u8 = 12;
 
 pub const TIED: u8 = 13;
@@ -388,10 +386,10 @@ fn lent(program: usize, log: usize, output: usize, work: usize) -> u8
         return run::TOO_LONG;
     }
     if output < program {
-        return NO_ROOM;
+        return run::NO_ROOM;
     }
     if work < program / 2 {
-        return NO_ROOM;
+        return run::NO_ROOM;
     }
     0
 }

@@ -39,6 +39,8 @@ pub struct Stepped {
 // The numbers of refusals, besides those of the bytes (crate record).
 pub const TOO_LONG: u8 = 1;
 
+pub const NO_ROOM: u8 = 2;
+
 pub const ALREADY_IN: u8 = 6;
 
 pub const NOT_IN: u8 = 7;
@@ -346,7 +348,7 @@ pub fn run(program: &[u8]) -> Answer
 }
 
 // A step that is refused keeps the state.
-fn kept(number: u8, state: State) -> Stepped
+pub fn kept(number: u8, state: State) -> Stepped
     ensures { λ t. ⌜ t ≡ stay number state ⌝ }
 {
     Stepped {

@@ -1,0 +1,2 @@
+-- Laws of the panel's services.
+pub mod Services

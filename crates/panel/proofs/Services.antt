@@ -1,0 +1,34 @@
+-- The services' answers by what was looked at. Assumes nothing.
+use Prim.Native.Nat.{ℕ, _≤_, _<_}
+use mathlib.Core.Path.{_≡_, refl}
+use mathlib.Core.Bool.{true, false}
+use mathlib.Core.List.{List}
+use borrow.Author.Tests.{lt-ltb, le-ltb}
+use Rattle.machine.specs.declared.State.{State}
+use Rattle.machine.specs.Range.{stateOk}
+use Rattle.run.specs.Run.{stay, stepOf}
+use Rattle.panel.specs.declared.Served.{Served}
+use Rattle.panel.specs.Panel.{panelStep, listAnswer}
+
+module _ (s : State) (l : List ℕ) where
+  pub foul-step : stateOk s ≡ false → stay 15 s ≡ panelStep s l
+  unfolding panelStep
+  foul-step e = simp e
+
+  pub fine-step : stateOk s ≡ true → stepOf s l ≡ panelStep s l
+  unfolding panelStep
+  fine-step e = simp e
+
+module _ (s : State) (n : ℕ) where
+  pub foul-list : stateOk s ≡ false → listAnswer s n ≡ record { number = 15; length = 0 }
+  unfolding listAnswer
+  foul-list e = simp e
+
+  module _ (e : stateOk s ≡ true) where
+    pub short-list : n < 10 → listAnswer s n ≡ record { number = 2; length = 0 }
+    unfolding listAnswer
+    short-list h = simp (e, lt-ltb n 10 h)
+
+    pub long-list : 10 ≤ n → listAnswer s n ≡ record { number = 0; length = 10 }
+    unfolding listAnswer
+    long-list h = simp (e, le-ltb n 10 h)

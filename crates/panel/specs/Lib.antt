@@ -1,0 +1,3 @@
+-- The panel's services, in reading order.
+pub mod Panel
+pub mod Claims
