@@ -3,6 +3,8 @@ ghost use mathlib.Core.Path.{_≡_};
 ghost use Prim.Native.Nat.{_+_, _*_, _<_};
 ghost use Rattle.run.specs.Run.{runOf};
 ghost use Rattle.rewrite.specs.Rewrite.{rewriteOf};
+ghost use lib.ListN.{length};
+ghost use Rattle.panel.specs.Panel.{panelStep, served, listAnswer, carrierList};
 ghost use Rattle.banthewig.specs.Entries.{packed};
 
 // Number and place in one word.
@@ -37,4 +39,48 @@ pub extern "C" fn knitout_rewrite(
 {
     let a = rewrite::rewrite(program, log, output, work);
     word(a.number, a.place)
+}
+
+// Makes the step of the first record of a slice on a lent state: number, and the record's length. A refused call leaves
+// every value of the state as it was.
+#[no_mangle]
+pub extern "C" fn knitout_step(state: &mut machine::State, bytes: &[u8]) -> panel::Served
+    ensures { λ r. ⌜ (r ≡ served (panelStep (now (state .entry)) (now (bytes .entry))))
+        × (now (state .exit) ≡ panelStep (now (state .entry)) (now (bytes .entry)) .state) ⌝ }
+{
+    let out = panel::step(*state, bytes);
+    *state = out.state;
+    panel::Served {
+        number: out.number,
+        length: out.length,
+    }
+}
+
+// Fills a lent list with the carriers of a state.
+pub fn list_carriers(state: machine::State, list: &mut [machine::Carrier]) -> panel::Served
+    ensures { λ r. ⌜ (r ≡ listAnswer state (length (now (list .entry)))) × (now (list .exit) ≡ carrierList state (now (list .entry))) ⌝ }
+{
+    let out = panel::list_answer(state, list.len());
+    if out.number == 0 {
+        let mut i = 0;
+        while i < 10 {
+            list[i] = panel::carrier_at(state, i);
+            i += 1;
+        }
+    }
+    out
+}
+
+// Lists the carriers of a lent state: number, and the entries written. Entries past ten keep their contents; a refused call
+// writes nothing.
+#[no_mangle]
+pub extern "C" fn knitout_carriers(
+    state: &machine::State,
+    list: &mut [machine::Carrier],
+) -> panel::Served
+    ensures { λ r. ⌜ (r ≡ listAnswer (now (state .entry)) (length (now (list .entry))))
+        × (now (list .exit) ≡ carrierList (now (state .entry)) (now (list .entry))) ⌝ }
+{
+    let copied = *state;
+    list_carriers(copied, list)
 }

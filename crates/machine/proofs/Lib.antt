@@ -2,3 +2,4 @@
 pub mod Signed
 pub mod Lists
 pub mod Laws
+pub mod Ranges

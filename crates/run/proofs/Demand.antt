@@ -1,11 +1,14 @@
 -- Demand 2: the run's answer against the validity relation, for every program. Assumes nothing.
-use mathlib.Core.Path.{ap}
+use mathlib.Core.Path.{refl, ap}
 use Rattle.run.specs.declared.Answer.{Answer}
-use Rattle.run.specs.Run.{answerOf}
+use Rattle.run.specs.Run.{answerOf, stepOf}
 use Rattle.run.specs.Claims.{AcceptsExactlyValid, GivesFinalState, TooLongExactly, TooLongAnswer, RefusesFirst, RefusalIsOne, PlaceIsSmall, CompleteIsEmpty, ReasonExactlyNoStep, StepAcceptsExactly, StepGives, StepRefuses}
+use Rattle.run.specs.Claims.{RunInRange, StepInRange, StepsAreTheRun, StepsAreOne}
 use Rattle.run.proofs.Bytes.{reason-no-step, no-step-reason, step-exact, step-gives, step-refuses}
 use Rattle.run.proofs.Unique.{one-refusal}
 use Rattle.run.proofs.Answers.{long-run, valid-run, answered, accepted, one-long, first-refusal, place-small, complete-empty}
+use Rattle.run.proofs.Ranges.{answer-in, slice-keeps}
+use Rattle.run.proofs.Stepwise.{steps-are-the-run as service-is-the-run, steps-are-one as service-is-one}
 
 pub final : GivesFinalState
 unfolding answerOf
@@ -46,3 +49,15 @@ step-done = step-gives
 
 pub step-refused : StepRefuses
 step-refused = step-refuses
+
+pub run-in-range : RunInRange
+run-in-range p = answer-in (answered p)
+
+pub step-in-range : StepInRange
+step-in-range = slice-keeps
+
+pub steps-are-the-run : StepsAreTheRun stepOf
+steps-are-the-run = service-is-the-run stepOf (λ s l h. refl)
+
+pub steps-are-one : StepsAreOne stepOf
+steps-are-one = service-is-one stepOf (λ s l h. refl)

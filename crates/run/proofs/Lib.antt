@@ -10,5 +10,7 @@ pub mod Least
 pub mod Bytes
 pub mod Runs
 pub mod Answers
+pub mod Ranges
+pub mod Stepwise
 pub mod Unique
 pub mod Demand
