@@ -1,2 +1,3 @@
 -- Laws of the panel's services.
 pub mod Services
+pub mod Filled
