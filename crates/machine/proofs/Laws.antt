@@ -22,7 +22,7 @@ use mir.Facts.{toZ-ofZ}
 use Rattle.machine.specs.Geometry.{columnOf, eqZ}
 use Rattle.machine.specs.Machine.{OnBed, all, attachedAt, movedTo, noLoops, allInactive, inactive, inactiveCarrier, emptyState, completeOf}
 use Rattle.machine.specs.Range.{slotOk}
-use Rattle.machine.proofs.Signed.{mag-sum, eqZ-true, back, fits, fits-sum, fits-difference, cast-back}
+use Rattle.machine.proofs.Signed.{and-true, mag-sum, eqZ-true, back, fits, fits-sum, fits-difference, cast-back}
 
 -- how far a column reaches
 pub column-reach : (n : Needle) (r : Racking) → mag (r .0) < 128 → mag (columnOf n r .0) ≤ n .1 + 129
@@ -67,6 +67,11 @@ module _ (a b : ℤ) (h : mag a < 2147483648) (k : mag b < 2147483648) where
   pub difference-is : toZ w64 (ofZ w64 (wide a -ℤ wide b)) ≡ a -ℤ b
   difference-is = toZ-ofZ difference-fits ∙ simp (cast-back w32 w64 a h (omega arith), cast-back w32 w64 b k (omega arith))
 
+-- a case by a test
+pub by : {G : Type 0} (b : Bool) → (b ≡ true → G) → (b ≡ false → G) → G
+by true f g = f refl
+by false f g = g refl
+
 -- a walk along a list
 module _ {A : Type 0} (p : A → Bool) where
   pub all-next : (l : List A) (i : ℕ) (d : A) → i < length l → all p (drop i l) ≡ (p (getD l i d) && all p (drop (i + 1) l))
@@ -107,7 +112,7 @@ same-fields : (a b x y : ℕ) (z : ℤ) → a ≡ 0 → b ≡ 0 → z ≡ pos 0 
     → _≡_ {A = Carrier} (record { active = a; side = b; slot = record { 0 = z }; needle = record { 0 = x; 1 = y } }) inactive
 same-fields a b x y z p q r t u = cc
 
-inactive-is : (c : Carrier) → inactiveCarrier c ≡ true → c ≡ inactive
+pub inactive-is : (c : Carrier) → inactiveCarrier c ≡ true → c ≡ inactive
 unfolding inactiveCarrier
 inactive-is c e =
     let (p, e1) = and-two (eqb (c .active) 0) (eqb (c .side) 0 && (eqZ (c .slot .0) (pos 0) && (eqb (c .needle .0) 0 && eqb (c .needle .1) 0))) e in
@@ -140,31 +145,17 @@ empty-is-complete = refl
 pub slot-in : (z : ℤ) → slotOk z ≡ (leZ (negsuc 7) z && leZ z (pos 258))
 unfolding slotOk
 slot-in (pos n) = refl
-slot-in (negsuc n) = and-true (leb n 7)
-  where
-    and-true : (t : Bool) → t ≡ (t && true)
-    and-true true = refl
-    and-true false = refl
+slot-in (negsuc n) = sym (and-true (leb n 7))
 
 -- the most of two is at most 8 exactly if both are
 pub larger-leb : (a b : ℕ) → leb (cond (ltb a b) b a) 8 ≡ (leb a 8 && leb b 8)
-larger-leb a b = go (ltb a b) (λ e. ltb-true a b e) (λ e. ltb-false a b e)
+larger-leb a b =
+    by (ltb a b) (λ t. let h = ltb-true a b t in simp t (by (leb b 8) (λ u. let k = leb-true b 8 u in simp (u, le-leb a 8 (omega arith))) (λ u. simp (u, and-false (leb a 8)))))
+    (λ t. let h = ltb-false a b t in simp t (by (leb a 8) (λ u. let k = leb-true a 8 u in simp (u, le-leb b 8 (omega arith))) (λ u. simp u)))
   where
-    less : (t : Bool) → (t ≡ true → b ≤ 8) → a < b → t ≡ (leb a 8 && t)
-    less true f l = simp (le-leb a 8 (omega (arith, f refl, l)))
-    less false f l = sym (and-false (leb a 8))
-      where
-        and-false : (t : Bool) → (t && false) ≡ false
-        and-false true = refl
-        and-false false = refl
-
-    more : (t : Bool) → (t ≡ true → a ≤ 8) → b ≤ a → t ≡ (t && leb b 8)
-    more true f l = simp (le-leb b 8 (omega (arith, f refl, l)))
-    more false f l = refl
-
-    go : (t : Bool) → (t ≡ true → a < b) → (t ≡ false → b ≤ a) → leb (cond t b a) 8 ≡ (leb a 8 && leb b 8)
-    go true f g = less (leb b 8) (λ e. leb-true b 8 e) (f refl)
-    go false f g = more (leb a 8) (λ e. leb-true a 8 e) (g refl)
+    and-false : (t : Bool) → (t && false) ≡ false
+    and-false true = refl
+    and-false false = refl
 
 pub and-assoc : (a b d : Bool) → ((a && b) && d) ≡ (a && (b && d))
 and-assoc true b d = refl

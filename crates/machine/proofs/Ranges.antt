@@ -15,13 +15,8 @@ use Rattle.machine.specs.declared.Carrier.{Carrier}
 use Rattle.machine.specs.Geometry.{eqZ, columnOf, entryOf, exitOf}
 use Rattle.machine.specs.Machine.{OnBed, all, attachedAt, movedTo, sameNeedle, inactive, inactiveCarrier, emptyState}
 use Rattle.machine.specs.Range.{SlotInRange, CarrierInRange, StateInRange, slotOk, onBed, attachmentOk, carrierOk, stateOk, RangeExactly}
-use Rattle.machine.proofs.Signed.{up, dn, sum, eqZ-true}
-use Rattle.machine.proofs.Laws.{and-two}
-
--- a case by a test
-by : {G : Type 0} (b : Bool) → (b ≡ true → G) → (b ≡ false → G) → G
-by true f g = f refl
-by false f g = g refl
+use Rattle.machine.proofs.Signed.{up, dn, sum}
+use Rattle.machine.proofs.Laws.{by, and-two, inactive-is}
 
 -- ---- what holds of every element of a list, and past its end
 module _ {A : Type 0} (P : A → Type 0) (d : A) where
@@ -127,23 +122,10 @@ bed-ok n b = simp (le-leb (n .0) 1 (omega (arith, b .bed)), le-leb (n .1) 249 (o
 no-needle : (a b : ℕ) → (eqb a 0 && eqb b 0) ≡ true → _≡_ {A = Needle} (record { 0 = a; 1 = b }) (record { 0 = 0; 1 = 0 })
 no-needle a b e = let (p, q) = and-two (eqb a 0) (eqb b 0) e in simp (eqb-true a 0 p, eqb-true b 0 q)
 
-idle-is : (c : Carrier) → inactiveCarrier c ≡ true → c ≡ inactive
-unfolding inactiveCarrier
-idle-is c e =
-    let (p, f) = and-two (eqb (c .active) 0) _ e in
-    let (q, g) = and-two (eqb (c .side) 0) _ f in
-    let (r, h) = and-two (eqZ (c .slot .0) (pos 0)) _ g in
-    same (c .active) (c .side) (c .slot .0) (c .needle)
-    (eqb-true (c .active) 0 p) (eqb-true (c .side) 0 q) (eqZ-true (c .slot .0) (pos 0) r) (no-needle (c .needle .0) (c .needle .1) h)
-  where
-    same : (a b : ℕ) (z : ℤ) (n : Needle) → a ≡ 0 → b ≡ 0 → z ≡ pos 0 → n ≡ record { 0 = 0; 1 = 0 }
-        → _≡_ {A = Carrier} (record { active = a; side = b; slot = record { 0 = z }; needle = n }) inactive
-    same a b z n p q r t = simp (p, q, r, t)
-
 carrier-is : (c : Carrier) → carrierOk c ≡ true → CarrierInRange c
 unfolding carrierOk attachmentOk
 carrier-is c e =
-    by (eqb (c .active) 0) (λ t. CarrierInRange.idle (idle-is c (simp t at e)))
+    by (eqb (c .active) 0) (λ t. CarrierInRange.idle (inactive-is c (simp t at e)))
     (λ t. let (a, f) = and-two (eqb (c .active) 1) _ (simp t at e) in
     let (z, g) = and-two (slotOk (c .slot .0)) _ f in
     by (eqb (c .side) 0)

@@ -138,14 +138,14 @@ neg-mag a = go (negℤ a) (up-neg a) (dn-neg a)
 pub mag-difference : (a b : ℤ) → mag (a -ℤ b) ≤ mag a + mag b + 2
 mag-difference a b = omega (arith, mag-sum a (negℤ b), neg-mag b)
 
+pub and-true : (t : Bool) → (t && true) ≡ t
+and-true true = refl
+and-true false = refl
+
 -- a magnitude of at most k + 1, as two comparisons
 pub abs-in : (k : ℕ) (d : ℤ) → leb (natAbs d) (suc k) ≡ (leZ (negsuc k) d && leZ d (pos (suc k)))
 abs-in k (pos n) = refl
-abs-in k (negsuc n) = leb·suc-suc n k ∙ and-true (leb n k)
-  where
-    and-true : (t : Bool) → t ≡ (t && true)
-    and-true true = refl
-    and-true false = refl
+abs-in k (negsuc n) = leb·suc-suc n k ∙ sym (and-true (leb n k))
 
 -- what a width holds, and comes back from its bits
 module _ (w : Width) where

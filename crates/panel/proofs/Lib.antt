@@ -1,3 +1,4 @@
 -- Laws of the panel's services.
 pub mod Services
 pub mod Filled
+pub mod Demand

@@ -8,6 +8,7 @@ use lib.Seq.{drop-length, length-take-le}
 use lib.Dec.{eqb}
 use borrow.Author.Tests.{eq-eqb, ne-eqb, eqb-true, eqb-false}
 use Rattle.machine.specs.declared.State.{State}
+use Rattle.machine.proofs.Laws.{by}
 use Rattle.record.specs.declared.Decoded.{Decoded}
 use Rattle.record.specs.Format.{byte, sizeOf, refusedAs, decodeOf}
 use Rattle.record.proofs.Forms.{decode-front, decode-kind}
@@ -15,7 +16,6 @@ use Rattle.run.specs.declared.Reached.{Reached}
 use Rattle.run.specs.declared.Stepped.{Stepped}
 use Rattle.run.specs.Step.{numberAt, applyOf}
 use Rattle.run.specs.Run.{reached, runFrom, stay, stepOf}
-use Rattle.run.proofs.Premises.{by}
 use Rattle.run.proofs.Turns.{run-end, run-refused, run-stopped, run-next}
 
 -- ---- the step's three ends

@@ -10,13 +10,12 @@ use lib.ListN.{length, take, drop, length-replicate}
 use borrow.Author.Tests.{leb-true, leb-false, le-leb, lt-leb}
 use Rattle.machine.specs.declared.State.{State}
 use Rattle.machine.specs.Machine.{emptyState, completeOf, inactive}
-use Rattle.machine.proofs.Laws.{complete-is-empty, empty-is-complete}
+use Rattle.machine.proofs.Laws.{by, complete-is-empty, empty-is-complete}
 use Rattle.run.specs.declared.Reached.{Reached}
 use Rattle.run.specs.declared.Answer.{Answer}
 use Rattle.run.specs.Relation.{Steps, Valid}
 use Rattle.run.specs.Run.{reached, runFrom, answerOf, runOf}
 use Rattle.run.specs.Claims.{FirstRefusal}
-use Rattle.run.proofs.Premises.{by}
 use Rattle.run.proofs.Bytes.{Refusal, reason-positive}
 use Rattle.run.proofs.Runs.{Ends, runs, run-steps, steps-lengths}
 

@@ -14,6 +14,7 @@ use Rattle.machine.specs.declared.State.{State}
 use Rattle.machine.specs.Machine.{loopsOn, carrierOf}
 use Rattle.machine.specs.Geometry.{eqZ, columnOf, sameColumn, withinFloat}
 use Rattle.machine.proofs.Signed.{eqZ-yes, eqZ-no, eqZ-true, eqZ-false}
+use Rattle.machine.proofs.Laws.{by}
 use Rattle.record.specs.declared.Record.{Record}
 use Rattle.record.proofs.Forms.{cond-cases}
 use Rattle.run.specs.Relation.{Active, Inactive, Attached, ParkedAt, Opposite, Room}
@@ -21,11 +22,7 @@ use Rattle.run.specs.Step.{lookOf, orNumber, parkedNo, floatNo}
 use Rattle.run.specs.Loops.{tuckNo, transferNo}
 use Rattle.run.proofs.Looks.{parked-is, in-is, float-is}
 
--- a case by a test, and by the kind
-pub by : {G : Type 0} (b : Bool) → (b ≡ true → G) → (b ≡ false → G) → G
-by true f g = f refl
-by false f g = g refl
-
+-- a case by the kind
 pub is : {G : Type 0} (k n : ℕ) → (k ≡ n → G) → ((k ≡ n → ⊥) → G) → G
 is k n f g = by (eqb k n) (λ t. f (eqb-true k n t)) (λ t. g (eqb-false k n t))
 

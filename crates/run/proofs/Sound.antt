@@ -10,6 +10,7 @@ use Rattle.machine.specs.declared.Slot.{Slot}
 use Rattle.machine.specs.declared.State.{State}
 use Rattle.machine.specs.Machine.{hookOf, loopsOn}
 use Rattle.machine.specs.Geometry.{columnOf}
+use Rattle.machine.proofs.Laws.{by}
 use Rattle.record.specs.declared.Record.{Record}
 use Rattle.record.specs.Names.{needleCount}
 use Rattle.record.proofs.Ranges.{InRange}
@@ -19,7 +20,7 @@ use Rattle.run.specs.Step.{orNumber, parkedNo, floatNo, numberAt, applyO
 use Rattle.run.specs.Loops.{tuckNo}
 use Rattle.run.proofs.ByKind.{seen, readyNo, rack-number, rack-state, drop-number, drop-state, xfer-number, xfer-state, in-number, in-state, out-number, out-state}
 use Rattle.run.proofs.ByKind.{miss-number, miss-state, tuck-number, tuck-state, knit-number, knit-state, split-number, split-state, split-said}
-use Rattle.run.proofs.Premises.{by, is, up, or-next, or-first, parked-zero, parked-off, parked-elsewhere, parked-cases, in-zero, in-six}
+use Rattle.run.proofs.Premises.{is, up, or-next, or-first, parked-zero, parked-off, parked-elsewhere, parked-cases, in-zero, in-six}
 use Rattle.run.proofs.Premises.{float-zero, float-over, float-cases, tuck-zero, tuck-full, carrier, sum, moveNo, opposite-cases, move-zero, move-full, move-apart}
 
 -- ---- a step of the relation is the code's

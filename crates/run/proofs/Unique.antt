@@ -9,6 +9,7 @@ use lib.Seq.{length-take-le}
 use borrow.Author.Tests.{ltb-true, ltb-false}
 use Rattle.machine.specs.declared.State.{State}
 use Rattle.machine.specs.Machine.{emptyState}
+use Rattle.machine.proofs.Laws.{by}
 use Rattle.record.specs.Format.{decodeOf}
 use Rattle.record.proofs.Forms.{decode-form, decode-in}
 use Rattle.run.specs.declared.Reached.{Reached}
@@ -17,7 +18,6 @@ use Rattle.run.specs.Relation.{Steps}
 use Rattle.run.specs.Step.{applyOf}
 use Rattle.run.specs.Run.{reached, runFrom, answerOf, runOf}
 use Rattle.run.specs.Claims.{FirstRefusal}
-use Rattle.run.proofs.Premises.{by}
 use Rattle.run.proofs.Sound.{step-sound}
 use Rattle.run.proofs.Bytes.{Refusal, bytes-refusal, step-refusal}
 use Rattle.run.proofs.Runs.{Turns, turns, on-form}

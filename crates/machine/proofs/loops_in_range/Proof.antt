@@ -2,13 +2,13 @@
 use borrow.Author.Needs.{needs}
 use native.Mathlib.Omega.{arith}
 use mathlib.Core.Path.{_≡_, refl, sym, ap, _∙_}
-use mathlib.Core.Bool.{Bool, true, _&&_}
+use mathlib.Core.Bool.{Bool, _&&_, cond}
 use mathlib.Core.List.{List}
 use Prim.Native.Nat.{ℕ, _+_, _-_, _<_, _≤_}
 use lib.ListN.{length, drop, getD}
 use lib.Dec.{leb, ltb}
-use mathlib.Core.Bool.{cond}
 use Rattle.machine.specs.Machine.{all}
+use Rattle.machine.proofs.Signed.{and-true}
 use Rattle.machine.proofs.Laws.{all-next, all-end, larger-leb, and-assoc}
 use Rattle.machine.proofs.loops_in_range.Statement.{statement}
 use Rattle.machine.proofs.loops_in_range.Tie as tie
@@ -30,10 +30,6 @@ next l i most m h e =
 
 last : (l : List ℕ) (i most : ℕ) → i ≡ length l → (leb most 8 && few (drop i l)) ≡ leb most 8
 last l i most h = ap (λ (t : Bool). leb most 8 && t) (all-end (λ (n : ℕ). leb n 8) l i h) ∙ and-true (leb most 8)
-  where
-    and-true : (t : Bool) → (t && true) ≡ t
-    and-true Bool.true = refl
-    and-true Bool.false = refl
 
 loop-holds : tie.Need-loop-holds Inv-loop μ-loop
 loop-holds c = (search needs, refl)
