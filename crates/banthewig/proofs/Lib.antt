@@ -1,2 +1,3 @@
 -- Laws of the C entries.
 pub mod Words
+pub mod Crossing
