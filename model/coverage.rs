@@ -33,7 +33,7 @@ const KIND_PAIRS: [(u8, &[(u8, u8)]); 6] = [
 macro_rules! events {
     ($($name:ident: $text:expr,)*) => {
         #[derive(Clone, Copy)]
-        enum Event { $($name,)* }
+        pub enum Event { $($name,)* }
         const EVENTS: &[&str] = &[$($text,)*];
     };
 }

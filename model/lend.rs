@@ -18,6 +18,7 @@ extern "C" {
 }
 
 // Linux values, and a page size that suits every Linux machine.
+const READ: c_int = 1;
 const READ_WRITE: c_int = 1 | 2;
 const NO_ACCESS: c_int = 0;
 const PRIVATE_ANONYMOUS: c_int = 2 | 0x20;
@@ -67,8 +68,28 @@ impl Lent {
         memory[self.lent.start - MARGIN..self.lent.start].fill(MARK);
         memory[self.lent.clone()].copy_from_slice(bytes);
         memory[end..].fill(MARK);
+        self.at()
+    }
+
+    /// Where the lent bytes start.
+    pub fn at(&self) -> *mut u8 {
         // SAFETY: within the mapping or just behind its readable part.
         unsafe { self.start.add(self.lent.start) }
+    }
+
+    fn protect(&self, protection: c_int) {
+        // SAFETY: the mapping's readable part, which nothing refers to now.
+        if unsafe { mprotect(self.start.cast(), READABLE, protection) } != 0 {
+            fail("mprotect failed");
+        }
+    }
+
+    /// Makes a call while the memory can only be read.
+    pub fn read_only<T>(&self, call: impl FnOnce() -> T) -> T {
+        self.protect(READ);
+        let answer = call();
+        self.protect(READ_WRITE);
+        answer
     }
 
     /// The lent bytes as they are now.

@@ -1,4 +1,4 @@
-//! Compares the linked library's run and rewriter with the model over seeded programs.
+//! Compares the linked library's run, rewriter and panel services with the model, by a seed.
 
 mod calls;
 mod coverage;
@@ -8,7 +8,14 @@ mod history;
 mod lend;
 mod logs;
 mod machine;
+mod panel;
+mod panel_calls;
+mod panel_coverage;
+mod panel_groups;
+mod panel_records;
+mod panel_states;
 mod pieces;
+mod raw_state;
 mod rewrite;
 mod swap_classes;
 mod swap_coverage;
@@ -20,6 +27,7 @@ use coverage::Coverage;
 use draft::Random;
 use generate::GROUPS;
 use lend::Lent;
+use panel_calls::Panel;
 use std::process::exit;
 
 const DEFAULT_SEED: u64 = 20_230_726;
@@ -172,6 +180,7 @@ fn main() {
     let rewriter = rewriter_calls(seed);
     let mut missing = comparison.coverage.missing();
     missing.extend(rewriter.coverage.missing());
+    missing.extend(panel_services(seed).coverage.missing());
     for name in &missing {
         println!("never came: {name}");
     }
@@ -202,4 +211,12 @@ fn rewriter_calls(seed: u64) -> Rewriter {
         numbers.join(", ")
     );
     rewriter
+}
+
+/// Compares the panel's services; two lines tell the counts.
+fn panel_services(seed: u64) -> Panel {
+    let mut panel = Panel::new(seed);
+    panel_groups::compare(&mut panel, seed);
+    panel.coverage.print();
+    panel
 }

@@ -1,0 +1,261 @@
+//! One panel call through its C entry, compared with the model in every field and entry.
+
+use crate::draft::Random;
+use crate::lend::{Lent, MARGIN};
+use crate::machine::*;
+use crate::panel::{list_carriers, step_first};
+use crate::panel_coverage::{Event, PanelCoverage, Source};
+use crate::raw_state::*;
+use crate::{fail, show};
+
+extern "C" {
+    fn knitout_step(state: *mut RawState, bytes: *const u8, length: usize) -> Served;
+    fn knitout_carriers(state: *const RawState, list: *mut RawCarrier, count: usize) -> Served;
+}
+
+/// One in so many lists is of a state in read-only memory, and of steps of bytes there.
+const READ_ONLY_EVERY: usize = 64;
+
+pub struct Panel {
+    pub coverage: PanelCoverage,
+    random: Random,
+    state: Lent,
+    bytes: Lent,
+    program: Lent,
+    list: Lent,
+}
+
+/// What a compared call was made on, for a report.
+struct Call<'a> {
+    service: &'a str,
+    from: &'a str,
+    before: &'a RawState,
+    bytes: &'a [u8],
+    expected: Served,
+    given: Served,
+}
+
+impl Panel {
+    pub fn new(seed: u64) -> Panel {
+        Panel {
+            coverage: PanelCoverage::new(),
+            random: Random::new(!seed),
+            state: Lent::new(),
+            bytes: Lent::new(),
+            program: Lent::new(),
+            list: Lent::new(),
+        }
+    }
+
+    /// Bytes between what is lent and the guard page: none, or an even number of marks.
+    fn behind(&mut self) -> usize {
+        match self.random.below(2) {
+            0 => 0,
+            _ => 2 + 2 * self.random.below(MARGIN / 2),
+        }
+    }
+
+    /// Lends a state, with anything in its padding.
+    pub fn lend_state(&mut self, state: &RawState) {
+        let (padding, behind) = (self.random.byte(), self.behind());
+        self.state.lend(&state.bytes(padding), behind);
+        self.coverage.note(Event::StateGuarded, behind == 0);
+        self.coverage.note(Event::StateMarked, behind > 0);
+    }
+
+    pub fn lend_program(&mut self, program: &[u8]) {
+        self.program.lend(program, 0);
+    }
+
+    /// Whether the lent program is as it was.
+    pub fn program_stands(&self, program: &[u8]) -> bool {
+        self.program.bytes() == program && self.program.marks_stand()
+    }
+
+    // The step.
+
+    /// Steps the lent state by the lent program's rest from a place on. `state` is what the lent
+    /// state holds, and becomes what it must hold then.
+    pub fn step_program(
+        &mut self,
+        state: &mut RawState,
+        program: &[u8],
+        place: usize,
+        from: &str,
+    ) -> Served {
+        // SAFETY: the place is in the lent program or just behind it.
+        let at = unsafe { self.program.at().add(place) };
+        self.step_at(Source::Reached, state, &program[place..], at, from)
+    }
+
+    /// Steps the lent state by a copy of the bytes; none are often lent as a null pointer.
+    pub fn step(
+        &mut self,
+        source: Source,
+        state: &mut RawState,
+        bytes: &[u8],
+        from: &str,
+    ) -> Served {
+        let behind = self.behind();
+        let odd = usize::from(behind > 0 && self.random.percent(50));
+        let lent = self.bytes.lend(bytes, behind - odd);
+        let null = bytes.is_empty() && self.random.percent(50);
+        let at = if null { std::ptr::null_mut() } else { lent };
+        let served = self.step_at(source, state, bytes, at, from);
+        let just = served.number == DONE && served.length == bytes.len();
+        self.coverage.note(Event::StepGuarded, just && behind == 0);
+        self.coverage.note(Event::StepNull, null);
+        if self.bytes.bytes() != bytes || !self.bytes.marks_stand() {
+            show("bytes", bytes);
+            fail("the library's step writes to its bytes or around them");
+        }
+        served
+    }
+
+    fn step_at(
+        &mut self,
+        source: Source,
+        state: &mut RawState,
+        bytes: &[u8],
+        at: *const u8,
+        from: &str,
+    ) -> Served {
+        let before = state.clone();
+        let expected = step_first(state, bytes);
+        let lent = self.state.at().cast::<RawState>();
+        // SAFETY: the state is readable, writable and ends an even number of bytes before a page's
+        // end; the bytes are readable for their length.
+        let make = || unsafe { knitout_step(lent, at, bytes.len()) };
+        let read_only = self.random.below(READ_ONLY_EVERY) == 0;
+        let given = if read_only {
+            self.bytes.read_only(|| self.program.read_only(make))
+        } else {
+            make()
+        };
+        let accepted = expected.number == DONE;
+        self.coverage
+            .note(Event::StepReadOnly, read_only && accepted);
+        let call = Call {
+            service: "step",
+            from,
+            before: &before,
+            bytes,
+            expected,
+            given,
+        };
+        self.compare_state(&call, state);
+        self.coverage
+            .step(source, [&before, state], bytes, expected);
+        expected
+    }
+
+    /// Compares the answer, and the lent state with what it must hold.
+    fn compare_state(&self, call: &Call, wanted: &RawState) {
+        if call.given != call.expected {
+            differ(call, "number or length");
+        }
+        let found = RawState::of_bytes(self.state.bytes());
+        if let Some(what) = wanted.difference(&found) {
+            differ(call, &what);
+        }
+        if !self.state.marks_stand() {
+            differ(call, "bytes around the state");
+        }
+    }
+
+    // The list.
+
+    /// Lists the carriers of the lent state, which holds `state`, into so many random entries.
+    pub fn list(&mut self, source: Source, state: &RawState, count: usize, from: &str) {
+        let mut contents = vec![0; count * CARRIER_BYTES];
+        contents.fill_with(|| self.random.byte());
+        let behind = self.behind();
+        let lent = self.list.lend(&contents, behind);
+        let null = count == 0 && self.random.percent(50);
+        let at = if null { std::ptr::null_mut() } else { lent };
+        let mut entries: Vec<RawCarrier> = contents
+            .chunks_exact(CARRIER_BYTES)
+            .map(RawCarrier::of_bytes)
+            .collect();
+        let call = self.list_at(state, &mut entries, at.cast(), from);
+        let wanted: Vec<u8> = entries.iter().flat_map(RawCarrier::bytes).collect();
+        if let Some(what) = list_difference(&wanted, self.list.bytes()) {
+            differ(&call, &what);
+        }
+        if !self.list.marks_stand() {
+            differ(&call, "bytes around the list");
+        }
+        let number = call.expected.number;
+        self.coverage.list(source, count, number);
+        self.coverage.note(Event::ListNull, null);
+        self.coverage
+            .note(Event::ListGuarded, count == CARRIERS && behind == 0);
+    }
+
+    /// Lists into memory that has no guard page behind it, for counts over any that can be lent.
+    pub fn wide_list(&mut self, source: Source, state: &RawState, count: usize, from: &str) {
+        let filler = RawCarrier::of_bytes(&[0; CARRIER_BYTES].map(|_| self.random.byte()));
+        let mut wanted = vec![filler; count];
+        let mut found = vec![filler; count];
+        let call = self.list_at(state, &mut wanted, found.as_mut_ptr(), from);
+        if let Some(entry) = (0..count).find(|&entry| wanted[entry] != found[entry]) {
+            differ(&call, &format!("entry {entry} of the list"));
+        }
+        let number = call.expected.number;
+        self.coverage.list(source, count, number);
+    }
+
+    /// Makes both calls and compares all but the lists' contents.
+    fn list_at<'a>(
+        &mut self,
+        state: &'a RawState,
+        entries: &mut [RawCarrier],
+        at: *mut RawCarrier,
+        from: &'a str,
+    ) -> Call<'a> {
+        let expected = list_carriers(state, entries);
+        let lent = self.state.at().cast::<RawState>();
+        // SAFETY: the state is readable; the list is writable for the count, or the count is 0.
+        let make = || unsafe { knitout_carriers(lent, at, entries.len()) };
+        let read_only = self.random.below(READ_ONLY_EVERY) == 0;
+        let given = if read_only {
+            self.state.read_only(make)
+        } else {
+            make()
+        };
+        self.coverage
+            .note(Event::ListReadOnly, read_only && expected.number == DONE);
+        let call = Call {
+            service: "list",
+            from,
+            before: state,
+            bytes: &[],
+            expected,
+            given,
+        };
+        self.compare_state(&call, state);
+        call
+    }
+}
+
+fn list_difference(wanted: &[u8], found: &[u8]) -> Option<String> {
+    let at = (0..wanted.len()).find(|&at| wanted[at] != found[at])?;
+    let entry = at / CARRIER_BYTES;
+    let of = |bytes: &[u8]| RawCarrier::of_bytes(&bytes[entry * CARRIER_BYTES..]);
+    Some(format!(
+        "entry {entry} of the list, {:?} and {:?}",
+        of(wanted),
+        of(found)
+    ))
+}
+
+/// What differs is told with the model's value first.
+fn differ(call: &Call, what: &str) -> ! {
+    println!("panel's {}, {}: {what}", call.service, call.from);
+    for (name, served) in [("model", call.expected), ("library", call.given)] {
+        println!("{name}: number {} length {}", served.number, served.length);
+    }
+    show("state before", &call.before.bytes(0));
+    show("bytes", call.bytes);
+    fail("a panel service of the library differs from the model")
+}

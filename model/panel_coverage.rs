@@ -1,0 +1,316 @@
+//! What the compared panel calls came to: numbers, kinds, changed values, slices, lengths of lists.
+
+use crate::coverage::{events, KIND_NAMES};
+use crate::machine::*;
+use crate::panel_states::{Change, Field};
+use crate::raw_state::*;
+use crate::rewrite::NO_BENCH;
+
+events! {
+    StepNull: "step of no bytes at a null pointer",
+    StepGuarded: "accepted step of just the record before a guard page",
+    StepFollowed: "accepted step with other bytes behind the record",
+    StepWide: "accepted step of a slice of 256 bytes or more",
+    StepWidest: "accepted step of a slice of 65536 bytes or more",
+    StepReadOnly: "accepted step of bytes in read-only memory",
+    StateGuarded: "state lent before a guard page",
+    StateMarked: "state lent before marks",
+    WentOn: "record accepted just after a refused one",
+    OverLimit: "program over the limit stepped to its end",
+    LeftmostSlot: "step that parks at slot -8",
+    RightmostSlot: "step that parks at slot 258",
+    FullHook: "step that leaves 8 loops on a hook",
+    EmptyAgain: "step that leaves the empty state",
+    FoulTouched: "foul state and a record that works on its foul field",
+    FoulSeveral: "foul state by several values or by random bytes",
+    ListReadOnly: "list of ten or more of a state in read-only memory",
+    ListGuarded: "list of ten before a guard page",
+    ListNull: "list of none at a null pointer",
+    ListWide: "list of 256 entries or more",
+    ListWidest: "list of 65536 entries or more",
+}
+
+/// Where a call's state comes from: a program's records stepped so far, or made for the call.
+#[derive(Clone, Copy)]
+pub enum Source {
+    Reached,
+    Made,
+}
+
+const SOURCES: [&str; 2] = ["reached state", "made state"];
+
+#[derive(Clone, Copy)]
+pub enum Service {
+    Step,
+    List,
+}
+
+const SERVICES: [&str; 2] = ["step", "list"];
+
+/// The longest list of which every length is wanted.
+pub const MOST_COUNT: usize = 12;
+
+// The least counts.
+const LEAST_STEPS: u64 = 100_000;
+const LEAST_LISTS: u64 = 100_000;
+const LEAST_NUMBER: u64 = 300;
+const LEAST_KIND: u64 = 1_000;
+const LEAST_CARRIER: u64 = 50;
+const LEAST_HOOK: u64 = 5;
+const LEAST_CHANGE: u64 = 10;
+const LEAST_COUNT: u64 = 4_000;
+
+/// Calls with a changed value that is still in range, and with one that is foul.
+type InAndOut = [u64; 2];
+
+/// A service's changed values; of carriers by index, status and field.
+struct Changes {
+    rackings: [u64; 256],
+    hooks: [InAndOut; HOOKS],
+    carriers: [[[InAndOut; 5]; 3]; CARRIERS],
+}
+
+pub struct PanelCoverage {
+    steps: [[u64; 16]; 2],
+    lists: [[u64; 16]; 2],
+    kinds: [[u64; 10]; 2],
+    carriers: [[u64; CARRIERS]; 10],
+    hooks: [u64; HOOKS],
+    foul_over: [u64; 16],
+    changes: [Changes; 2],
+    counts: [[u64; 16]; MOST_COUNT + 1],
+    events: [u64; EVENTS.len()],
+}
+
+// Counting.
+
+impl PanelCoverage {
+    pub fn new() -> PanelCoverage {
+        PanelCoverage {
+            steps: [[0; 16]; 2],
+            lists: [[0; 16]; 2],
+            kinds: [[0; 10]; 2],
+            carriers: [[0; CARRIERS]; 10],
+            hooks: [0; HOOKS],
+            foul_over: [0; 16],
+            changes: [0; 2].map(|_| Changes {
+                rackings: [0; 256],
+                hooks: [[0; 2]; HOOKS],
+                carriers: [[[[0; 2]; 5]; 3]; CARRIERS],
+            }),
+            counts: [[0; 16]; MOST_COUNT + 1],
+            events: [0; EVENTS.len()],
+        }
+    }
+
+    pub fn note(&mut self, event: Event, happened: bool) {
+        self.events[event as usize] += u64::from(happened);
+    }
+
+    pub fn step(&mut self, source: Source, states: [&RawState; 2], bytes: &[u8], served: Served) {
+        self.steps[source as usize][usize::from(served.number)] += 1;
+        if served.number == DONE {
+            self.kinds[source as usize][usize::from(bytes[0])] += 1;
+            self.accepted(states, &bytes[..served.length]);
+            self.note(Event::StepFollowed, bytes.len() > served.length);
+            self.note(Event::StepWide, bytes.len() >= 256);
+            self.note(Event::StepWidest, bytes.len() >= 65_536);
+        }
+    }
+
+    fn accepted(&mut self, [before, after]: [&RawState; 2], record: &[u8]) {
+        if before.loops != after.loops {
+            for hook in (0..HOOKS).filter(|&hook| before.loops[hook] != after.loops[hook]) {
+                self.hooks[hook] += 1;
+                self.note(Event::FullHook, after.loops[hook] == HOOK_LIMIT);
+            }
+        }
+        if record[0] >= IN {
+            let carrier = usize::from(record[4]) - 1;
+            self.carriers[usize::from(record[0])][carrier] += 1;
+            let (slot, active) = (after.carriers[carrier].slot, record[0] != OUT);
+            self.note(Event::LeftmostSlot, active && slot == LEAST_SLOT);
+            self.note(Event::RightmostSlot, active && slot == MOST_SLOT);
+            self.note(Event::EmptyAgain, !active && *after == RawState::empty());
+        }
+    }
+
+    /// Counts a foul state by what the step would give without the foul values.
+    pub fn foul_over(&mut self, number: u8) {
+        self.foul_over[usize::from(number)] += 1;
+    }
+
+    pub fn list(&mut self, source: Source, count: usize, number: u8) {
+        self.lists[source as usize][usize::from(number)] += 1;
+        if count <= MOST_COUNT {
+            self.counts[count][usize::from(number)] += 1;
+        }
+        self.note(Event::ListWide, count >= 256);
+        self.note(Event::ListWidest, count >= 65_536);
+    }
+
+    pub fn change(&mut self, service: Service, change: &Change, foul: bool) {
+        let changes = &mut self.changes[service as usize];
+        let outcome = usize::from(foul);
+        let field = match change.field {
+            Field::Racking => {
+                changes.rackings[usize::from(change.value as i8 as u8)] += 1;
+                return;
+            }
+            Field::Loops(hook) => {
+                changes.hooks[hook][outcome] += 1;
+                return;
+            }
+            Field::Active(_) => 0,
+            Field::Side(_) => 1,
+            Field::Slot(_) => 2,
+            Field::Bed(_) => 3,
+            Field::Needle(_) => 4,
+        };
+        if let Some((carrier, status)) = change.before {
+            changes.carriers[carrier][status as usize][field][outcome] += 1;
+        }
+    }
+}
+
+// What is missing.
+
+const FIELD_NAMES: [&str; 5] = ["active", "side", "slot", "bed", "needle"];
+const STATUS_NAMES: [&str; 3] = ["inactive", "unattached", "attached"];
+const OUTCOMES: [&str; 2] = ["in range", "foul"];
+
+/// The numbers that a step can give; on a reached state all but 15.
+fn step_numbers() -> impl Iterator<Item = u8> {
+    [DONE, FOUL_STATE]
+        .into_iter()
+        .chain(UNKNOWN_KIND..=HOOK_FULL)
+}
+
+fn want(missing: &mut Vec<String>, count: u64, least: u64, name: impl FnOnce() -> String) {
+    if count < least {
+        missing.push(format!("panel: {}, {least} times ({count})", name()));
+    }
+}
+
+impl PanelCoverage {
+    /// The names of counts that are too low.
+    pub fn missing(&self) -> Vec<String> {
+        let mut missing = Vec::new();
+        self.missing_numbers(&mut missing);
+        self.missing_kinds(&mut missing);
+        self.missing_lists(&mut missing);
+        for (service, changes) in SERVICES.iter().zip(&self.changes) {
+            missing_changes(&mut missing, service, changes);
+        }
+        for (name, count) in EVENTS.iter().zip(self.events) {
+            want(&mut missing, count, 1, || name.to_string());
+        }
+        missing
+    }
+
+    fn missing_numbers(&self, missing: &mut Vec<String>) {
+        for (source, numbers) in SOURCES.iter().zip(self.steps) {
+            let all = numbers.iter().sum();
+            want(missing, all, LEAST_STEPS, || format!("step of a {source}"));
+        }
+        for number in step_numbers() {
+            let at = usize::from(number);
+            if number != FOUL_STATE {
+                want(missing, self.steps[0][at], LEAST_NUMBER, || {
+                    format!("step of a reached state with {number}")
+                });
+                want(missing, self.foul_over[at], LEAST_NUMBER, || {
+                    format!("step of a foul state that would give {number}")
+                });
+            }
+            want(missing, self.steps[1][at], LEAST_NUMBER, || {
+                format!("step of a made state with {number}")
+            });
+        }
+    }
+
+    fn missing_kinds(&self, missing: &mut Vec<String>) {
+        for kind in usize::from(RACK)..=usize::from(SPLIT) {
+            let name = KIND_NAMES[kind];
+            for (source, kinds) in SOURCES.iter().zip(self.kinds) {
+                want(missing, kinds[kind], LEAST_KIND, || {
+                    format!("{name} accepted on a {source}")
+                });
+            }
+            for carrier in (0..CARRIERS).filter(|_| kind >= usize::from(IN)) {
+                want(missing, self.carriers[kind][carrier], LEAST_CARRIER, || {
+                    format!("{name} with carrier {} accepted", carrier + 1)
+                });
+            }
+        }
+        for (hook, &count) in self.hooks.iter().enumerate() {
+            want(missing, count, LEAST_HOOK, || {
+                format!("step that changes hook {hook}")
+            });
+        }
+    }
+
+    fn missing_lists(&self, missing: &mut Vec<String>) {
+        let all = self.lists.as_flattened().iter().sum();
+        want(missing, all, LEAST_LISTS, || "list".to_string());
+        for (source, numbers) in SOURCES.iter().zip(self.lists) {
+            for number in [DONE, NO_BENCH] {
+                want(missing, numbers[usize::from(number)], LEAST_NUMBER, || {
+                    format!("list of a {source} with {number}")
+                });
+            }
+        }
+        for (count, numbers) in self.counts.iter().enumerate() {
+            let sound = if count < CARRIERS { NO_BENCH } else { DONE };
+            for number in [sound, FOUL_STATE] {
+                want(missing, numbers[usize::from(number)], LEAST_COUNT, || {
+                    format!("list of {count} with {number}")
+                });
+            }
+        }
+    }
+}
+
+fn missing_changes(missing: &mut Vec<String>, service: &str, changes: &Changes) {
+    for (racking, &count) in changes.rackings.iter().enumerate() {
+        want(missing, count, LEAST_CHANGE, || {
+            format!("{service} with racking {}", racking as u8 as i8)
+        });
+    }
+    for outcome in 0..2 {
+        for (hook, counts) in changes.hooks.iter().enumerate() {
+            want(missing, counts[outcome], LEAST_CHANGE, || {
+                format!("{service}, hook {hook} {}", OUTCOMES[outcome])
+            });
+        }
+        for (carrier, statuses) in changes.carriers.iter().enumerate() {
+            for (status, fields) in STATUS_NAMES.iter().zip(statuses) {
+                for (field, counts) in FIELD_NAMES.iter().zip(fields) {
+                    want(missing, counts[outcome], LEAST_CHANGE, || {
+                        let (carrier, outcome) = (carrier + 1, OUTCOMES[outcome]);
+                        format!("{service}, {status} carrier {carrier}, {field} {outcome}")
+                    });
+                }
+            }
+        }
+    }
+}
+
+// The summary.
+
+fn numbers(rows: &[[u64; 16]; 2]) -> (u64, String) {
+    let sums: Vec<u64> = (0..16).map(|at| rows[0][at] + rows[1][at]).collect();
+    let shown = sums.iter().enumerate().filter(|(_, count)| **count > 0);
+    let cells: Vec<String> = shown.map(|(at, count)| format!("{at}: {count}")).collect();
+    (sums.iter().sum(), cells.join(", "))
+}
+
+impl PanelCoverage {
+    pub fn print(&self) {
+        let (steps, cells) = numbers(&self.steps);
+        let reached: u64 = self.steps[0].iter().sum();
+        println!("panel: {steps} steps agree, {reached} of them on reached states; {cells}");
+        let (lists, cells) = numbers(&self.lists);
+        println!("panel: {lists} carrier lists agree; {cells}");
+    }
+}
