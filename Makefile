@@ -5,9 +5,9 @@ CFLAGS = -std=c11 -O2 -Wall -Wextra -Werror -pedantic -Iinclude
 
 .PHONY: run test bench archive model example header
 
-# Runs the C example on a bundled sample.
-run: $(OUT)/knitrun
-	$(OUT)/knitrun examples/p.prg
+# Runs the C host on a bundled program and log.
+run: $(OUT)/host
+	$(OUT)/host examples/p.prg examples/p.log
 
 # The gate.
 test:
@@ -38,25 +38,9 @@ $(OUT)/host: examples/host/host.c include/banthewig.h $(LIB)
 	@mkdir -p $(OUT)
 	$(CC) $(CFLAGS) -o $@ $< $(LIB)
 
-# The header alone, in C and C++, under the make's compilers and each of the others that is there. A packed state and one
-# with wider fields are not the library's: the header's own assertions must stop both.
-ALONE = -Wall -Wextra -Werror -pedantic -Iinclude -fsyntax-only
-HEADER_BY = "$(CC) -x c -std=c11" "gcc -x c -std=c11" "clang -x c -std=c11" \
-	"$(CXX) -x c++ -std=c++11" "g++ -x c++ -std=c++11" "clang++ -x c++ -std=c++11" \
-	"$(CXX) -x c++ -std=c++17" "g++ -x c++ -std=c++17" "clang++ -x c++ -std=c++17"
+# The header alone, in C and C++, and layouts that it must refuse.
 header:
-	@mkdir -p $(OUT)
-	command -v $(CC) >/dev/null && command -v $(CXX) >/dev/null
-	for c in $(HEADER_BY); do \
-	    command -v $${c%% *} >/dev/null || continue; \
-	    echo '#include "banthewig.h"' | $$c $(ALONE) - || exit 1; \
-	    for m in '#pragma pack(1)' '#define int16_t int32_t'; do \
-	        if printf '#include <stdint.h>\n%s\n#include "banthewig.h"\n' "$$m" | \
-	            $$c $(ALONE) - 2>$(OUT)/header.log; then echo "$$c lets through: $$m"; exit 1; fi; \
-	        grep -q 'error: static.*sizeof(struct knitout_state) == 582' $(OUT)/header.log || \
-	            { cat $(OUT)/header.log; exit 1; }; \
-	    done; \
-	done
+	CC="$(CC)" CXX="$(CXX)" tools/header
 
 # The C examples on every sample against what they must print.
 example: $(OUT)/knitrun $(OUT)/knitswap $(OUT)/host header

@@ -1,6 +1,7 @@
 /* The C interface of Banthewig: the run of a knitout program on the machine model, the swaps of its records, and the
    panel's services on one machine state. Nothing here needs an allocator, a file or a thread; no call keeps a pointer.
-   C11 or later, C++11 or later. docs/CALLS.md has the same in full. */
+   A pointer whose length or count is 0 is not read. What is lent for writing may overlap nothing else that is lent.
+   For C11 and C++11, and later ones. docs/CALLS.md says more. */
 #ifndef BANTHEWIG_H
 #define BANTHEWIG_H
 
@@ -49,7 +50,7 @@ enum knitout_number {
 #define KNITOUT_FLOAT_MOST 20
 #define KNITOUT_RECORD_MOST 6
 
-/* Values of fields. */
+/* Values of a carrier's fields. (A record's direction byte is another matter: 0 left, 1 right.) */
 enum knitout_bed { KNITOUT_FRONT = 0, KNITOUT_BACK = 1 };
 enum knitout_side { KNITOUT_UNATTACHED = 0, KNITOUT_LEFT = 1, KNITOUT_RIGHT = 2 };
 

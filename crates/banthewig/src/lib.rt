@@ -1,9 +1,9 @@
 // The C interface: thin entries over the proved crates.
 ghost use mathlib.Core.Path.{_≡_};
 ghost use Prim.Native.Nat.{_+_, _*_, _<_};
+ghost use lib.ListN.{length};
 ghost use Rattle.run.specs.Run.{runOf};
 ghost use Rattle.rewrite.specs.Rewrite.{rewriteOf};
-ghost use lib.ListN.{length};
 ghost use Rattle.panel.specs.Panel.{panelStep, served, listAnswer, carrierList};
 ghost use Rattle.banthewig.specs.Entries.{packed};
 
@@ -57,13 +57,13 @@ pub extern "C" fn knitout_step(state: &mut machine::State, bytes: &[u8]) -> pane
 }
 
 // Fills a lent list with the carriers of a state.
-pub fn list_carriers(state: machine::State, list: &mut [machine::Carrier]) -> panel::Served
+fn list_carriers(state: machine::State, list: &mut [machine::Carrier]) -> panel::Served
     ensures { λ r. ⌜ (r ≡ listAnswer state (length (now (list .entry)))) × (now (list .exit) ≡ carrierList state (now (list .entry))) ⌝ }
 {
     let out = panel::list_answer(state, list.len());
     if out.number == 0 {
         let mut i = 0;
-        while i < 10 {
+        while i < machine::State::CARRIERS {
             list[i] = panel::carrier_at(state, i);
             i += 1;
         }

@@ -57,18 +57,18 @@ module _ {A : Type 0} (P : A → Type 0) (d : A) where
 -- ---- slots
 slot-is : (z : ℤ) → slotOk z ≡ true → SlotInRange (record { 0 = z })
 unfolding slotOk
-slot-is (pos n) e = SlotInRange.right (leb-true n 258 e)
-slot-is (negsuc n) e = SlotInRange.left (leb-true n 7 e)
+slot-is (pos n) e = SlotInRange.nonnegative (leb-true n 258 e)
+slot-is (negsuc n) e = SlotInRange.negative (leb-true n 7 e)
 
 slot-ok : {z : Slot} → SlotInRange z → slotOk (z .0) ≡ true
 unfolding slotOk
-slot-ok (SlotInRange.right {n = n} h) = le-leb n 258 h
-slot-ok (SlotInRange.left {n = n} h) = le-leb n 7 h
+slot-ok (SlotInRange.nonnegative {n = n} h) = le-leb n 258 h
+slot-ok (SlotInRange.negative {n = n} h) = le-leb n 7 h
 
 -- a slot u - d
 slot-of : (z : ℤ) (u d : ℕ) → up z + d ≡ dn z + u → u ≤ 258 → d ≤ 8 → SlotInRange (record { 0 = z })
-slot-of (pos n) u d e h k = SlotInRange.right {n = n} (omega arith)
-slot-of (negsuc n) u d e h k = SlotInRange.left {n = n} (omega arith)
+slot-of (pos n) u d e h k = SlotInRange.nonnegative {n = n} (omega arith)
+slot-of (negsuc n) u d e h k = SlotInRange.negative {n = n} (omega arith)
 
 up-abs : (z : ℤ) → up z ≤ natAbs z
 up-abs (pos n) = omega arith

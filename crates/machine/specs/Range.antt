@@ -15,8 +15,8 @@ use Rattle.machine.specs.Machine.{OnBed, inactive, inactiveCarrier, all}
 -- ---- as a reader holds it against 01's row
 -- slots −8 to 258; negsuc n is −1 − n
 pub data SlotInRange : Slot → Type 0 where
-  right : {n : ℕ} → n ≤ 258 → SlotInRange (record { 0 = pos n })
-  left : {n : ℕ} → n ≤ 7 → SlotInRange (record { 0 = negsuc n })
+  nonnegative : {n : ℕ} → n ≤ 258 → SlotInRange (record { 0 = pos n })
+  negative : {n : ℕ} → n ≤ 7 → SlotInRange (record { 0 = negsuc n })
 
 -- a carrier is inactive, with 0 in every field; or it is parked, and then unattached, with 0 for its needle, or attached to a needle that
 -- the machine has, on its left (1) or right (2) side

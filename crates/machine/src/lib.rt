@@ -1,12 +1,11 @@
 // The knitting machine: needles, columns, slots, racking, carriers, and the machine state by value.
 ghost use mathlib.Core.Path.{_≡_};
-ghost use mathlib.Core.List.{map};
-ghost use Rattle.machine.specs.Machine.{OnBed, inactive, emptyState, hookOf, sameNeedle, attachedAt, movedTo, anyAttached, noLoops, inactiveCarrier, allInactive, completeOf};
-ghost use Rattle.machine.specs.Geometry.{columnOf, entryOf, exitOf, sameColumn, withinFloat};
-ghost use lib.Dec.{leb, ltb};
 ghost use Prim.Native.Nat.{ℕ};
 ghost use mathlib.Core.Bool.{cond};
-ghost use Rattle.machine.specs.Machine.{all};
+ghost use mathlib.Core.List.{map};
+ghost use lib.Dec.{leb, ltb};
+ghost use Rattle.machine.specs.Machine.{OnBed, inactive, emptyState, hookOf, sameNeedle, attachedAt, movedTo, anyAttached, all, noLoops, inactiveCarrier, allInactive, completeOf};
+ghost use Rattle.machine.specs.Geometry.{columnOf, entryOf, exitOf, sameColumn, withinFloat};
 ghost use Rattle.machine.specs.Range.{slotOk, onBed, attachmentOk, carrierOk, stateOk};
 
 // A needle by its bed (0 front, 1 back) and its number there: where a program says it is.

@@ -1,6 +1,6 @@
 -- The claims of the panel's services. Assumes nothing.
 use Prim.Native.Nat.{ℕ, _≤_}
-use mathlib.Core.Path.{_≡_, refl, sym, ap, subst, _∙_}
+use mathlib.Core.Path.{_≡_, sym, ap, subst, _∙_}
 use mathlib.Core.Bool.{true, false}
 use mathlib.Core.List.{List}
 use native.Mathlib.Omega.{arith}
@@ -17,7 +17,7 @@ use Rattle.run.proofs.Premises.{is}
 use Rattle.run.proofs.Demand.{step-refused, run-in-range, step-in-range}
 use Rattle.run.proofs.Stepwise.{steps-are-the-run, steps-are-one}
 use Rattle.panel.specs.declared.Served.{Served}
-use Rattle.panel.specs.Panel.{panelStep, listAnswer}
+use Rattle.panel.specs.Panel.{panelStep}
 use Rattle.panel.specs.Claims.{FoulExactly, ListFoulExactly, ServiceIsStep, ListShortExactly, RefusedKeeps, RunNotFoul, ServiceNotFoul, ServedAsRun, ServedOneWay}
 use Rattle.panel.proofs.Services.{foul-step, fine-step, foul-list, short-list, long-list}
 
@@ -51,20 +51,23 @@ pub service-is-step : ServiceIsStep
 service-is-step s l h = sym (fine-step s l (fine h))
 
 pub foul-exactly : FoulExactly
-foul-exactly s l =
-    ((λ e h. omega (arith, e, ap (λ (t : Stepped). t .number) (service-is-step s l h), step-small s l)),
-    (λ h. either s (λ k. absurd (h k)) (λ e. sym (ap (λ (t : Stepped). t .number) (foul-step s l e)))))
+foul-exactly s l = (
+  (λ e h. omega (arith, e, ap (λ (t : Stepped). t .number) (service-is-step s l h), step-small s l)),
+  (λ h. either s (λ k. absurd (h k)) (λ e. sym (ap (λ (t : Stepped). t .number) (foul-step s l e)))),
+)
 
 pub list-short-exactly : ListShortExactly
-list-short-exactly s n h =
-    ((λ e. by (ltb n 10) (λ t. ltb-true n 10 t) (λ t. absurd (omega (arith, e, ap (λ (a : Served). a .number) (long-list s n (fine h) (ltb-false n 10 t)))))),
-    (λ k. ap (λ (a : Served). a .number) (short-list s n (fine h) k)))
+list-short-exactly s n h = (
+  (λ e. by (ltb n 10) (λ t. ltb-true n 10 t) (λ t. absurd (omega (arith, e, ap (λ (a : Served). a .number) (long-list s n (fine h) (ltb-false n 10 t)))))),
+  (λ k. ap (λ (a : Served). a .number) (short-list s n (fine h) k)),
+)
 
 pub list-foul-exactly : ListFoulExactly
-list-foul-exactly s n =
-    ((λ e h. by (ltb n 10) (λ t. omega (arith, e, ap (λ (a : Served). a .number) (short-list s n (fine h) (ltb-true n 10 t))))
-    (λ t. omega (arith, e, ap (λ (a : Served). a .number) (long-list s n (fine h) (ltb-false n 10 t))))),
-    (λ h. either s (λ k. absurd (h k)) (λ e. ap (λ (a : Served). a .number) (foul-list s n e))))
+list-foul-exactly s n = (
+  (λ e h. by (ltb n 10) (λ t. omega (arith, e, ap (λ (a : Served). a .number) (short-list s n (fine h) (ltb-true n 10 t))))
+      (λ t. omega (arith, e, ap (λ (a : Served). a .number) (long-list s n (fine h) (ltb-false n 10 t))))),
+  (λ h. either s (λ k. absurd (h k)) (λ e. ap (λ (a : Served). a .number) (foul-list s n e))),
+)
 
 pub refused-keeps : RefusedKeeps
 refused-keeps s l d = either s fair foul

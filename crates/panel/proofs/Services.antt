@@ -1,13 +1,12 @@
 -- The services' answers by what was looked at. Assumes nothing.
 use Prim.Native.Nat.{ℕ, _≤_, _<_}
-use mathlib.Core.Path.{_≡_, refl}
+use mathlib.Core.Path.{_≡_}
 use mathlib.Core.Bool.{true, false}
 use mathlib.Core.List.{List}
 use borrow.Author.Tests.{lt-ltb, le-ltb}
 use Rattle.machine.specs.declared.State.{State}
 use Rattle.machine.specs.Range.{stateOk}
 use Rattle.run.specs.Run.{stay, stepOf}
-use Rattle.panel.specs.declared.Served.{Served}
 use Rattle.panel.specs.Panel.{panelStep, listAnswer}
 
 module _ (s : State) (l : List ℕ) where

@@ -1,7 +1,7 @@
 -- Each test of the step: 0 where its premise holds, else the number of its reason. Assumes nothing.
 use Prim.Native.Nat.{ℕ, _+_, _≤_, _<_}
 use mathlib.Core.Path.{_≡_, refl, ap, _∙_}
-use mathlib.Core.Bool.{Bool, true, false, cond}
+use mathlib.Core.Bool.{true, false, cond}
 use native.Mathlib.Omega.{arith}
 use lib.IntN.{ℤ, _-ℤ_, natAbs}
 use lib.Dec.{eqb, leb}

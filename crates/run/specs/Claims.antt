@@ -16,7 +16,7 @@ use Rattle.run.specs.declared.Reached.{Reached}
 use Rattle.run.specs.declared.Stepped.{Stepped}
 use Rattle.run.specs.Relation.{Step, Steps, Valid}
 use Rattle.run.specs.Reason.{Reason}
-use Rattle.run.specs.Run.{reached, runFrom, runOf, stepOf, answerOf}
+use Rattle.run.specs.Run.{reached, runOf, stepOf, answerOf}
 
 -- the run accepts a program exactly if it is valid
 abbrev pub AcceptsExactlyValid : Type 0

@@ -1,7 +1,7 @@
 -- By the look at the state and the count. Assumes nothing.
 use borrow.Author.Needs.{needs}
 use borrow.Author.Tests.{not-true, not-false}
-use mathlib.Core.Path.{_≡_, sym, _∙_}
+use mathlib.Core.Path.{sym, _∙_}
 use Rattle.panel.proofs.Services.{foul-list, short-list, long-list}
 use Rattle.panel.proofs.list_answer.Statement.{statement}
 use Rattle.panel.proofs.list_answer.Tie as tie

@@ -1,7 +1,7 @@
 -- By the look at the state. Assumes nothing.
 use borrow.Author.Needs.{needs}
 use borrow.Author.Tests.{not-true, not-false}
-use mathlib.Core.Path.{_≡_, sym, _∙_}
+use mathlib.Core.Path.{sym, _∙_}
 use Rattle.panel.proofs.Services.{foul-step, fine-step}
 use Rattle.panel.proofs.step.Statement.{statement}
 use Rattle.panel.proofs.step.Tie as tie

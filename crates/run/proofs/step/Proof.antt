@@ -1,7 +1,7 @@
 -- The record alone, run. Assumes nothing.
 use borrow.Author.Needs.{needs}
 use native.Mathlib.Omega.{arith}
-use mathlib.Core.Path.{_≡_, sym, _∙_}
+use mathlib.Core.Path.{sym, _∙_}
 use lib.Seq.{length-take-le}
 use Rattle.record.proofs.Forms.{decode-none, decode-strange, decode-short}
 use Rattle.run.proofs.Alone.{step-unread, step-stopped, step-passed}

@@ -1,7 +1,7 @@
 -- By the side. Assumes nothing.
 use borrow.Author.Needs.{needs}
 use borrow.Author.Tests.{eq-eqb, ne-eqb, lt-leb, le-leb}
-use mathlib.Core.Path.{_≡_, sym, _∙_}
+use mathlib.Core.Path.{_∙_}
 use Rattle.machine.specs.Range.{attachmentOk}
 use Rattle.machine.proofs.Carrier.attachment_in_range.Statement.{statement}
 use Rattle.machine.proofs.Carrier.attachment_in_range.Tie as tie
