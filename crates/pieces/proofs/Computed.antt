@@ -16,7 +16,7 @@ use Rattle.machine.specs.Geometry.{eqZ, columnOf, entryOf, exitOf, sameColumn, 
 use Rattle.record.specs.Format.{sizeOf, decodeOf, whole, ranged, refusedAs, rackOk, needleOk, workOk, signedOf}
 use Rattle.record.specs.Names.{needleCount, carrierCount, needlesOf, carriersOf}
 use Rattle.run.specs.Step.{lookOf, seeOf, parkedNo, floatNo, carrierNo, oppositeNo, firstAfter, secondAfter, roomNo, numberOf, edit, actOf, acted, moveAttachments, rackingAfter, numberAt, applyOf}
-use Rattle.run.specs.Run.{runOf, runFrom, turn, answerOf}
+use Rattle.run.specs.Run.{stepOf, turn, runFrom, answerOf, runOf}
 use Rattle.trace.specs.Records.{tied}
 use Rattle.rewrite.specs.Extents.{halfColumn, layerOf, extentOf, meets, member, common}
 use Rattle.rewrite.specs.Programs.{cut, startsOf, sameBytes, knitting}
@@ -114,7 +114,7 @@ unfolding pairTest
 pair-says r e = same-bool _ _ e
 
 computed : (every test rows && (every swapTest swaps && every pairTest pairs)) ≡ true
-unfolding swapTest pairTest rewriteOf lentNo replay cut startsOf sameBytes halfColumn layerOf extentOf meets member common sizeOf test stateTest hooksTest carriersTest sameBool sameCarrier runOf runFrom turn answerOf emptyState completeOf all inactiveCarrier movedTo attachedAt sameNeedle eqZ columnOf entryOf exitOf sameColumn withinFloat decodeOf whole ranged refusedAs rackOk needleOk workOk signedOf needleCount carrierCount needlesOf carriersOf lookOf seeOf parkedNo floatNo carrierNo oppositeNo firstAfter secondAfter roomNo numberOf edit actOf acted moveAttachments rackingAfter numberAt applyOf
+unfolding swapTest pairTest rewriteOf lentNo replay cut startsOf sameBytes halfColumn layerOf extentOf meets member common sizeOf test stateTest hooksTest carriersTest sameBool sameCarrier runOf runFrom turn stepOf answerOf emptyState completeOf all inactiveCarrier movedTo attachedAt sameNeedle eqZ columnOf entryOf exitOf sameColumn withinFloat decodeOf whole ranged refusedAs rackOk needleOk workOk signedOf needleCount carrierCount needlesOf carriersOf lookOf seeOf parkedNo floatNo carrierNo oppositeNo firstAfter secondAfter roomNo numberOf edit actOf acted moveAttachments rackingAfter numberAt applyOf
 computed = refl
 
 -- the pieces

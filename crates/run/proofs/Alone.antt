@@ -6,7 +6,7 @@ use native.Mathlib.Omega.{arith}
 use lib.ListN.{length, drop, take}
 use lib.Seq.{drop-length, length-take-le}
 use lib.Dec.{eqb}
-use borrow.Author.Tests.{eq-eqb, ne-eqb, eqb-true, eqb-false}
+use borrow.Author.Tests.{eqb-true, eqb-false}
 use Rattle.machine.specs.declared.State.{State}
 use Rattle.machine.proofs.Laws.{by}
 use Rattle.record.specs.declared.Decoded.{Decoded}
@@ -16,27 +16,13 @@ use Rattle.run.specs.declared.Reached.{Reached}
 use Rattle.run.specs.declared.Stepped.{Stepped}
 use Rattle.run.specs.Step.{numberAt, applyOf}
 use Rattle.run.specs.Run.{reached, runFrom, stay, stepOf}
-use Rattle.run.proofs.Turns.{run-end, run-refused, run-stopped, run-next}
+use Rattle.run.proofs.Turns.{unread-step, refused-step, made-step, run-end, run-refused, run-stopped, run-next}
 
--- ---- the step's three ends
-module _ (s : State) (l : List ℕ) where
-  unread-step : (decodeOf l .number ≡ 0 → ⊥) → stay (decodeOf l .number) s ≡ stepOf s l
-  unfolding stepOf
-  unread-step h = simp (ne-eqb (decodeOf l .number) 0 h)
-
-  module _ (k : decodeOf l .number ≡ 0) where
-    refused-step : (numberAt s (decodeOf l .what) ≡ 0 → ⊥) → stay (numberAt s (decodeOf l .what)) s ≡ stepOf s l
-    unfolding stepOf
-    refused-step h = simp (eq-eqb (decodeOf l .number) 0 k, ne-eqb (numberAt s (decodeOf l .what)) 0 h)
-
-    made-step : numberAt s (decodeOf l .what) ≡ 0 → _≡_ {A = Stepped} (record { number = 0; length = decodeOf l .size; state = applyOf s (decodeOf l .what) }) (stepOf s l)
-    unfolding stepOf
-    made-step h = simp (eq-eqb (decodeOf l .number) 0 k, eq-eqb (numberAt s (decodeOf l .what)) 0 h)
-
-  -- bytes that are no record
-  pub step-unread : (n : ℕ) → decodeOf l ≡ refusedAs (suc n) → stay (suc n) s ≡ stepOf s l
-  unfolding refusedAs
-  step-unread n e = let k = ap (λ (d : Decoded). d .number) e in ap (λ (m : ℕ). stay m s) (sym k) ∙ unread-step (λ z. omega (arith, k, z))
+-- ---- bytes that are no record
+pub step-unread : (s : State) (l : List ℕ) (n : ℕ) → decodeOf l ≡ refusedAs (suc n) → stay (suc n) s ≡ stepOf s l
+unfolding refusedAs
+step-unread s l n e =
+    let k = ap (λ (d : Decoded). d .number) e in ap (λ (m : ℕ). stay m s) (sym k) ∙ sym (unread-step s l (λ z. omega (arith, k, z)))
 
 -- ---- a record with all its bytes, alone
 module _ (s : State) (l : List ℕ) (n : ℕ) (size : n ≡ sizeOf (byte l 0)) (some : n ≡ 0 → ⊥) (within : n ≤ length l) where
@@ -56,7 +42,7 @@ module _ (s : State) (l : List ℕ) (n : ℕ) (size : n ≡ sizeOf (byte l 0)) (
 
   unread : (decodeOf l .number ≡ 0 → ⊥) → Both (runFrom 0 q 0 s) (stepOf s l)
   unread h =
-      rw (run-refused q 0 s (omega (arith, long, some)) (λ e. h (sym (ap (λ (d : Decoded). d .number) same) ∙ e)), same, sym (unread-step s l h)) (Both.refused h)
+      rw (run-refused q 0 s (omega (arith, long, some)) (λ e. h (sym (ap (λ (d : Decoded). d .number) same) ∙ e)), same, unread-step s l h) (Both.refused h)
 
   module _ (k : decodeOf l .number ≡ 0) where
     number : decodeOf q .number ≡ 0
@@ -64,7 +50,7 @@ module _ (s : State) (l : List ℕ) (n : ℕ) (size : n ≡ sizeOf (byte l 0)) (
 
     stops : (numberAt s (decodeOf l .what) ≡ 0 → ⊥) → Both (runFrom 0 q 0 s) (stepOf s l)
     stops h =
-        rw (run-stopped q 0 s (omega (arith, long, some)) number (λ e. h (sym (ap (λ (d : Decoded). numberAt s (d .what)) same) ∙ e)), same, sym (refused-step s l k h)) (Both.refused h)
+        rw (run-stopped q 0 s (omega (arith, long, some)) number (λ e. h (sym (ap (λ (d : Decoded). numberAt s (d .what)) same) ∙ e)), same, refused-step s l k h) (Both.refused h)
 
     no-more : drop (decodeOf q .size) q ≡ []
     no-more = ap (λ (m : ℕ). drop m q) (ap (λ (d : Decoded). d .size) same ∙ decode-kind l k ∙ sym size ∙ sym long) ∙ drop-length q
@@ -77,7 +63,7 @@ module _ (s : State) (l : List ℕ) (n : ℕ) (size : n ≡ sizeOf (byte l 0)) (
 
     step-passes : numberAt s (decodeOf l .what) ≡ 0 → stepOf s l ≡ record { number = 0; length = n; state = applyOf s (decodeOf l .what) }
     step-passes h =
-        sym (made-step s l k h) ∙ ap (λ (m : ℕ). record { number = 0; length = m; state = applyOf s (decodeOf l .what) }) (decode-kind l k ∙ sym size)
+        made-step s l k h ∙ ap (λ (m : ℕ). record { number = 0; length = m; state = applyOf s (decodeOf l .what) }) (decode-kind l k ∙ sym size)
 
     passes : numberAt s (decodeOf l .what) ≡ 0 → Both (runFrom 0 q 0 s) (stepOf s l)
     passes h = rw (run-passes h, step-passes h) Both.passed

@@ -1,10 +1,9 @@
 -- A program stepped record by record by a service that makes the step of every state in range: its answer is the run's, and it has no other. Assumes nothing.
 use Prim.Native.Nat.{ℕ, zero, suc, _+_, _≤_, _<_}
-use mathlib.Core.Path.{_≡_, refl, sym, ap, subst, _∙_}
+use mathlib.Core.Path.{_≡_, sym, ap, subst, _∙_}
 use mathlib.Core.List.{List, [], _∷_}
 use native.Mathlib.Omega.{arith}
 use lib.ListN.{length, drop, length-drop}
-use borrow.Author.Tests.{ne-eqb}
 use Rattle.machine.specs.declared.State.{State}
 use Rattle.machine.specs.Machine.{emptyState}
 use Rattle.machine.specs.Range.{StateInRange}
@@ -17,7 +16,7 @@ use Rattle.run.specs.Step.{numberAt}
 use Rattle.run.specs.Run.{reached, runFrom, answerOf, stepOf}
 use Rattle.run.specs.Claims.{Stepwise, StepsAreTheRun, StepsAreOne}
 use Rattle.run.proofs.Premises.{is}
-use Rattle.run.proofs.Turns.{run-end, run-refused, run-stopped, run-next}
+use Rattle.run.proofs.Turns.{unread-step, refused-step, made-step, run-end, run-stops, run-goes}
 use Rattle.run.proofs.Answers.{short-run}
 use Rattle.run.proofs.Ranges.{slice-keeps}
 
@@ -26,14 +25,15 @@ record Follows (l : List ℕ) (at : ℕ) (r : Reached) (a : Stepped) : Type 0 wh
   pub stops : (a .number ≡ 0 → ⊥) → r ≡ reached (a .number) at (a .state)
   pub goes : a .number ≡ 0 → (0 < a .length) × (r ≡ runFrom 0 (drop (a .length) l) (at + a .length) (a .state))
 
-follows : (s : State) (l : List ℕ) (at : ℕ) → 0 < length l → Follows l at (runFrom 0 l at s) (stepOf s l)
-unfolding stepOf
-follows s l at h =
+some-length : (s : State) (l : List ℕ) → stepOf s l .number ≡ 0 → 0 < stepOf s l .length
+some-length s l e =
     is (decodeOf l .number) 0
-    (λ e. is (numberAt s (decodeOf l .what)) 0
-    (λ z. simp (e, z) (record { stops = λ d. absurd (d refl); goes = λ q. (decode-size l e .0, run-next l at s h e z) }))
-    (λ d. simp (e, ne-eqb (numberAt s (decodeOf l .what)) 0 d) (record { stops = λ q. run-stopped l at s h e d; goes = λ z. absurd (d z) })))
-    (λ d. simp (ne-eqb (decodeOf l .number) 0 d) (record { stops = λ q. run-refused l at s h d; goes = λ z. absurd (d z) }))
+    (λ k. is (numberAt s (decodeOf l .what)) 0 (λ z. subst (λ (t : Stepped). 0 < t .length) (sym (made-step s l k z)) (decode-size l k .0))
+    (λ d. absurd (d (sym (ap (λ (t : Stepped). t .number) (refused-step s l k d)) ∙ e))))
+    (λ d. absurd (d (sym (ap (λ (t : Stepped). t .number) (unread-step s l d)) ∙ e)))
+
+follows : (s : State) (l : List ℕ) (at : ℕ) → 0 < length l → Follows l at (runFrom 0 l at s) (stepOf s l)
+follows s l at h = record { stops = run-stops l at s h; goes = λ e. (some-length s l e, run-goes l at s h e (some-length s l e)) }
 
 module _ (service : State → List ℕ → Stepped) (agrees : (s : State) (l : List ℕ) → StateInRange s → service s l ≡ stepOf s l) where
   module _ {s : State} (k : StateInRange s) (l : List ℕ) where

@@ -12,7 +12,8 @@ use Rattle.record.specs.Format.{decodeOf}
 use Rattle.record.proofs.Ranges.{InRange}
 use Rattle.record.proofs.Forms.{decode-size, decode-in}
 use Rattle.run.specs.Step.{numberAt, applyOf}
-use Rattle.run.specs.Run.{reached, turn, runFrom}
+use Rattle.run.specs.declared.Stepped.{Stepped}
+use Rattle.run.specs.Run.{reached, stay, stepOf, turn, runFrom}
 
 -- passing over bytes
 pub run-skip : (k : ℕ) (l : List ℕ) (at : ℕ) (s : State) → runFrom k l at s ≡ runFrom 0 (drop k l) at s
@@ -35,36 +36,53 @@ skip-cons (suc n) b l at s h = ap (λ (k : ℕ). runFrom k l at s) less ∙ run-
     less : suc n - 1 ≡ n
     less = omega arith
 
--- a first record that bytes refuse
-pub run-refused : (l : List ℕ) (at : ℕ) (s : State) → 0 < length l → (decodeOf l .number ≡ 0 → ⊥) → runFrom 0 l at s ≡ reached (decodeOf l .number) at s
-unfolding runFrom turn
-run-refused [] at s h k = absurd (none h)
-  where
-    none : 0 < 0 → ⊥
-    none h = omega arith
-run-refused (b ∷ l) at s h k = simp (ne-eqb (decodeOf (b ∷ l) .number) 0 k)
+-- ---- a step's three ends
+module _ (s : State) (l : List ℕ) where
+  pub unread-step : (decodeOf l .number ≡ 0 → ⊥) → stepOf s l ≡ stay (decodeOf l .number) s
+  unfolding stepOf
+  unread-step h = simp (ne-eqb (decodeOf l .number) 0 h)
 
--- a first record that its step refuses
-pub run-stopped : (l : List ℕ) (at : ℕ) (s : State) → 0 < length l → decodeOf l .number ≡ 0 → (numberAt s (decodeOf l .what) ≡ 0 → ⊥)
-    → runFrom 0 l at s ≡ reached (numberAt s (decodeOf l .what)) at s
-unfolding runFrom turn
-run-stopped [] at s h k n = absurd (none h)
-  where
-    none : 0 < 0 → ⊥
-    none h = omega arith
-run-stopped (b ∷ l) at s h k n = simp (eq-eqb (decodeOf (b ∷ l) .number) 0 k, ne-eqb (numberAt s (decodeOf (b ∷ l) .what)) 0 n)
+  module _ (k : decodeOf l .number ≡ 0) where
+    pub refused-step : (numberAt s (decodeOf l .what) ≡ 0 → ⊥) → stepOf s l ≡ stay (numberAt s (decodeOf l .what)) s
+    unfolding stepOf
+    refused-step h = simp (eq-eqb (decodeOf l .number) 0 k, ne-eqb (numberAt s (decodeOf l .what)) 0 h)
 
--- a first record that has its step
-pub run-next : (l : List ℕ) (at : ℕ) (s : State) → 0 < length l → decodeOf l .number ≡ 0 → numberAt s (decodeOf l .what) ≡ 0
-    → runFrom 0 l at s ≡ runFrom 0 (drop (decodeOf l .size) l) (at + decodeOf l .size) (applyOf s (decodeOf l .what))
+    pub made-step : numberAt s (decodeOf l .what) ≡ 0 → stepOf s l ≡ record { number = 0; length = decodeOf l .size; state = applyOf s (decodeOf l .what) }
+    unfolding stepOf
+    made-step h = simp (eq-eqb (decodeOf l .number) 0 k, eq-eqb (numberAt s (decodeOf l .what)) 0 h)
+
+-- ---- and what the run makes of it: it stops there, or goes on behind the record
+pub run-stops : (l : List ℕ) (at : ℕ) (s : State) → 0 < length l → (stepOf s l .number ≡ 0 → ⊥) → runFrom 0 l at s ≡ reached (stepOf s l .number) at (stepOf s l .state)
 unfolding runFrom turn
-run-next [] at s h k n = absurd (none h)
-  where
-    none : 0 < 0 → ⊥
-    none h = omega arith
-run-next (b ∷ l) at s h k n =
-    simp (eq-eqb (decodeOf (b ∷ l) .number) 0 k, eq-eqb (numberAt s (decodeOf (b ∷ l) .what)) 0 n)
-    (skip-cons (decodeOf (b ∷ l) .size) b l (at + decodeOf (b ∷ l) .size) (applyOf s (decodeOf (b ∷ l) .what)) (decode-size (b ∷ l) k .0))
+run-stops [] at s h d = absurd (omega arith)
+run-stops (b ∷ l) at s h d = simp (ne-eqb (stepOf s (b ∷ l) .number) 0 d)
+
+pub run-goes : (l : List ℕ) (at : ℕ) (s : State) → 0 < length l → stepOf s l .number ≡ 0 → 0 < stepOf s l .length
+    → runFrom 0 l at s ≡ runFrom 0 (drop (stepOf s l .length) l) (at + stepOf s l .length) (stepOf s l .state)
+unfolding runFrom turn
+run-goes [] at s h e m = absurd (omega arith)
+run-goes (b ∷ l) at s h e m =
+    simp (eq-eqb (stepOf s (b ∷ l) .number) 0 e) (skip-cons (stepOf s (b ∷ l) .length) b l (at + stepOf s (b ∷ l) .length) (stepOf s (b ∷ l) .state) m)
+
+-- a first record that bytes refuse, that its step refuses, that has its step
+module _ (l : List ℕ) (at : ℕ) (s : State) (h : 0 < length l) where
+  number : {t : Stepped} → stepOf s l ≡ t → stepOf s l .number ≡ t .number
+  number e = ap (λ (t : Stepped). t .number) e
+
+  pub run-refused : (decodeOf l .number ≡ 0 → ⊥) → runFrom 0 l at s ≡ reached (decodeOf l .number) at s
+  run-refused d =
+      let e = unread-step s l d in run-stops l at s h (λ z. d (sym (number e) ∙ z)) ∙ ap (λ (t : Stepped). reached (t .number) at (t .state)) e
+
+  module _ (k : decodeOf l .number ≡ 0) where
+    pub run-stopped : (numberAt s (decodeOf l .what) ≡ 0 → ⊥) → runFrom 0 l at s ≡ reached (numberAt s (decodeOf l .what)) at s
+    run-stopped d =
+        let e = refused-step s l k d in run-stops l at s h (λ z. d (sym (number e) ∙ z)) ∙ ap (λ (t : Stepped). reached (t .number) at (t .state)) e
+
+    pub run-next : numberAt s (decodeOf l .what) ≡ 0 → runFrom 0 l at s ≡ runFrom 0 (drop (decodeOf l .size) l) (at + decodeOf l .size) (applyOf s (decodeOf l .what))
+    run-next z =
+        let e = made-step s l k z in
+        run-goes l at s h (number e) (subst (λ (t : Stepped). 0 < t .length) (sym e) (decode-size l k .0))
+        ∙ ap (λ (t : Stepped). runFrom 0 (drop (t .length) l) (at + t .length) (t .state)) e
 
 -- the program's end
 pub ended : (s₀ : State) (p : List ℕ) (at : ℕ) (s : State) → at ≡ length p → runFrom 0 p 0 s₀ ≡ runFrom 0 (drop at p) at s → reached 0 0 s ≡ runFrom 0 p 0 s₀

@@ -1,4 +1,4 @@
--- The run of a program's bytes, and the step of the first record of a slice, as definitions that compute.
+-- The step of the first record of a slice, and the run of a program's bytes, which goes by that step, as definitions that compute.
 use Prim.Native.Nat.{ℕ, zero, suc, _+_, _-_}
 use mathlib.Core.Bool.{cond}
 use mathlib.Core.List.{List, [], _∷_}
@@ -6,7 +6,6 @@ use lib.ListN.{length}
 use lib.Dec.{eqb, leb}
 use Rattle.machine.specs.declared.State.{State}
 use Rattle.machine.specs.Machine.{emptyState, completeOf}
-use Rattle.record.specs.declared.Decoded.{Decoded}
 use Rattle.record.specs.Format.{decodeOf}
 use Rattle.run.specs.declared.Reached.{Reached}
 use Rattle.run.specs.declared.Answer.{Answer}
@@ -15,27 +14,6 @@ use Rattle.run.specs.Step.{numberAt, applyOf}
 
 abbrev pub reached : ℕ → ℕ → State → Reached
 reached n at s = record { number = n; place = at; state = s }
-
--- a record refused by its bytes or by its step, or the rest of the program after it
-unfoldable pub turn : Decoded → ℕ → Reached → ℕ → State → Reached
-turn d n rest at s = cond (eqb (d .number) 0) (cond (eqb n 0) rest (reached n at s)) (reached (d .number) at s)
-
--- the run from a state over a list that stands at a place, after k bytes that are passed over
-unfoldable pub runFrom : ℕ → List ℕ → ℕ → State → Reached
-runFrom k [] at s = reached 0 0 s
-runFrom (suc k) (b ∷ l) at s = runFrom k l at s
-runFrom zero (b ∷ l) at s =
-    turn (decodeOf (b ∷ l)) (numberAt s (decodeOf (b ∷ l) .what))
-    (runFrom (decodeOf (b ∷ l) .size - 1) l (at + decodeOf (b ∷ l) .size) (applyOf s (decodeOf (b ∷ l) .what)))
-    at s
-
--- an answer says besides whether its state is the empty one
-unfoldable pub answerOf : Reached → Answer
-answerOf r = record { number = r .number; place = r .place; complete = completeOf (r .state); state = r .state }
-
--- 1 (too long) comes first
-unfoldable pub runOf : List ℕ → Answer
-runOf p = answerOf (cond (leb (length p) 32768) (runFrom 0 p 0 emptyState) (reached 1 0 emptyState))
 
 -- a step that is refused: length 0 and the state kept
 abbrev pub stay : ℕ → State → Stepped
@@ -49,3 +27,22 @@ stepOf s l =
     (record { number = 0; length = decodeOf l .size; state = applyOf s (decodeOf l .what) })
     (stay (numberAt s (decodeOf l .what)) s))
     (stay (decodeOf l .number) s)
+
+-- a step in a run: the run ends at a refused one, and else goes on
+unfoldable pub turn : Stepped → Reached → ℕ → Reached
+turn t rest at = cond (eqb (t .number) 0) rest (reached (t .number) at (t .state))
+
+-- the run from a state over a list that stands at a place, after k bytes that are passed over: a step, and the run from behind its record
+unfoldable pub runFrom : ℕ → List ℕ → ℕ → State → Reached
+runFrom k [] at s = reached 0 0 s
+runFrom (suc k) (b ∷ l) at s = runFrom k l at s
+runFrom zero (b ∷ l) at s =
+    turn (stepOf s (b ∷ l)) (runFrom (stepOf s (b ∷ l) .length - 1) l (at + stepOf s (b ∷ l) .length) (stepOf s (b ∷ l) .state)) at
+
+-- an answer says besides whether its state is the empty one
+unfoldable pub answerOf : Reached → Answer
+answerOf r = record { number = r .number; place = r .place; complete = completeOf (r .state); state = r .state }
+
+-- 1 (too long) comes first
+unfoldable pub runOf : List ℕ → Answer
+runOf p = answerOf (cond (leb (length p) 32768) (runFrom 0 p 0 emptyState) (reached 1 0 emptyState))
