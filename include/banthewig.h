@@ -1,7 +1,8 @@
 /* The C interface of Banthewig: the run of a knitout program on the machine model, the swaps of its records, and the
    panel's services on one machine state. Nothing here needs an allocator, a file or a thread; no call keeps a pointer.
-   A pointer whose length or count is 0 is not read. What is lent for writing may overlap nothing else that is lent.
-   For C11 and C++11, and later ones. docs/CALLS.md says more. */
+   A pointer whose length or count is 0 is not read and may be null; a state's may not. What is lent for writing may
+   overlap nothing else that is lent, and nothing else may read or write it during the call. States, lists and work
+   areas are aligned as C aligns them. For C11 and C++11, and later ones. docs/CALLS.md says more. */
 #ifndef BANTHEWIG_H
 #define BANTHEWIG_H
 
@@ -19,7 +20,7 @@ enum knitout_number {
     KNITOUT_NO_ROOM = 2,         /* output shorter than the program, fewer work entries than half its bytes, or a carrier
                                     list under ten */
     KNITOUT_UNKNOWN_KIND = 3,    /* a byte that is no kind */
-    KNITOUT_CUT_SHORT = 4,       /* fewer bytes than the kind needs */
+    KNITOUT_CUT_SHORT = 4,       /* no byte, or fewer than the kind needs */
     KNITOUT_FIELD_RANGE = 5,     /* a field outside its range */
     KNITOUT_ALREADY_IN = 6,      /* in for an active carrier */
     KNITOUT_NOT_IN = 7,          /* any other use of an inactive one */
@@ -30,7 +31,7 @@ enum knitout_number {
     KNITOUT_NO_PAIR = 12,        /* position + 1 is not a record */
     KNITOUT_TIED = 13,           /* the two records are tied */
     KNITOUT_TORN_LOG = 14,       /* log kind not 40 (hexadecimal), or fewer than three bytes */
-    KNITOUT_BAD_STATE = 15       /* a lent machine state with a value out of its range */
+    KNITOUT_BAD_STATE = 15       /* a lent machine state with a value out of its range, or not 0 in a field without meaning */
 };
 
 /* The longest program and the longest log, in bytes. */
@@ -64,7 +65,7 @@ struct knitout_carrier {
 };
 
 /* A machine state. All 0 is the empty state, where a run starts: racking 0, no loops, no active carrier. The byte after
-   the loops is padding: no call reads it, and what a call leaves there is not said. */
+   the loops is padding: no answer depends on it, and what a call leaves there is not said. */
 struct knitout_state {
     int8_t racking;                                    /* -8 to 8: the back bed's shift to the right, in columns */
     uint8_t loops[KNITOUT_HOOKS];                      /* 0 to 8 on each hook: f.0 to f.249, then b.0 to b.249 */
@@ -98,16 +99,16 @@ uint64_t knitout_rewrite(const uint8_t *program, size_t program_length, const ui
 #define KNITOUT_PLACE(answer) ((unsigned)((answer) & 0xFFFFu))
 
 /* Makes the step of the first record of bytes[0] to bytes[length - 1] on the lent state; what follows the record is not
-   looked at. 0 changes the state and gives the record's length. 15 (looked at first) and 3 to 11 give length 0 and leave
-   every field of the state as it was; the state's memory must be writable all the same, and may not overlap the bytes. */
+   looked at, and a length of 0 gives 4. 0: the state is the one after the record, and the answer's length the record's.
+   15 (looked at first) and 3 to 11: length 0, and every field of the state has its old value. The state is stored to
+   in either case, so that its memory must be writable. */
 struct knitout_served knitout_step(struct knitout_state *state, const uint8_t *bytes, size_t length);
 
 /* Lists the carriers of a state. 0 writes carriers 1 to 10 to list[0] to list[9] and gives length 10; entries from list[10]
-   on keep their contents. 15 (looked at first) and 2 (count under ten) give length 0 and write nothing. The list may not
-   overlap the state. */
+   on keep their contents. 15 (looked at first) and 2 (count under ten) give length 0 and write nothing. */
 struct knitout_served knitout_carriers(const struct knitout_state *state, struct knitout_carrier *list, size_t count);
 
-/* The layout that the library is built with. */
+/* The layout that the library is built with (x86-64); crates/banthewig/proofs/Crossing.antt proves the same of it. */
 #ifdef __cplusplus
 #define KNITOUT_ASSERT(holds) static_assert(holds, #holds)
 #else
@@ -123,9 +124,9 @@ KNITOUT_ASSERT(sizeof(struct knitout_state) == 582);
 KNITOUT_ASSERT(offsetof(struct knitout_state, racking) == 0);
 KNITOUT_ASSERT(offsetof(struct knitout_state, loops) == 1);
 KNITOUT_ASSERT(offsetof(struct knitout_state, carriers) == 502);
-KNITOUT_ASSERT(sizeof(struct knitout_served) == 2 * sizeof(size_t));
+KNITOUT_ASSERT(sizeof(struct knitout_served) == 16);
 KNITOUT_ASSERT(offsetof(struct knitout_served, number) == 0);
-KNITOUT_ASSERT(offsetof(struct knitout_served, length) == sizeof(size_t));
+KNITOUT_ASSERT(offsetof(struct knitout_served, length) == 8);
 #undef KNITOUT_ASSERT
 
 #ifdef __cplusplus

@@ -1,9 +1,15 @@
--- The layout of the structs that cross into C, as the machine's memory has it: the sizes and offsets that include/banthewig.h asserts. Assumes nothing.
+-- The layout of the structs that cross into C, as the library's memory has it: the sizes and offsets that include/banthewig.h asserts for the
+-- same fields. Assumes nothing.
 use Prim.Native.Nat.{ℕ}
 use mathlib.Core.Path.{_≡_, refl}
-use mathlib.Core.Option.{Option, some, none}
-use mir.Syntax.{Ty}
+use mathlib.Core.Option.{some}
+use mathlib.Core.List.{[], _∷_}
+use mir.Syntax.{Ty, tyInt, tyArray, w8, w16, w64}
+use mir.Val.{vint, vstruct, ofList, ofZ}
 use prog.Memory.{size, align, fieldOf}
+use denote.Struct.Laws as LL
+use Rattle.machine.specs.declared.Carrier.{Carrier}
+use Rattle.machine.proofs.Carrier as Entry
 use Rattle.machine.proofs.Slot.Laws as slot
 use Rattle.machine.proofs.Needle.Laws as needle
 use Rattle.machine.proofs.Racking.Laws as racking
@@ -11,18 +17,13 @@ use Rattle.machine.proofs.Carrier.Laws as carrier
 use Rattle.machine.proofs.State.Laws as state
 use Rattle.panel.proofs.Served.Laws as served
 
--- where a field begins
-abbrev pub begins : Option (Ty × ℕ) → Option ℕ
-begins none = none
-begins (some f) = some (f .1)
-
--- a struct's size and alignment, and where its fields begin
+-- a struct's size and alignment; field k, of a type, begins so many bytes from the front
 pub record Laid (τ : Ty) (bytes boundary : ℕ) : Type 0 where
   pub size-is : size τ ≡ bytes
   pub align-is : align τ ≡ boundary
 
-abbrev pub FieldAt : Ty → ℕ → ℕ → Type 0
-FieldAt τ k at = begins (fieldOf τ k) ≡ some at
+abbrev pub FieldAt : Ty → ℕ → Ty → ℕ → Type 0
+FieldAt τ k σ at = fieldOf τ k ≡ some (σ, at)
 
 -- slot, racking: one number; needle: bed, number
 pub slot-laid : Laid slot.mir 2 2
@@ -34,26 +35,32 @@ racking-laid = record { size-is = refl; align-is = refl }
 pub needle-laid : Laid needle.mir 4 2
 needle-laid = record { size-is = refl; align-is = refl }
 
-pub needle-fields : FieldAt needle.mir 0 0 × FieldAt needle.mir 1 2
+pub needle-fields : FieldAt needle.mir 0 (tyInt w16) 0 × FieldAt needle.mir 1 (tyInt w16) 2
 needle-fields = (refl, refl)
 
--- carrier: active, side, slot, needle (bed at 4, number at 6)
+-- carrier: active, side, slot, needle (so that bed is at 4, number at 6)
 pub carrier-laid : Laid carrier.mir 8 2
 carrier-laid = record { size-is = refl; align-is = refl }
 
-pub carrier-fields : FieldAt carrier.mir 0 0 × FieldAt carrier.mir 1 1 × FieldAt carrier.mir 2 2 × FieldAt carrier.mir 3 4
+pub carrier-fields : FieldAt carrier.mir 0 (tyInt w8) 0 × FieldAt carrier.mir 1 (tyInt w8) 1 × FieldAt carrier.mir 2 slot.mir 2 × FieldAt carrier.mir 3 needle.mir 4
 carrier-fields = (refl, refl, refl, refl)
+
+-- which of the fields of one type is which
+pub carrier-order : (c : Carrier)
+    → LL.val Entry.the-type carrier.the-laws c
+    ≡ vstruct (ofList (vint w8 (c .active) ∷ vint w8 (c .side) ∷ vstruct (ofList (vint w16 (ofZ w16 (c .slot .0)) ∷ [])) ∷ vstruct (ofList (vint w16 (c .needle .0) ∷ vint w16 (c .needle .1) ∷ [])) ∷ []))
+carrier-order c = refl
 
 -- state: racking, loops, carriers
 pub state-laid : Laid state.mir 582 2
 state-laid = record { size-is = refl; align-is = refl }
 
-pub state-fields : FieldAt state.mir 0 0 × FieldAt state.mir 1 1 × FieldAt state.mir 2 502
+pub state-fields : FieldAt state.mir 0 racking.mir 0 × FieldAt state.mir 1 (tyArray (tyInt w8) 500) 1 × FieldAt state.mir 2 (tyArray carrier.mir 10) 502
 state-fields = (refl, refl, refl)
 
 -- a service's answer: number, length
 pub served-laid : Laid served.mir 16 8
 served-laid = record { size-is = refl; align-is = refl }
 
-pub served-fields : FieldAt served.mir 0 0 × FieldAt served.mir 1 8
+pub served-fields : FieldAt served.mir 0 (tyInt w8) 0 × FieldAt served.mir 1 (tyInt w64) 8
 served-fields = (refl, refl)

@@ -4,7 +4,7 @@ ghost use Prim.Native.Nat.{_+_, _*_, _<_};
 ghost use lib.ListN.{length};
 ghost use Rattle.run.specs.Run.{runOf};
 ghost use Rattle.rewrite.specs.Rewrite.{rewriteOf};
-ghost use Rattle.panel.specs.Panel.{panelStep, served, listAnswer, carrierList};
+ghost use Rattle.panel.specs.Panel.{panelStep, listAnswer, carrierList};
 ghost use Rattle.banthewig.specs.Entries.{packed};
 
 // Number and place in one word.
@@ -45,7 +45,8 @@ pub extern "C" fn knitout_rewrite(
 // every value of the state as it was.
 #[no_mangle]
 pub extern "C" fn knitout_step(state: &mut machine::State, bytes: &[u8]) -> panel::Served
-    ensures { λ r. ⌜ (r ≡ served (panelStep (now (state .entry)) (now (bytes .entry))))
+    ensures { λ r. ⌜ (r .number ≡ panelStep (now (state .entry)) (now (bytes .entry)) .number)
+        × (r .length ≡ panelStep (now (state .entry)) (now (bytes .entry)) .length)
         × (now (state .exit) ≡ panelStep (now (state .entry)) (now (bytes .entry)) .state) ⌝ }
 {
     let out = panel::step(*state, bytes);

@@ -25,7 +25,7 @@ pub data CarrierInRange (c : Carrier) : Type 0 where
   unattached : c .active ≡ 1 → SlotInRange (c .slot) → c .side ≡ 0 → c .needle ≡ record { 0 = 0; 1 = 0 } → CarrierInRange c
   attached : c .active ≡ 1 → SlotInRange (c .slot) → 1 ≤ c .side → c .side ≤ 2 → OnBed (c .needle) → CarrierInRange c
 
--- a state that is not foul
+-- a state that is not foul (a state in code has 500 hooks and ten carriers; nothing is asked of the lists' lengths here)
 pub record StateInRange (s : State) : Type 0 where
   -- −8 to 8
   pub racking : natAbs (s .racking .0) ≤ 8

@@ -1,15 +1,19 @@
 -- The claims of the panel's services. Assumes nothing.
-use Prim.Native.Nat.{ℕ, _≤_}
-use mathlib.Core.Path.{_≡_, sym, ap, subst, _∙_}
+use Prim.Native.Nat.{ℕ, _-_, _≤_}
+use mathlib.Core.Path.{_≡_, refl, sym, ap, subst, _∙_}
 use mathlib.Core.Bool.{true, false}
 use mathlib.Core.List.{List}
 use native.Mathlib.Omega.{arith}
 use lib.Dec.{ltb}
+use lib.ListN.{length}
 use borrow.Author.Tests.{ltb-true, ltb-false}
 use Rattle.machine.specs.declared.State.{State}
-use Rattle.machine.specs.Range.{StateInRange, stateOk}
+use Rattle.machine.specs.Geometry.{eqZ}
+use Rattle.machine.specs.Machine.{inactive, emptyState, all, inactiveCarrier}
+use Rattle.machine.specs.Range.{StateInRange, slotOk, onBed, attachmentOk, carrierOk, stateOk}
 use Rattle.machine.proofs.Laws.{by}
 use Rattle.machine.proofs.Ranges.{range-exactly}
+use Rattle.record.specs.Format.{refusedAs, decodeOf}
 use Rattle.run.specs.declared.Stepped.{Stepped}
 use Rattle.run.specs.Reason.{Reason, RecordReason}
 use Rattle.run.specs.Run.{runOf, stay, stepOf}
@@ -18,8 +22,11 @@ use Rattle.run.proofs.Demand.{step-refused, run-in-range, step-in-range}
 use Rattle.run.proofs.Stepwise.{steps-are-the-run, steps-are-one}
 use Rattle.panel.specs.declared.Served.{Served}
 use Rattle.panel.specs.Panel.{panelStep}
-use Rattle.panel.specs.Claims.{FoulExactly, ListFoulExactly, ServiceIsStep, ListShortExactly, RefusedKeeps, RunNotFoul, ServiceNotFoul, ServedAsRun, ServedOneWay}
+use Rattle.panel.specs.Claims.{FoulExactly, ServiceIsStep, RefusedKeeps, RunNotFoul, ServiceNotFoul, ServedAsRun, ServedOneWay}
+use Rattle.panel.specs.Claims.{ListFoulExactly, ListShortExactly, ListDoneExactly, Listed, ListWrites, ListRefusedKeeps}
+use Rattle.panel.specs.Rows.{RangeRows}
 use Rattle.panel.proofs.Services.{foul-step, fine-step, foul-list, short-list, long-list}
+use Rattle.panel.proofs.Filled.{list-long, list-kept, list-written, long-written, front-written, rest-written}
 
 -- ---- in range or foul
 fine : {s : State} → StateInRange s → stateOk s ≡ true
@@ -56,18 +63,54 @@ foul-exactly s l = (
   (λ h. either s (λ k. absurd (h k)) (λ e. sym (ap (λ (t : Stepped). t .number) (foul-step s l e)))),
 )
 
+list-number : {a b : Served} → a ≡ b → a .number ≡ b .number
+list-number e = ap (λ (a : Served). a .number) e
+
 pub list-short-exactly : ListShortExactly
 list-short-exactly s n h = (
-  (λ e. by (ltb n 10) (λ t. ltb-true n 10 t) (λ t. absurd (omega (arith, e, ap (λ (a : Served). a .number) (long-list s n (fine h) (ltb-false n 10 t)))))),
-  (λ k. ap (λ (a : Served). a .number) (short-list s n (fine h) k)),
+  (λ e. by (ltb n 10) (λ t. ltb-true n 10 t) (λ t. absurd (omega (arith, e, list-number (long-list s n (fine h) (ltb-false n 10 t)))))),
+  (λ k. list-number (short-list s n (fine h) k)),
 )
 
 pub list-foul-exactly : ListFoulExactly
 list-foul-exactly s n = (
-  (λ e h. by (ltb n 10) (λ t. omega (arith, e, ap (λ (a : Served). a .number) (short-list s n (fine h) (ltb-true n 10 t))))
-      (λ t. omega (arith, e, ap (λ (a : Served). a .number) (long-list s n (fine h) (ltb-false n 10 t))))),
-  (λ h. either s (λ k. absurd (h k)) (λ e. ap (λ (a : Served). a .number) (foul-list s n e))),
+  (λ e h. by (ltb n 10) (λ t. omega (arith, e, list-number (short-list s n (fine h) (ltb-true n 10 t))))
+      (λ t. omega (arith, e, list-number (long-list s n (fine h) (ltb-false n 10 t))))),
+  (λ h. either s (λ k. absurd (h k)) (λ e. list-number (foul-list s n e))),
 )
+
+pub list-done-exactly : ListDoneExactly
+list-done-exactly s n = (
+  (λ e. by (stateOk s)
+      (λ t. by (ltb n 10) (λ u. absurd (omega (arith, list-number e, list-number (short-list s n t (ltb-true n 10 u))))) (λ u. (range-exactly s .0 t, ltb-false n 10 u)))
+      (λ t. absurd (omega (arith, list-number e, list-number (foul-list s n t))))),
+  (λ h. long-list s n (fine (h .0)) (h .1)),
+)
+
+pub list-refused-keeps : ListRefusedKeeps
+list-refused-keeps s list d = (
+  by (stateOk s)
+      (λ t. by (ltb (length list) 10) (λ u. ap (λ (a : Served). a .length) (short-list s _ t (ltb-true _ 10 u))) (λ u. absurd (d (list-number (long-list s _ t (ltb-false _ 10 u))))))
+      (λ t. ap (λ (a : Served). a .length) (foul-list s _ t)),
+  sym (list-kept s list d),
+)
+
+pub list-writes : ListWrites
+list-writes s list ten e =
+    let enough : length (s .carriers) ≤ length list = omega (arith, ten, list-long s (length list) e) in
+    subst (Listed s list) (list-written s list ten e) (record {
+      long = long-written inactive (s .carriers) list enough;
+      carriers = λ k h j. front-written inactive (s .carriers) _ (k - 1) (omega (arith, ten));
+      later = λ i h. rest-written inactive (s .carriers) list i (omega (arith, ten)) enough;
+    })
+
+pub range-rows : RangeRows
+unfolding panelStep stateOk emptyState slotOk onBed attachmentOk carrierOk all inactiveCarrier eqZ stepOf decodeOf refusedAs
+range-rows =
+    record {
+      foul = (refl, (refl, (refl, (refl, (refl, (refl, (refl, (refl, (refl, (refl, (refl, (refl, (refl, (refl, (refl, (refl, (refl, (refl, tt))))))))))))))))));
+      sound = (refl, (refl, (refl, (refl, (refl, (refl, (refl, (refl, tt))))))));
+    }
 
 pub refused-keeps : RefusedKeeps
 refused-keeps s l d = either s fair foul

@@ -36,6 +36,23 @@ module _ {X : Type 0} (d : X) where
   filled-is from list zero h k = refl
   filled-is from list (suc i) h k = ap (λ (l : List X). set l i (getD from i d)) (filled-is from list i (omega arith) (omega arith)) ∙ one-more from list i h k
 
+  -- a list that was written over another's front: its length, its front, its rest
+  pub long-written : (from list : List X) → length from ≤ length list → length (from ++ drop (length from) list) ≡ length list
+  long-written [] list k = refl
+  long-written (x ∷ from) [] k = absurd (omega arith)
+  long-written (x ∷ from) (y ∷ list) k = ap suc (long-written from list (omega arith))
+
+  pub front-written : (from rest : List X) (i : ℕ) → i < length from → getD (from ++ rest) i d ≡ getD from i d
+  front-written [] rest i h = absurd (omega arith)
+  front-written (x ∷ from) rest zero h = refl
+  front-written (x ∷ from) rest (suc i) h = front-written from rest i (omega arith)
+
+  pub rest-written : (from list : List X) (i : ℕ) → length from ≤ i → length from ≤ length list → getD (from ++ drop (length from) list) i d ≡ getD list i d
+  rest-written [] list i h k = refl
+  rest-written (x ∷ from) [] i h k = absurd (omega arith)
+  rest-written (x ∷ from) (y ∷ list) zero h k = absurd (omega arith)
+  rest-written (x ∷ from) (y ∷ list) (suc i) h k = rest-written from list i (omega arith) (omega arith)
+
 -- ---- the list of a call that is done, and of one that is refused
 module _ (s : State) where
   pub list-long : (n : ℕ) → listAnswer s n .number ≡ 0 → 10 ≤ n
@@ -50,6 +67,10 @@ module _ (s : State) where
       ranged false h = absurd (omega (arith, ap (λ (a : Served). a .number) (foul-list s n h), e))
 
   module _ (list : List Carrier) where
+    pub list-written : length (s .carriers) ≡ 10 → listAnswer s (length list) .number ≡ 0 → s .carriers ++ drop (length (s .carriers)) list ≡ carrierList s list
+    unfolding carrierList
+    list-written ten e = ap (λ (n : ℕ). s .carriers ++ drop n list) ten ∙ sym (simp (eq-eqb _ _ e))
+
     pub list-filled : length (s .carriers) ≡ 10 → listAnswer s (length list) .number ≡ 0 → filled inactive (s .carriers) list 10 ≡ carrierList s list
     unfolding carrierList
     list-filled ten e =

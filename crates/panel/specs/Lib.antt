@@ -1,3 +1,4 @@
 -- The panel's services, in reading order.
 pub mod Panel
 pub mod Claims
+pub mod Rows

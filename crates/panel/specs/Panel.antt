@@ -16,10 +16,6 @@ use Rattle.panel.specs.declared.Served.{Served}
 unfoldable pub panelStep : State → List ℕ → Stepped
 panelStep s l = cond (stateOk s) (stepOf s l) (stay 15 s)
 
--- number and length, besides the state
-abbrev pub served : Stepped → Served
-served t = record { number = t .number; length = t .length }
-
 -- ---- the carrier list
 -- 15 first, then 2 (01: a carrier list under ten); length 10, or 0 if refused
 unfoldable pub listAnswer : State → ℕ → Served

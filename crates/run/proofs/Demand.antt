@@ -1,14 +1,19 @@
 -- Demand 2: the run's answer against the validity relation, for every program. Assumes nothing.
-use mathlib.Core.Path.{refl, ap}
+use mathlib.Core.Path.{_≡_, refl, sym, ap, _∙_}
+use mathlib.Core.List.{[], _∷_}
+use native.Mathlib.Omega.{arith}
+use Rattle.record.specs.Format.{Encodes, signedOf}
 use Rattle.run.specs.declared.Answer.{Answer}
-use Rattle.run.specs.Run.{answerOf, stepOf}
+use Rattle.run.specs.declared.Reached.{Reached}
+use Rattle.run.specs.Relation.{Step, Steps}
+use Rattle.run.specs.Run.{answerOf, runOf, stepOf}
 use Rattle.run.specs.Claims.{AcceptsExactlyValid, GivesFinalState, TooLongExactly, TooLongAnswer, RefusesFirst, RefusalIsOne, PlaceIsSmall, CompleteIsEmpty, ReasonExactlyNoStep, StepAcceptsExactly, StepGives, StepRefuses}
-use Rattle.run.specs.Claims.{RunInRange, StepInRange, StepsAreTheRun, StepsAreOne}
+use Rattle.run.specs.Claims.{RunInRange, StepInRange, StepsAreTheRun, StepsAreOne, RefuserIsNotTheRun}
 use Rattle.run.proofs.Bytes.{reason-no-step, no-step-reason, step-exact, step-gives, step-refuses}
 use Rattle.run.proofs.Unique.{one-refusal}
 use Rattle.run.proofs.Answers.{long-run, valid-run, answered, accepted, one-long, first-refusal, place-small, complete-empty}
 use Rattle.run.proofs.Ranges.{answer-in, slice-keeps}
-use Rattle.run.proofs.Stepwise.{steps-are-the-run as service-is-the-run, steps-are-one as service-is-one}
+use Rattle.run.proofs.Stepwise.{steps-are-the-run as service-is-the-run, steps-are-one as service-is-one, refuser-stops}
 
 pub final : GivesFinalState
 unfolding answerOf
@@ -61,3 +66,13 @@ steps-are-the-run = service-is-the-run stepOf (λ s l h. refl)
 
 pub steps-are-one : StepsAreOne stepOf
 steps-are-one = service-is-one stepOf (λ s l h. refl)
+
+-- a rack of racking 0 is done, whatever a service says
+rack-number : (r : Reached) → runOf (1 ∷ 0 ∷ []) ≡ answerOf r → r .number ≡ 0
+unfolding answerOf signedOf
+rack-number r e =
+    sym (ap (λ (a : Answer). a .number) e)
+    ∙ accepts (1 ∷ 0 ∷ []) .1 (_, record { short = omega arith; steps = Steps.next {rest = []} (Encodes.rack {b = 0} (omega arith)) (Step.rack refl) Steps.none })
+
+pub refuser-is-not-the-run : RefuserIsNotTheRun
+refuser-is-not-the-run h = let (r, w, e) = h (1 ∷ 0 ∷ []) (omega arith) in omega (arith, refuser-stops (omega arith) w, rack-number r e)

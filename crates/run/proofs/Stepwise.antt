@@ -1,6 +1,6 @@
 -- A program stepped record by record by a service that makes the step of every state in range: its answer is the run's, and it has no other. Assumes nothing.
 use Prim.Native.Nat.{ℕ, zero, suc, _+_, _≤_, _<_}
-use mathlib.Core.Path.{_≡_, sym, ap, subst, _∙_}
+use mathlib.Core.Path.{_≡_, refl, sym, ap, subst, _∙_}
 use mathlib.Core.List.{List, [], _∷_}
 use native.Mathlib.Omega.{arith}
 use lib.ListN.{length, drop, length-drop}
@@ -13,7 +13,7 @@ use Rattle.record.proofs.Forms.{decode-size}
 use Rattle.run.specs.declared.Reached.{Reached}
 use Rattle.run.specs.declared.Stepped.{Stepped}
 use Rattle.run.specs.Step.{numberAt}
-use Rattle.run.specs.Run.{reached, runFrom, answerOf, stepOf}
+use Rattle.run.specs.Run.{reached, stay, stepOf, runFrom, answerOf}
 use Rattle.run.specs.Claims.{Stepwise, StepsAreTheRun, StepsAreOne}
 use Rattle.run.proofs.Premises.{is}
 use Rattle.run.proofs.Turns.{unread-step, refused-step, made-step, run-end, run-stops, run-goes}
@@ -67,3 +67,9 @@ module _ (service : State → List ℕ → Stepped) (agrees : (s : State) (l : L
 
   pub steps-are-one : StepsAreOne service
   steps-are-one p r h w = short-run p h ∙ ap answerOf (one empty-in w)
+
+-- ---- a service that refuses everything stops at the first record
+pub refuser-stops : {s : State} {l : List ℕ} {at : ℕ} {r : Reached} → 0 < length l → Stepwise (λ s l. stay 15 s) s l at r → r .number ≡ 15
+refuser-stops h Stepwise.ended = absurd (omega arith)
+refuser-stops h (Stepwise.refused k d) = refl
+refuser-stops h (Stepwise.next k z more) = absurd (omega (arith, z))

@@ -16,7 +16,7 @@ use Rattle.run.specs.declared.Reached.{Reached}
 use Rattle.run.specs.declared.Stepped.{Stepped}
 use Rattle.run.specs.Relation.{Step, Steps, Valid}
 use Rattle.run.specs.Reason.{Reason}
-use Rattle.run.specs.Run.{reached, runOf, stepOf, answerOf}
+use Rattle.run.specs.Run.{reached, runOf, stay, stepOf, answerOf}
 
 -- the run accepts a program exactly if it is valid
 abbrev pub AcceptsExactlyValid : Type 0
@@ -121,3 +121,7 @@ StepsAreTheRun service = (p : List ℕ) → length p ≤ 32768 → (r : Reached)
 
 abbrev pub StepsAreOne : (State → List ℕ → Stepped) → Type 0
 StepsAreOne service = (p : List ℕ) (r : Reached) → length p ≤ 32768 → Stepwise service emptyState p 0 r → runOf p ≡ answerOf r
+
+-- which a service that refuses everything does not do
+abbrev pub RefuserIsNotTheRun : Type 0
+RefuserIsNotTheRun = StepsAreTheRun (λ s l. stay 15 s) → ⊥

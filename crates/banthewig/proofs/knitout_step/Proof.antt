@@ -40,7 +40,8 @@ use denote.Triple.Spec.{Meets, tripleOf}
 use denote.Triple.Table.{entered, cited}
 use denote.Triple.Walked.{says, Stays, stay-ref, stay-none-slice, walkOf, AllGo, goes-ref, goes-none-slice, Walks, ends-at, walked, walk-meets}
 use denote.Exit.{yes}
-use Rattle.panel.specs.Panel.{panelStep, served}
+use Rattle.panel.specs.Panel.{panelStep}
+use Rattle.panel.specs.declared.Served.{Served}
 use Rattle.machine.specs.declared.State.{State}
 use Rattle.run.specs.declared.Stepped.{Stepped}
 use Rattle.machine.proofs.State as T
@@ -68,6 +69,10 @@ PanelStep 𝓤 H A mem run = tripleOf 𝓤 H A g.signature (g.spec 𝓤 H A mem 
 -- a state's machine value
 abbrev state-val : State → Val
 state-val h = LL.val T.the-type T′.the-laws h
+
+-- what is given to the caller besides the state
+abbrev served : Stepped → Served
+served r = record { number = r .number; length = r .length }
 
 -- what whoever holds an answer knows of its fields
 module _ (r : Stepped) (vs : List Val) (is : Is S.the-row r vs) where
@@ -121,7 +126,7 @@ module _ {M : Type 1} (𝓤 : URA M) (H : Heap 𝓤) (A : Atoms 𝓤) (W : Given
   exits r w e is =
       qed W (‵ (fobs γ (T.the-row .coded .code (r .state))) ∷ ‵ (fbor κ (Body (mem T.the-row) b o γ)) ∷ ‵ (flft κ q) ∷ ‵ (flft κ′ q′) ∷ ‵ Own ∷ []) ∵
       suffices ! _ (ends-at 𝓤 H A f.ended stayed (f.clauses 𝓤 H A at-mem run) W (((κ, (κ′, tt)), (q, (q′, tt)), tt, x, at), tt) (LL.val L.the-type L′.the-laws (served r)) (served r) (r .state, (tt, tt)) (tt, (tt, tt))) $
-      says ! (ap served e, ap (λ (t : Stepped). t .state) e) $
+      says ! (ap (λ (t : Stepped). t .number) e, ap (λ (t : Stepped). t .length) e, ap (λ (t : Stepped). t .state) e) $
       -- the tokens
       nothing ! $ move ! (4 ∷ 0 ∷ []) $ join ! $ move ! (3 ∷ 0 ∷ []) $ join ! $ frame ! $
       -- [obs; the borrow; the slice]

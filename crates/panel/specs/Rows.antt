@@ -1,0 +1,49 @@
+-- States with one value at the edge of its range, as rows: just out of it, and just in it.
+use Prim.Native.Nat.{ℕ}
+use mathlib.Core.Path.{_≡_}
+use mathlib.Core.List.{List, [], _∷_}
+use lib.IntN.{ℤ, pos, negsuc}
+use lib.ListN.{set}
+use Rattle.machine.specs.declared.State.{State}
+use Rattle.machine.specs.Machine.{emptyState}
+use Rattle.panel.specs.Panel.{panelStep}
+
+-- the empty state but for its racking, for one hook, for carrier 10
+abbrev pub withRacking : ℤ → State
+withRacking z = record { racking = record { 0 = z }; loops = emptyState .loops; carriers = emptyState .carriers }
+
+abbrev pub withHook : ℕ → ℕ → State
+withHook i n = record { racking = emptyState .racking; loops = set (emptyState .loops) i n; carriers = emptyState .carriers }
+
+abbrev pub with : ℕ → ℕ → ℤ → ℕ → ℕ → State
+with active side z bed n =
+    record {
+      racking = emptyState .racking;
+      loops = emptyState .loops;
+      carriers = set (emptyState .carriers) 9 (record { active = active; side = side; slot = record { 0 = z }; needle = record { 0 = bed; 1 = n } });
+    }
+
+-- foul; negsuc n is −1 − n
+abbrev pub outside : List State
+outside =
+    withRacking (pos 9) ∷ withRacking (negsuc 8) ∷ withHook 0 9 ∷ withHook 499 9
+    -- activity, side, slot, bed, needle
+    ∷ with 2 0 (pos 0) 0 0 ∷ with 1 3 (pos 0) 0 0 ∷ with 1 0 (pos 259) 0 0 ∷ with 1 0 (negsuc 8) 0 0 ∷ with 1 1 (pos 0) 2 0 ∷ with 1 2 (pos 0) 1 250
+    -- a needle without an attachment
+    ∷ with 1 0 (pos 0) 1 0 ∷ with 1 0 (pos 0) 0 1
+    -- an inactive carrier with a slot, with a needle, attached
+    ∷ with 0 0 (pos 1) 0 0 ∷ with 0 0 (negsuc 0) 0 0 ∷ with 0 0 (pos 0) 1 0 ∷ with 0 0 (pos 0) 0 1 ∷ with 0 1 (pos 0) 0 0 ∷ with 0 2 (pos 0) 0 0 ∷ []
+
+abbrev pub inside : List State
+inside =
+    withRacking (pos 8) ∷ withRacking (negsuc 7) ∷ withHook 0 8 ∷ withHook 499 8
+    ∷ with 1 0 (pos 258) 0 0 ∷ with 1 0 (negsuc 7) 0 0 ∷ with 1 1 (pos 0) 0 0 ∷ with 1 2 (pos 258) 1 249 ∷ []
+
+abbrev pub Each : {A : Type 0} → (A → Type 0) → List A → Type 0
+Each P [] = Unit {0}
+Each P (x ∷ l) = P x × Each P l
+
+-- with no byte to step by, 15 for the former and 4 for the latter
+pub record RangeRows : Type 0 where
+  pub foul : Each (λ (s : State). panelStep s [] .number ≡ 15) outside
+  pub sound : Each (λ (s : State). panelStep s [] .number ≡ 4) inside
