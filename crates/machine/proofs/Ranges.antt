@@ -14,7 +14,7 @@ use Rattle.machine.specs.declared.Slot.{Slot}
 use Rattle.machine.specs.declared.Carrier.{Carrier}
 use Rattle.machine.specs.Geometry.{eqZ, columnOf, entryOf, exitOf}
 use Rattle.machine.specs.Machine.{OnBed, all, attachedAt, movedTo, sameNeedle, inactive, inactiveCarrier, emptyState}
-use Rattle.machine.specs.Range.{SlotInRange, CarrierInRange, StateInRange, slotOk, onBed, attachmentOk, carrierOk, stateOk, RangeExactly}
+use Rattle.machine.specs.Range.{SlotInRange, CarrierInRange, StateInRange, slotOk, rackingOk, numberOk, onBed, attachmentOk, carrierOk, stateOk, RangeExactly}
 use Rattle.machine.proofs.Signed.{up, dn, sum}
 use Rattle.machine.proofs.Laws.{by, and-two, inactive-is}
 
@@ -109,14 +109,12 @@ module _ (n : Needle) (r : Racking) (b : OnBed n) (k : natAbs (r .0) ≤ 8) wher
   exit-in false = here
 
 -- ---- needles and carriers
-bed-is : (n : Needle) → onBed n ≡ true → OnBed n
-unfolding onBed
+pub bed-is : (n : Needle) → onBed n ≡ true → OnBed n
 bed-is n e =
-    let (a, b) = and-two (leb (n .0) 1) (leb (n .1) 249) e in
+    let (a, b) = and-two (leb (n .0) 1) (numberOk (n .1)) e in
     record { bed = omega (arith, leb-true (n .0) 1 a); number = omega (arith, leb-true (n .1) 249 b) }
 
-bed-ok : (n : Needle) → OnBed n → onBed n ≡ true
-unfolding onBed
+pub bed-ok : (n : Needle) → OnBed n → onBed n ≡ true
 bed-ok n b = simp (le-leb (n .0) 1 (omega (arith, b .bed)), le-leb (n .1) 249 (omega (arith, b .number)))
 
 no-needle : (a b : ℕ) → (eqb a 0 && eqb b 0) ≡ true → _≡_ {A = Needle} (record { 0 = a; 1 = b }) (record { 0 = 0; 1 = 0 })
@@ -163,7 +161,7 @@ range-exactly s = (is, ok)
   where
     is : stateOk s ≡ true → StateInRange s
     is e =
-        let (r, f) = and-two (leb (natAbs (s .racking .0)) 8) _ e in
+        let (r, f) = and-two (rackingOk (s .racking .0)) _ e in
         let (l, k) = and-two (all (λ (n : ℕ). leb n 8) (s .loops)) (all carrierOk (s .carriers)) f in
         record {
           racking = leb-true (natAbs (s .racking .0)) 8 r;

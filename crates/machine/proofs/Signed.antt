@@ -112,6 +112,14 @@ ltZ-true a b e = not-true (leZ b a) (sym (lt-nle a b) ∙ e)
 pub ltZ-false : (a b : ℤ) → ltZ a b ≡ false → leZ b a ≡ true
 ltZ-false a b e = not-false (leZ b a) (sym (lt-nle a b) ∙ e)
 
+-- from lo to hi, looked at from below
+module _ (lo hi z : ℤ) where
+  pub under : ltZ z lo ≡ true → (leZ lo z && leZ z hi) ≡ false
+  under e = simp (ltZ-true z lo e)
+
+  pub not-under : ltZ z lo ≡ false → (leZ lo z && leZ z hi) ≡ leZ z hi
+  not-under e = simp (ltZ-false z lo e)
+
 -- magnitudes: mag z < k says -k ≤ z < k
 up-mag : (a : ℤ) → up a ≤ mag a
 up-mag (pos a) = omega arith

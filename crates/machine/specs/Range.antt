@@ -38,8 +38,14 @@ unfoldable pub slotOk : ℤ → Bool
 slotOk (pos n) = leb n 258
 slotOk (negsuc n) = leb n 7
 
-unfoldable pub onBed : Needle → Bool
-onBed n = leb (n .0) 1 && leb (n .1) 249
+abbrev pub rackingOk : ℤ → Bool
+rackingOk z = leb (natAbs z) 8
+
+abbrev pub numberOk : ℕ → Bool
+numberOk n = leb n 249
+
+abbrev pub onBed : Needle → Bool
+onBed n = leb (n .0) 1 && numberOk (n .1)
 
 -- a parked carrier's attachment, or 0 where it has none
 unfoldable pub attachmentOk : Carrier → Bool
@@ -49,7 +55,7 @@ unfoldable pub carrierOk : Carrier → Bool
 carrierOk c = cond (eqb (c .active) 0) (inactiveCarrier c) (eqb (c .active) 1 && (slotOk (c .slot .0) && attachmentOk c))
 
 unfoldable pub stateOk : State → Bool
-stateOk s = leb (natAbs (s .racking .0)) 8 && (all (λ (n : ℕ). leb n 8) (s .loops) && all carrierOk (s .carriers))
+stateOk s = rackingOk (s .racking .0) && (all (λ (n : ℕ). leb n 8) (s .loops) && all carrierOk (s .carriers))
 
 -- the test is true exactly of the states in range
 abbrev pub RangeExactly : Type 0

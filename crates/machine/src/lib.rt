@@ -6,7 +6,7 @@ ghost use mathlib.Core.List.{map};
 ghost use lib.Dec.{leb, ltb};
 ghost use Rattle.machine.specs.Machine.{OnBed, inactive, emptyState, hookOf, sameNeedle, attachedAt, movedTo, anyAttached, all, noLoops, inactiveCarrier, allInactive, completeOf};
 ghost use Rattle.machine.specs.Geometry.{columnOf, entryOf, exitOf, sameColumn, withinFloat};
-ghost use Rattle.machine.specs.Range.{slotOk, onBed, attachmentOk, carrierOk, stateOk};
+ghost use Rattle.machine.specs.Range.{rackingOk, slotOk, onBed, attachmentOk, carrierOk, stateOk};
 
 // A needle by its bed (0 front, 1 back) and its number there: where a program says it is.
 #[repr(C)]
@@ -103,10 +103,7 @@ impl State {
         ensures { λ b. ⌜ b ≡ stateOk self ⌝ }
     {
         let r = self.racking;
-        if r.0 < State::RACKING_LEAST {
-            return false;
-        }
-        if State::RACKING_MOST < r.0 {
+        if !r.in_range() {
             return false;
         }
         if !loops_in_range(&self.loops) {
@@ -197,9 +194,21 @@ impl Column {
     }
 }
 
+impl Racking {
+    // Whether the beds can be shifted so far.
+    pub fn in_range(self) -> bool
+        ensures { λ b. ⌜ b ≡ rackingOk (self .0) ⌝ }
+    {
+        if self.0 < State::RACKING_LEAST {
+            return false;
+        }
+        self.0 <= State::RACKING_MOST
+    }
+}
+
 impl Slot {
     // Whether a carrier can be parked there.
-    pub fn in_range(self) -> bool
+    fn in_range(self) -> bool
         ensures { λ b. ⌜ b ≡ slotOk (self .0) ⌝ }
     {
         if self.0 < State::SLOT_LEAST {
@@ -243,7 +252,7 @@ impl Carrier {
     }
 
     // Whether a parked carrier's attachment is in range, or 0 where there is none.
-    pub fn attachment_in_range(self) -> bool
+    fn attachment_in_range(self) -> bool
         ensures { λ b. ⌜ b ≡ attachmentOk self ⌝ }
     {
         let n = self.needle;
@@ -260,7 +269,7 @@ impl Carrier {
     }
 
     // Whether every field is in its range, and 0 where it has no meaning.
-    pub fn in_range(self) -> bool
+    fn in_range(self) -> bool
         ensures { λ b. ⌜ b ≡ carrierOk self ⌝ }
     {
         if self.active == 0 {
@@ -326,7 +335,7 @@ fn larger(a: u8, b: u8) -> u8
 }
 
 // Whether no hook holds more loops than it can. The most loops are looked for, and compared once.
-pub fn loops_in_range(loops: &[u8]) -> bool
+fn loops_in_range(loops: &[u8]) -> bool
     ensures { λ b. ⌜ b ≡ all (λ (n : ℕ). leb n 8) (now (loops .entry)) ⌝ }
 {
     let mut most = 0;
@@ -339,7 +348,7 @@ pub fn loops_in_range(loops: &[u8]) -> bool
 }
 
 // Whether every carrier is in range.
-pub fn carriers_in_range(carriers: [Carrier; State::CARRIERS]) -> bool
+fn carriers_in_range(carriers: [Carrier; State::CARRIERS]) -> bool
     ensures { λ b. ⌜ b ≡ all carrierOk carriers ⌝ }
 {
     let mut k = 0;

@@ -10,7 +10,7 @@ use borrow.Author.Tests.{ltb-true, ltb-false}
 use Rattle.machine.specs.declared.State.{State}
 use Rattle.machine.specs.Geometry.{eqZ}
 use Rattle.machine.specs.Machine.{inactive, emptyState, all, inactiveCarrier}
-use Rattle.machine.specs.Range.{StateInRange, slotOk, onBed, attachmentOk, carrierOk, stateOk}
+use Rattle.machine.specs.Range.{StateInRange, slotOk, attachmentOk, carrierOk, stateOk}
 use Rattle.machine.proofs.Laws.{by}
 use Rattle.machine.proofs.Ranges.{range-exactly}
 use Rattle.record.specs.Format.{refusedAs, decodeOf}
@@ -105,7 +105,7 @@ list-writes s list ten e =
     })
 
 pub range-rows : RangeRows
-unfolding panelStep stateOk emptyState slotOk onBed attachmentOk carrierOk all inactiveCarrier eqZ stepOf decodeOf refusedAs
+unfolding panelStep stateOk emptyState slotOk attachmentOk carrierOk all inactiveCarrier eqZ stepOf decodeOf refusedAs
 range-rows =
     record {
       foul = (refl, (refl, (refl, (refl, (refl, (refl, (refl, (refl, (refl, (refl, (refl, (refl, (refl, (refl, (refl, (refl, (refl, (refl, tt))))))))))))))))));

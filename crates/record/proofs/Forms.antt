@@ -10,10 +10,12 @@ use lib.Seq.{drop-cons, getD-take, length-take-le}
 use lib.Dec.{eqb, leb, ltb}
 use borrow.Author.Tests.{ne-eqb, eqb-true, eqb-false, leb-true, le-leb, lt-leb, ltb-true, ltb-false, le-ltb}
 use Rattle.machine.specs.Machine.{OnBed, hookOf}
+use Rattle.machine.specs.Range.{numberOk}
 use Rattle.machine.proofs.Laws.{and-two}
+use Rattle.machine.proofs.Ranges.{bed-ok}
 use Rattle.record.specs.declared.Record.{Record}
 use Rattle.record.specs.declared.Decoded.{Decoded}
-use Rattle.record.specs.Format.{Encodes, sizeOf, signedOf, rackOk, numberOk, needleOk, workOk, needle, rackRecord, dropRecord, xferRecord, workRecord, splitRecord}
+use Rattle.record.specs.Format.{Encodes, sizeOf, signedOf, rackOk, needleOk, workOk, needle, rackRecord, dropRecord, xferRecord, workRecord, splitRecord}
 use Rattle.record.specs.Format.{byte, refusedAs, ranged, whole, decodeOf}
 use Rattle.record.specs.Names.{needleCount}
 use Rattle.record.proofs.Ranges.{InRange}
@@ -25,9 +27,12 @@ cond-cases P true f g = f refl
 cond-cases P false f g = g refl
 
 -- ---- a form decodes to its record, whatever follows it
+on-bed : (bed n : ℕ) → bed ≤ 1 → n ≤ 249 → OnBed (needle bed n)
+on-bed bed n a b = record { bed = omega arith; number = omega arith }
+
 needle-in : (bed n : ℕ) → bed ≤ 1 → n ≤ 249 → needleOk bed n ≡ true
 unfolding needleOk
-needle-in bed n a b = simp (le-leb bed 1 a, le-leb n 249 b)
+needle-in bed n a b = bed-ok (needle bed n) (on-bed bed n a b)
 
 work-in : (right bed n k : ℕ) → right ≤ 1 → bed ≤ 1 → n ≤ 249 → 1 ≤ k → k ≤ 10 → workOk right bed n k ≡ true
 unfolding workOk
@@ -238,9 +243,6 @@ pub decode-form : (l : List ℕ) → decodeOf l .number ≡ 0 → Encodes (take 
 decode-form l e = let (a, b, c) = read-done (reads l) e in c
 
 -- ---- its fields are in range
-on-bed : (bed n : ℕ) → bed ≤ 1 → n ≤ 249 → OnBed (needle bed n)
-on-bed bed n a b = record { bed = omega arith; number = omega arith }
-
 work-needles : (k : ℕ) → 4 ≤ k → k ≤ 8 → needleCount k ≡ 2 → ⊥
 unfolding needleCount
 work-needles k a b =

@@ -6,18 +6,19 @@ use native.Mathlib.Omega.{arith}
 use lib.Dec.{leb}
 use borrow.Author.Tests.{leb-true, le-leb, ne-eqb}
 use Rattle.machine.proofs.Laws.{and-two}
+use Rattle.machine.proofs.Ranges.{bed-is}
 use Rattle.machine.specs.Machine.{OnBed, hookOf}
 use Rattle.record.specs.declared.Record.{Record}
 use Rattle.record.specs.Names.{needleCount}
-use Rattle.record.specs.Format.{sizeOf, needleOk, numberOk, workOk}
+use Rattle.record.specs.Format.{sizeOf, needleOk, workOk, needle}
 
 pub needle-bed : (bed n : ℕ) → needleOk bed n ≡ true → bed ≤ 1
 unfolding needleOk
-needle-bed bed n e = leb-true bed 1 (and-two (leb bed 1) (numberOk n) e .0)
+needle-bed bed n e = omega (arith, bed-is (needle bed n) e .bed)
 
 pub needle-number : (bed n : ℕ) → needleOk bed n ≡ true → n ≤ 249
 unfolding needleOk
-needle-number bed n e = leb-true n 249 (and-two (leb bed 1) (numberOk n) e .1)
+needle-number bed n e = omega (arith, bed-is (needle bed n) e .number)
 
 module _ (right bed n k : ℕ) (e : workOk right bed n k ≡ true) where
   pub work-right : right ≤ 1

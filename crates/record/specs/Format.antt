@@ -6,6 +6,7 @@ use lib.IntN.{ℤ, pos, negsuc, natAbs}
 use lib.ListN.{getD, length}
 use lib.Dec.{eqb, leb, ltb}
 use Rattle.machine.specs.declared.Needle.{Needle}
+use Rattle.machine.specs.Range.{rackingOk, numberOk, onBed}
 use Rattle.record.specs.declared.Record.{Record}
 use Rattle.record.specs.declared.Decoded.{Decoded}
 
@@ -24,13 +25,10 @@ signedOf b = cond (ltb b 128) (pos b) (negsuc (255 - b))
 
 -- the ranges of fields
 unfoldable pub rackOk : ℕ → Bool
-rackOk b = leb (natAbs (signedOf b)) 8
-
-abbrev pub numberOk : ℕ → Bool
-numberOk n = leb n 249
+rackOk b = rackingOk (signedOf b)
 
 unfoldable pub needleOk : ℕ → ℕ → Bool
-needleOk bed n = leb bed 1 && numberOk n
+needleOk bed n = onBed (record { 0 = bed; 1 = n })
 
 unfoldable pub workOk : ℕ → ℕ → ℕ → ℕ → Bool
 workOk right bed n k = leb right 1 && (needleOk bed n && (leb 1 k && leb k 10))

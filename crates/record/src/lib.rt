@@ -93,15 +93,11 @@ fn rack(l: &[u8]) -> Decoded
     if l.len() < size {
         return refused(CUT_SHORT);
     }
-    let z = signed(byte(l, 1));
-    if z < State::RACKING_LEAST {
-        return refused(FIELD_RANGE);
-    }
-    if State::RACKING_MOST < z {
+    let racking = Racking(signed(byte(l, 1)));
+    if !racking.in_range() {
         return refused(FIELD_RANGE);
     }
     let none = Needle(0, 0);
-    let racking = Racking(z);
     let what = Record {
         kind: 1,
         racking,
@@ -120,10 +116,8 @@ fn rack(l: &[u8]) -> Decoded
 fn needle_ok(bed: u8, n: u8) -> bool
     ensures { λ b. ⌜ b ≡ needleOk bed n ⌝ }
 {
-    if 1 < bed {
-        return false;
-    }
-    n <= State::NEEDLE_MOST
+    let a = Needle(bed as u16, n as u16);
+    a.on_bed()
 }
 
 fn work_ok(right: u8, bed: u8, n: u8, k: u8) -> bool

@@ -7,8 +7,9 @@ use lib.Dec.{eqb}
 use lib.ListN.{length}
 use Rattle.machine.specs.declared.State.{State}
 use Rattle.machine.specs.Machine.{loopsOn, carrierOf}
+use Rattle.machine.specs.Range.{numberOk}
 use Rattle.record.specs.declared.Record.{Record}
-use Rattle.record.specs.Format.{Encodes, sizeOf, byte, rackOk, needleOk, numberOk, workOk}
+use Rattle.record.specs.Format.{Encodes, sizeOf, byte, rackOk, needleOk, workOk}
 use Rattle.run.specs.Relation.{Active, Inactive, Attached, Opposite, entrySlot, exitSlot, floatOf}
 
 -- a known kind with all its bytes there

@@ -1,16 +1,15 @@
--- The bed and the number in range. Assumes nothing.
-use borrow.Author.Tests.{le-leb, lt-leb}
+-- The needle on a bed. Assumes nothing.
+use borrow.Author.Needs.{needs}
 use Rattle.record.specs.Format.{needleOk}
 use Rattle.record.proofs.needle_ok.Statement.{statement}
 use Rattle.record.proofs.needle_ok.Tie as tie
 
+on-bed-requires : tie.Need-on-bed-requires
+on-bed-requires c κs = search needs
+
 returns : tie.Need-returns
 unfolding needleOk
-returns c = simp (lt-leb _ _ (c .if1 .taken))
-
-returns-2 : tie.Need-returns-2
-unfolding needleOk
-returns-2 c = simp (le-leb _ _ (c .if1 .left))
+returns c = c .on-bed .ensures
 
 pub needle-ok-spec : {M : Type 1} → statement M
-needle-ok-spec = tie.close (tie.spec returns returns-2)
+needle-ok-spec = tie.close (tie.spec on-bed-requires returns)
