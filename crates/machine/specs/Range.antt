@@ -38,6 +38,7 @@ unfoldable pub slotOk : ℤ → Bool
 slotOk (pos n) = leb n 258
 slotOk (negsuc n) = leb n 7
 
+-- (a racking and a needle in a record's bytes have the same ranges: crate record)
 abbrev pub rackingOk : ℤ → Bool
 rackingOk z = leb (natAbs z) 8
 
