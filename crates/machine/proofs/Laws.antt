@@ -10,7 +10,7 @@ use lib.Dec.{eqb, leb, ltb}
 use lib.ListN.{getD, length, drop, replicate}
 use lib.Seq.{drop-cons, drop-length}
 use native.Mathlib.Numerals.{add-one}
-use borrow.Author.Tests.{eqb-true, not-true, ltb-true, ltb-false, leb-true, le-leb}
+use borrow.Author.Tests.{eqb-true, eqb-false, not-true, ltb-true, ltb-false, leb-true, le-leb, lt-leb}
 use Rattle.machine.specs.declared.Needle.{Needle}
 use Rattle.machine.specs.declared.Carrier.{Carrier}
 use Rattle.machine.specs.declared.State.{State}
@@ -20,7 +20,7 @@ use mir.Syntax.{w16, w32, w64}
 use mir.Val.{SFits, toZ, ofZ}
 use mir.Facts.{toZ-ofZ}
 use Rattle.machine.specs.Geometry.{columnOf, eqZ}
-use Rattle.machine.specs.Machine.{OnBed, all, attachedAt, movedTo, noLoops, allInactive, inactive, inactiveCarrier, emptyState, completeOf}
+use Rattle.machine.specs.Machine.{OnBed, sameNeedle, all, attachedAt, movedTo, noLoops, allInactive, inactive, inactiveCarrier, emptyState, completeOf}
 use Rattle.machine.specs.Range.{slotOk}
 use Rattle.machine.proofs.Signed.{and-true, mag-sum, eqZ-true, back, fits, fits-sum, fits-difference, cast-back}
 
@@ -147,16 +147,49 @@ unfolding slotOk
 slot-in (pos n) = refl
 slot-in (negsuc n) = sym (and-true (leb n 7))
 
--- the most of two is at most 8 exactly if both are
-pub larger-leb : (a b : ℕ) → leb (cond (ltb a b) b a) 8 ≡ (leb a 8 && leb b 8)
-larger-leb a b =
-    by (ltb a b) (λ t. let h = ltb-true a b t in simp t (by (leb b 8) (λ u. let k = leb-true b 8 u in simp (u, le-leb a 8 (omega arith))) (λ u. simp (u, and-false (leb a 8)))))
-    (λ t. let h = ltb-false a b t in simp t (by (leb a 8) (λ u. let k = leb-true a 8 u in simp (u, le-leb b 8 (omega arith))) (λ u. simp u)))
+-- tests by 0
+pub none-leb : (n : ℕ) → eqb n 0 ≡ leb n 0
+none-leb n = by (eqb n 0) (λ e. simp (eqb-true n 0 e)) (λ e. e ∙ sym (lt-leb n 0 (positive n e)))
+  where
+    positive : (n : ℕ) → eqb n 0 ≡ false → 0 < n
+    positive n e = let h = eqb-false n 0 e in omega arith
+
+pub some-leb : (n : ℕ) → ltb 0 n ≡ not (leb n 0)
+some-leb n = by (ltb 0 n) (λ e. let h = ltb-true 0 n e in e ∙ sym (ap not (lt-leb n 0 h))) (λ e. let h = ltb-false 0 n e in e ∙ sym (ap not (le-leb n 0 h)))
+
+-- no loop on any hook: none over 0
+pub none-over : (l : List ℕ) → all (λ (n : ℕ). eqb n 0) l ≡ all (λ (n : ℕ). leb n 0) l
+unfolding all
+none-over [] = refl
+none-over (n ∷ l) = simp (none-leb n, none-over l)
+
+-- not attached at a needle: no side there
+pub side-none : (n : Needle) (c : Carrier) → not (attachedAt n c) ≡ leb (cond (sameNeedle (c .needle) n) (c .side) 0) 0
+unfolding attachedAt
+side-none n c = by (sameNeedle (c .needle) n) (λ e. simp e (at (eqb (c .side) 0) (none-leb (c .side)))) (λ e. simp e (off (eqb (c .side) 0)))
+  where
+    at : (t : Bool) → t ≡ leb (c .side) 0 → not (not t && true) ≡ leb (c .side) 0
+    at true e = e
+    at false e = e
+
+    off : (t : Bool) → not (not t && false) ≡ true
+    off true = refl
+    off false = refl
+
+-- the larger of two is at most b exactly if both are
+larger-leb : (b a v : ℕ) → leb (cond (ltb a v) v a) b ≡ (leb a b && leb v b)
+larger-leb b a v =
+    by (ltb a v) (λ t. let h = ltb-true a v t in simp t (by (leb v b) (λ u. let k = leb-true v b u in simp (u, le-leb a b (omega arith))) (λ u. simp (u, and-false (leb a b)))))
+    (λ t. let h = ltb-false a v t in simp t (by (leb a b) (λ u. let k = leb-true a b u in simp (u, le-leb v b (omega arith))) (λ u. simp u)))
   where
     and-false : (t : Bool) → (t && false) ≡ false
     and-false true = refl
     and-false false = refl
 
-pub and-assoc : (a b d : Bool) → ((a && b) && d) ≡ (a && (b && d))
+and-assoc : (a b d : Bool) → ((a && b) && d) ≡ (a && (b && d))
 and-assoc true b d = refl
 and-assoc false b d = refl
+
+-- a walk that keeps the largest number so far: one element more
+pub larger-next : (b most v m : ℕ) (rest : Bool) → m ≡ cond (ltb most v) v most → (leb most b && (leb v b && rest)) ≡ (leb m b && rest)
+larger-next b most v m rest e = sym (and-assoc (leb most b) (leb v b) rest) ∙ ap (λ (t : Bool). t && rest) (sym (larger-leb b most v) ∙ ap (λ (k : ℕ). leb k b) (sym e))

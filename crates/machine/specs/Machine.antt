@@ -1,9 +1,10 @@
 -- The machine of document 01, 'Machine': needles, carriers and the machine state (000, Definition 5.3: r, L, and Y with A as the carriers).
 use Prim.Native.Nat.{ℕ, _+_, _-_, _*_, _<_}
+use mathlib.Core.Path.{_≡_}
 use mathlib.Core.Bool.{Bool, true, _&&_, not, cond}
 use mathlib.Core.List.{List, [], _∷_}
 use lib.IntN.{pos}
-use lib.Dec.{eqb}
+use lib.Dec.{eqb, leb}
 use lib.ListN.{getD, replicate}
 use Rattle.machine.specs.Geometry.{eqZ}
 use Rattle.machine.specs.declared.Needle.{Needle}
@@ -41,6 +42,10 @@ carrierOf s k = getD (s .carriers) (k - 1) inactive
 unfoldable pub all : {A : Type 0} → (A → Bool) → List A → Bool
 all p [] = true
 all p (x ∷ l) = p x && all p l
+
+-- the largest of a list, 0 of none: it is at most b exactly if every element is
+abbrev pub Most : List ℕ → ℕ → Type 0
+Most l m = (b : ℕ) → all (λ (n : ℕ). leb n b) l ≡ leb m b
 
 -- attached at a needle; an attachment at one needle goes to another, its side kept
 unfoldable pub attachedAt : Needle → Carrier → Bool

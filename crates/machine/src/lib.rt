@@ -4,7 +4,7 @@ ghost use Prim.Native.Nat.{ℕ};
 ghost use mathlib.Core.Bool.{cond};
 ghost use mathlib.Core.List.{map};
 ghost use lib.Dec.{leb, ltb};
-ghost use Rattle.machine.specs.Machine.{OnBed, inactive, emptyState, hookOf, sameNeedle, attachedAt, movedTo, anyAttached, all, noLoops, inactiveCarrier, allInactive, completeOf};
+ghost use Rattle.machine.specs.Machine.{OnBed, inactive, emptyState, hookOf, sameNeedle, attachedAt, movedTo, anyAttached, all, Most, noLoops, inactiveCarrier, allInactive, completeOf};
 ghost use Rattle.machine.specs.Geometry.{columnOf, entryOf, exitOf, sameColumn, withinFloat};
 ghost use Rattle.machine.specs.Range.{rackingOk, slotOk, onBed, attachmentOk, carrierOk, stateOk};
 
@@ -285,6 +285,14 @@ impl Carrier {
         self.attachment_in_range()
     }
 
+    // The attachment's side where it is at the needle, else 0.
+    fn side_at(self, n: Needle) -> u8
+        ensures { λ k. ⌜ k ≡ cond (sameNeedle (self .needle) n) (self .side) 0 ⌝ }
+    {
+        let here = self.needle;
+        if here.equals(n) { self.side } else { 0 }
+    }
+
     // Whether the carrier is attached at the needle.
     pub fn attached_at(self, n: Needle) -> bool
         ensures { λ b. ⌜ b ≡ attachedAt n self ⌝ }
@@ -313,20 +321,6 @@ impl Carrier {
     }
 }
 
-// Whether no hook holds a loop.
-pub fn no_loops(loops: &[u8]) -> bool
-    ensures { λ b. ⌜ b ≡ noLoops (now (loops .entry)) ⌝ }
-{
-    let mut i = 0;
-    while i < loops.len() {
-        if loops[i] != 0 {
-            return false;
-        }
-        i += 1;
-    }
-    true
-}
-
 // The larger of two.
 fn larger(a: u8, b: u8) -> u8
     ensures { λ m. ⌜ m ≡ cond (ltb a b) b a ⌝ }
@@ -334,9 +328,9 @@ fn larger(a: u8, b: u8) -> u8
     if a < b { b } else { a }
 }
 
-// Whether no hook holds more loops than it can. The most loops are looked for, and compared once.
-fn loops_in_range(loops: &[u8]) -> bool
-    ensures { λ b. ⌜ b ≡ all (λ (n : ℕ). leb n 8) (now (loops .entry)) ⌝ }
+// The most loops on a hook. (It does not end early: the compiler then looks at many hooks at once.)
+fn most_loops(loops: &[u8]) -> u8
+    ensures { λ m. ⌜ Most (now (loops .entry)) m ⌝ }
 {
     let mut most = 0;
     let mut i = 0;
@@ -344,7 +338,21 @@ fn loops_in_range(loops: &[u8]) -> bool
         most = larger(most, loops[i]);
         i += 1;
     }
-    most <= State::LOOPS_MOST
+    most
+}
+
+// Whether no hook holds a loop.
+fn no_loops(loops: &[u8]) -> bool
+    ensures { λ b. ⌜ b ≡ noLoops (now (loops .entry)) ⌝ }
+{
+    most_loops(loops) == 0
+}
+
+// Whether no hook holds more loops than it can.
+fn loops_in_range(loops: &[u8]) -> bool
+    ensures { λ b. ⌜ b ≡ all (λ (n : ℕ). leb n 8) (now (loops .entry)) ⌝ }
+{
+    most_loops(loops) <= State::LOOPS_MOST
 }
 
 // Whether every carrier is in range.
@@ -377,19 +385,18 @@ pub fn all_inactive(carriers: [Carrier; State::CARRIERS]) -> bool
     true
 }
 
-// Whether a carrier is attached at the needle.
+// Whether a carrier is attached at the needle. (No early end, as for the loops.)
 pub fn any_attached(carriers: [Carrier; State::CARRIERS], n: Needle) -> bool
     ensures { λ b. ⌜ b ≡ anyAttached n carriers ⌝ }
 {
+    let mut most = 0;
     let mut k = 0;
     while k < State::CARRIERS {
         let c = carriers[k];
-        if c.attached_at(n) {
-            return true;
-        }
+        most = larger(most, c.side_at(n));
         k += 1;
     }
-    false
+    0 < most
 }
 
 // The carriers after the loops at `from` went to `to`.
