@@ -45,9 +45,6 @@ pub const SWAP_SIZE: usize = 3;
 
 pub const LOG_MOST: usize = 32768;
 
-// The length of in, out, miss, tuck and knit.
-pub const WORK_SIZE: usize = 5;
-
 // The racking is kept of every 64th record.
 pub const STRIDE: usize = 64;
 
@@ -228,20 +225,18 @@ fn halves(part: &mut [u8], k: usize)
     }
 }
 
-// The records from a to b and from b to e change places. Most have five bytes, a length that the compiler then knows.
+// The records from a to b and from b to e change places. Those of one length do so in place, at a length that the compiler
+// then knows; drops and the kinds 4 to 8 do.
 fn exchange(output: &mut [u8], a: usize, b: usize, e: usize)
     requires { ⌜ (a ≤ b) × (b ≤ e) × (e ≤ length (now output)) × (e - a ≤ 12) ⌝ }
     ensures { λ _. ⌜ now (output .exit) ≡ exchanged (now (output .entry)) a b e ⌝ }
 {
     let k = b - a;
-    if e - b != k {
-        rotate(&mut output[a..e], k);
-        return;
-    }
-    if k == WORK_SIZE {
-        halves(&mut output[a..e], WORK_SIZE);
-    } else {
-        halves(&mut output[a..e], k);
+    let each = if e - b == k { k } else { 0 };
+    match each {
+        3 => halves(&mut output[a..e], 3),
+        5 => halves(&mut output[a..e], 5),
+        _ => rotate(&mut output[a..e], k),
     }
 }
 

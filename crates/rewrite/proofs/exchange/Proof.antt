@@ -1,8 +1,9 @@
 -- The pair's range, lent on. Assumes nothing.
 use Prim.Native.Nat.{ℕ, _+_, _-_, _≤_}
 use native.Mathlib.Omega.{arith}
-use mathlib.Core.Path.{_≡_, refl, sym, ap, _∙_}
+use mathlib.Core.Path.{_≡_, ap, _∙_}
 use mathlib.Core.List.{List}
+use mathlib.Core.Logic.{⊎-elim}
 use lib.ListN.{length, take, drop, length-drop}
 use lib.Seq.{length-take-le}
 use Rattle.rewrite.proofs.Rotations.{turned, put-back}
@@ -11,14 +12,40 @@ use Rattle.rewrite.proofs.exchange.Statement.{statement}
 use Rattle.rewrite.proofs.exchange.Tie as tie
 
 -- two records of k bytes
-two-long : (o : List ℕ) (a b e k : ℕ) → a ≤ b → b ≤ e → e ≤ length o → e - b ≡ b - a → b - a ≡ k → length (take (e - a) (drop a o)) ≡ k + k
-two-long o a b e k ab be eo h g = length-take-le (e - a) (drop a o) (omega (arith, length-drop a o)) ∙ omega arith
+two-long : (o : List ℕ) (a b e k : ℕ) → a ≤ b → b ≤ e → e ≤ length o → (e - b ≡ b - a) × (b - a ≡ k) → length (take (e - a) (drop a o)) ≡ k + k
+two-long o a b e k ab be eo h = length-take-le (e - a) (drop a o) (omega (arith, length-drop a o)) ∙ omega (arith, h .0, h .1)
 
 sub-k : tie.Need-sub-k
 sub-k c = search needs
 
 sub-if1 : tie.Need-sub-if1
 sub-if1 c = search needs
+
+sub-halves : tie.Need-sub-halves
+sub-halves c = search needs
+
+part-halves-start : tie.Need-part-halves-start
+part-halves-start c = search needs
+
+part-halves-end : tie.Need-part-halves-end
+part-halves-end c = search needs
+
+halves-requires : tie.Need-halves-requires
+halves-requires c κs = let s = c .before .before .before .before in let g = s .args in let t = c .before .match .keys1 in
+    two-long (g .output .now) (g .a) (g .b) (g .e) 3 (s .pre .0) (s .pre .1) (s .pre .2) (⊎-elim {C = (g .e - g .b ≡ g .b - g .a) × (g .b - g .a ≡ 3)} (λ w. (omega arith, omega arith)) (λ w. (omega (arith, w .1, t), omega (arith, w .1, t))) (c .before .before .if1 .came))
+
+sub-halves-2 : tie.Need-sub-halves-2
+sub-halves-2 c = search needs
+
+part-halves-start-2 : tie.Need-part-halves-start-2
+part-halves-start-2 c = search needs
+
+part-halves-end-2 : tie.Need-part-halves-end-2
+part-halves-end-2 c = search needs
+
+halves-requires-2 : tie.Need-halves-requires-2
+halves-requires-2 c κs = let s = c .before .before .before .before in let g = s .args in let t = c .before .match .keys2 in
+    two-long (g .output .now) (g .a) (g .b) (g .e) 5 (s .pre .0) (s .pre .1) (s .pre .2) (⊎-elim {C = (g .e - g .b ≡ g .b - g .a) × (g .b - g .a ≡ 5)} (λ w. (omega arith, omega arith)) (λ w. (omega (arith, w .1, t), omega (arith, w .1, t))) (c .before .before .if1 .came))
 
 sub-rotate : tie.Need-sub-rotate
 sub-rotate c = search needs
@@ -36,49 +63,24 @@ same-length : tie.Need-same-length
 same-length c = search needs
 
 returns : tie.Need-returns
-returns c = let s = c .before .before .before .before .before .before in let g = s .args in
-    put-back (g .output .now) (c .before .before .rotate .last .0) (g .a) (g .b) (g .e) (s .pre .0) (s .pre .1) (s .pre .2) (c .before .before .rotate .ensures)
-
-sub-halves : tie.Need-sub-halves
-sub-halves c = search needs
-
-part-halves-start : tie.Need-part-halves-start
-part-halves-start c = search needs
-
-part-halves-end : tie.Need-part-halves-end
-part-halves-end c = search needs
-
-halves-requires : tie.Need-halves-requires
-halves-requires c κs = let s = c .before .before .before .before in let g = s .args in
-    two-long (g .output .now) (g .a) (g .b) (g .e) 5 (s .pre .0) (s .pre .1) (s .pre .2) (c .before .before .if1 .left) (c .before .if2 .taken)
-
-sub-halves-2 : tie.Need-sub-halves-2
-sub-halves-2 c = search needs
-
-part-halves-start-2 : tie.Need-part-halves-start-2
-part-halves-start-2 c = search needs
-
-part-halves-end-2 : tie.Need-part-halves-end-2
-part-halves-end-2 c = search needs
-
-halves-requires-2 : tie.Need-halves-requires-2
-halves-requires-2 c κs = let s = c .before .before .before .before in let g = s .args in
-    two-long (g .output .now) (g .a) (g .b) (g .e) (g .b - g .a) (s .pre .0) (s .pre .1) (s .pre .2) (c .before .before .if1 .left) refl
+returns c = let s = c .before .before .before .before .before .before .before in let g = s .args in let t = c .before .before .before .before .match .keys1 in
+    put-back (g .output .now) (c .before .before .halves .last .0) (g .a) (g .b) (g .e) (s .pre .0) (s .pre .1) (s .pre .2)
+    (c .before .before .halves .ensures ∙ ap (turned (take (g .e - g .a) (drop (g .a) (g .output .now)))) (⊎-elim {C = 3 ≡ g .b - g .a} (λ w. omega (arith, w .1, t)) (λ w. omega (arith, w .1, t)) (c .before .before .before .before .before .if1 .came)))
 
 same-length-2 : tie.Need-same-length-2
 same-length-2 c = search needs
 
 returns-2 : tie.Need-returns-2
-returns-2 c = let s = c .before .before .before .before .before .before .before in let g = s .args in
-    put-back (g .output .now) (c .before .before .halves .last .0) (g .a) (g .b) (g .e) (s .pre .0) (s .pre .1) (s .pre .2)
-    (c .before .before .halves .ensures ∙ ap (turned (take (g .e - g .a) (drop (g .a) (g .output .now)))) (sym (c .before .before .before .before .if2 .taken)))
+returns-2 c = let s = c .before .before .before .before .before .before .before in let g = s .args in let t = c .before .before .before .before .match .keys2 in
+    put-back (g .output .now) (c .before .before .halves2 .last .0) (g .a) (g .b) (g .e) (s .pre .0) (s .pre .1) (s .pre .2)
+    (c .before .before .halves2 .ensures ∙ ap (turned (take (g .e - g .a) (drop (g .a) (g .output .now)))) (⊎-elim {C = 5 ≡ g .b - g .a} (λ w. omega (arith, w .1, t)) (λ w. omega (arith, w .1, t)) (c .before .before .before .before .before .if1 .came)))
 
 same-length-3 : tie.Need-same-length-3
 same-length-3 c = search needs
 
 returns-3 : tie.Need-returns-3
 returns-3 c = let s = c .before .before .before .before .before .before .before in let g = s .args in
-    put-back (g .output .now) (c .before .before .halves2 .last .0) (g .a) (g .b) (g .e) (s .pre .0) (s .pre .1) (s .pre .2) (c .before .before .halves2 .ensures)
+    put-back (g .output .now) (c .before .before .rotate .last .0) (g .a) (g .b) (g .e) (s .pre .0) (s .pre .1) (s .pre .2) (c .before .before .rotate .ensures)
 
 pub exchange-spec : {M : Type 1} → statement M
 exchange-spec =
@@ -86,12 +88,6 @@ exchange-spec =
     (tie.spec
     sub-k
     sub-if1
-    sub-rotate
-    part-rotate-start
-    part-rotate-end
-    rotate-requires
-    same-length
-    returns
     sub-halves
     part-halves-start
     part-halves-end
@@ -100,6 +96,12 @@ exchange-spec =
     part-halves-start-2
     part-halves-end-2
     halves-requires-2
+    sub-rotate
+    part-rotate-start
+    part-rotate-end
+    rotate-requires
+    same-length
+    returns
     same-length-2
     returns-2
     same-length-3
