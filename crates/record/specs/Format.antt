@@ -98,13 +98,16 @@ splitAt l =
 unfoldable pub whole : List ℕ → ℕ → Decoded → Decoded
 whole l size d = cond (ltb (length l) size) (refusedAs 4) d
 
--- the first record of a list: 4 without a byte, 3 (01: strange) for an unknown kind
+-- a list whose first record is of this kind: 3 (01: strange) for an unknown one
+abbrev pub readAt : ℕ → List ℕ → Decoded
+readAt kind l =
+    cond (eqb kind 1) (whole l 2 (rackAt l))
+    (cond (eqb kind 2) (whole l 3 (dropAt l))
+    (cond (eqb kind 3) (whole l 4 (xferAt l))
+    (cond (leb 4 kind && leb kind 8) (whole l 5 (workAt kind l))
+    (cond (eqb kind 9) (whole l 6 (splitAt l))
+    (refusedAs 3)))))
+
+-- the first record of a list: 4 without a byte
 unfoldable pub decodeOf : List ℕ → Decoded
-decodeOf l =
-    cond (eqb (length l) 0) (refusedAs 4)
-    (cond (eqb (byte l 0) 1) (whole l 2 (rackAt l))
-    (cond (eqb (byte l 0) 2) (whole l 3 (dropAt l))
-    (cond (eqb (byte l 0) 3) (whole l 4 (xferAt l))
-    (cond (leb 4 (byte l 0) && leb (byte l 0) 8) (whole l 5 (workAt (byte l 0) l))
-    (cond (eqb (byte l 0) 9) (whole l 6 (splitAt l))
-    (refusedAs 3))))))
+decodeOf l = cond (eqb (length l) 0) (refusedAs 4) (readAt (byte l 0) l)

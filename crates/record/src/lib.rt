@@ -2,7 +2,7 @@
 ghost use mathlib.Core.Path.{_≡_};
 ghost use Prim.Native.Nat.{_≤_, _<_};
 ghost use lib.ListN.{length, getD};
-ghost use Rattle.record.specs.Format.{sizeOf, signedOf, needleOk, workOk, refusedAs, whole, rackAt, dropAt, xferAt, workAt, splitAt, decodeOf};
+ghost use Rattle.record.specs.Format.{sizeOf, signedOf, needleOk, workOk, refusedAs, whole, rackAt, dropAt, xferAt, workAt, splitAt, readAt, decodeOf};
 ghost use Rattle.record.specs.Names.{outlineAt, outlineOf};
 use machine::Needle;
 use machine::Racking;
@@ -266,7 +266,21 @@ fn split(l: &[u8]) -> Decoded
     }
 }
 
-// The first record of the slice.
+// A record of a known kind: its fields in range, or refused.
+fn read(kind: u8, l: &[u8]) -> Decoded
+    requires { ⌜ (1 ≤ kind) × (kind ≤ 9) ⌝ }
+    ensures { λ d. ⌜ d ≡ readAt kind (now (l .entry)) ⌝ }
+{
+    match kind {
+        1 => rack(l),
+        2 => drop(l),
+        3 => xfer(l),
+        4..=8 => work(kind, l),
+        _ => split(l),
+    }
+}
+
+// The first record of the slice. Each kind is read by itself, so that the compiler knows it where the run looks at it again.
 pub fn decode(l: &[u8]) -> Decoded
     ensures { λ d. ⌜ d ≡ decodeOf (now (l .entry)) ⌝ }
 {
@@ -275,11 +289,15 @@ pub fn decode(l: &[u8]) -> Decoded
     }
     let kind = byte(l, 0);
     match kind {
-        1 => rack(l),
-        2 => drop(l),
-        3 => xfer(l),
-        4..=8 => work(kind, l),
-        9 => split(l),
+        1 => read(1, l),
+        2 => read(2, l),
+        3 => read(3, l),
+        4 => read(4, l),
+        5 => read(5, l),
+        6 => read(6, l),
+        7 => read(7, l),
+        8 => read(8, l),
+        9 => read(9, l),
         _ => refused(UNKNOWN_KIND),
     }
 }

@@ -1,30 +1,38 @@
--- By the kind. Assumes nothing.
+-- Each kind by itself. Assumes nothing.
 use borrow.Author.Needs.{needs}
-use native.Mathlib.Omega.{arith}
-use mathlib.Core.Path.{_≡_, _∙_}
-use borrow.Author.Tests.{eq-eqb, ne-eqb, le-leb, lt-leb}
-use Prim.Native.Nat.{ℕ, _≤_, _<_}
+use borrow.Author.Tests.{eq-eqb, ne-eqb, le-leb, lt-leb, leb-true, leb-false}
+use Rattle.machine.proofs.Laws.{by}
+use mathlib.Core.Path.{_≡_, sym, ap, _∙_}
 use mathlib.Core.List.{List}
-use mathlib.Core.Logic.{⊎-elim}
+use native.Mathlib.Omega.{arith}
+use Prim.Native.Nat.{ℕ, _≤_, _<_}
 use lib.ListN.{length}
-use Rattle.record.specs.Format.{byte, refusedAs, whole, workAt, decodeOf}
-use Rattle.record.proofs.Ranges.{four}
+use lib.Dec.{leb}
+use Rattle.record.specs.Format.{byte, refusedAs, readAt, decodeOf}
 use Rattle.record.proofs.decode.Statement.{statement}
 use Rattle.record.proofs.decode.Tie as tie
 
-module _ (l : List ℕ) (k : ℕ) (e : k ≡ byte l 0) (h : length l ≡ 0 → ⊥) (n1 : k ≡ 1 → ⊥) (n2 : k ≡ 2 → ⊥) (n3 : k ≡ 3 → ⊥) where
-  working : 4 ≤ k → k ≤ 8 → whole l 5 (workAt k l) ≡ decodeOf l
+module _ (l : List ℕ) (j : ℕ) (h : length l ≡ 0 → ⊥) (e : j ≡ byte l 0) where
+  by-kind : readAt j l ≡ decodeOf l
   unfolding decodeOf
-  working p q = simp (ne-eqb _ _ h, ← e, ne-eqb k 1 n1, ne-eqb k 2 n2, ne-eqb k 3 n3, le-leb 4 k p, le-leb k 8 q)
+  by-kind = ap (λ (m : ℕ). readAt m l) e ∙ sym (simp (ne-eqb _ _ h))
 
-  module _ (n9 : k ≡ 9 → ⊥) where
-    unknown-low : k < 4 → refusedAs 3 ≡ decodeOf l
-    unfolding decodeOf
-    unknown-low p = simp (ne-eqb _ _ h, ← e, ne-eqb k 1 n1, ne-eqb k 2 n2, ne-eqb k 3 n3, lt-leb 4 k p, ne-eqb k 9 n9)
+  of-kind : (k : ℕ) → j ≡ k → readAt k l ≡ decodeOf l
+  of-kind k f = ap (λ (m : ℕ). readAt m l) (sym f) ∙ by-kind
 
-    unknown-high : 8 < k → refusedAs 3 ≡ decodeOf l
-    unfolding decodeOf
-    unknown-high p = simp (ne-eqb _ _ h, ← e, ne-eqb k 1 n1, ne-eqb k 2 n2, ne-eqb k 3 n3, le-leb 4 k (omega arith), lt-leb k 8 p, ne-eqb k 9 n9)
+-- a kind that is none of the nine
+module _ (l : List ℕ) (k : ℕ) (n1 : k ≡ 1 → ⊥) (n2 : k ≡ 2 → ⊥) (n3 : k ≡ 3 → ⊥) (n9 : k ≡ 9 → ⊥) where
+  unknown-high : 8 < k → refusedAs 3 ≡ readAt k l
+  unknown-high h = simp (ne-eqb k 1 n1, ne-eqb k 2 n2, ne-eqb k 3 n3, le-leb 4 k (omega arith), lt-leb k 8 h, ne-eqb k 9 n9)
+
+  unknown-low : k < 4 → refusedAs 3 ≡ readAt k l
+  unknown-low h = simp (ne-eqb k 1 n1, ne-eqb k 2 n2, ne-eqb k 3 n3, lt-leb 4 k h, ne-eqb k 9 n9)
+
+  unknown : (k ≡ 4 → ⊥) → (k ≡ 5 → ⊥) → (k ≡ 6 → ⊥) → (k ≡ 7 → ⊥) → (k ≡ 8 → ⊥) → refusedAs 3 ≡ readAt k l
+  unknown n4 n5 n6 n7 n8 = by (leb 4 k) (λ t. unknown-high (over k (leb-true 4 k t) n4 n5 n6 n7 n8)) (λ t. unknown-low (leb-false 4 k t))
+    where
+      over : (k : ℕ) → 4 ≤ k → (k ≡ 4 → ⊥) → (k ≡ 5 → ⊥) → (k ≡ 6 → ⊥) → (k ≡ 7 → ⊥) → (k ≡ 8 → ⊥) → 8 < k
+      over k h a b c d e = omega arith
 
 refused-requires : tie.Need-refused-requires
 refused-requires c κs = search needs
@@ -36,47 +44,66 @@ returns c = simp (c .refused .ensures, eq-eqb _ _ (c .before .if1 .taken))
 byte-requires : tie.Need-byte-requires
 byte-requires c κs = search needs
 
-rack-requires : tie.Need-rack-requires
-rack-requires c κs = search needs
+read-requires : tie.Need-read-requires
+read-requires c κs = (omega arith, omega arith)
 
-drop-requires : tie.Need-drop-requires
-drop-requires c κs = search needs
+read-requires-2 : tie.Need-read-requires-2
+read-requires-2 c κs = (omega arith, omega arith)
 
-xfer-requires : tie.Need-xfer-requires
-xfer-requires c κs = search needs
+read-requires-3 : tie.Need-read-requires-3
+read-requires-3 c κs = (omega arith, omega arith)
 
-split-requires : tie.Need-split-requires
-split-requires c κs = search needs
+read-requires-4 : tie.Need-read-requires-4
+read-requires-4 c κs = (omega arith, omega arith)
 
-work-requires : tie.Need-work-requires
-work-requires c κs = let no = c .before .before .match .rest in let k = c .before .before .before .byte .result in (four k (c .before .if2 .left) (no .0 .0 .0 .1) (no .0 .0 .1) (no .0 .1), omega (arith, c .if3 .taken))
+read-requires-5 : tie.Need-read-requires-5
+read-requires-5 c κs = (omega arith, omega arith)
+
+read-requires-6 : tie.Need-read-requires-6
+read-requires-6 c κs = (omega arith, omega arith)
+
+read-requires-7 : tie.Need-read-requires-7
+read-requires-7 c κs = (omega arith, omega arith)
+
+read-requires-8 : tie.Need-read-requires-8
+read-requires-8 c κs = (omega arith, omega arith)
+
+read-requires-9 : tie.Need-read-requires-9
+read-requires-9 c κs = (omega arith, omega arith)
 
 refused-requires-2 : tie.Need-refused-requires-2
 refused-requires-2 c κs = search needs
 
 returns-2 : tie.Need-returns-2
-unfolding decodeOf
-returns-2 c = c .rack .ensures ∙ simp (ne-eqb _ _ (c .before .before .before .if1 .left), ← c .before .before .byte .ensures, c .before .match .keys1)
+returns-2 c = c .read .ensures ∙ of-kind (c .before .before .before .before .before .args .l .now) (c .before .before .byte .result) (c .before .before .before .if1 .left) (c .before .before .byte .ensures) 1 (c .before .match .keys1)
 
 returns-3 : tie.Need-returns-3
-unfolding decodeOf
-returns-3 c = c .drop .ensures ∙ simp (ne-eqb _ _ (c .before .before .before .if1 .left), ← c .before .before .byte .ensures, c .before .match .keys2)
+returns-3 c = c .read2 .ensures ∙ of-kind (c .before .before .before .before .before .args .l .now) (c .before .before .byte .result) (c .before .before .before .if1 .left) (c .before .before .byte .ensures) 2 (c .before .match .keys2)
 
 returns-4 : tie.Need-returns-4
-unfolding decodeOf
-returns-4 c = c .xfer .ensures ∙ simp (ne-eqb _ _ (c .before .before .before .if1 .left), ← c .before .before .byte .ensures, c .before .match .keys3)
+returns-4 c = c .read3 .ensures ∙ of-kind (c .before .before .before .before .before .args .l .now) (c .before .before .byte .result) (c .before .before .before .if1 .left) (c .before .before .byte .ensures) 3 (c .before .match .keys3)
 
 returns-5 : tie.Need-returns-5
-unfolding decodeOf
-returns-5 c = c .split .ensures ∙ simp (ne-eqb _ _ (c .before .before .before .if1 .left), ← c .before .before .byte .ensures, c .before .match .keys4)
+returns-5 c = c .read4 .ensures ∙ of-kind (c .before .before .before .before .before .args .l .now) (c .before .before .byte .result) (c .before .before .before .if1 .left) (c .before .before .byte .ensures) 4 (c .before .match .keys4)
 
 returns-6 : tie.Need-returns-6
-returns-6 c = let no = c .before .before .before .match .rest in let k = c .before .before .before .before .byte .result in
-    c .work .ensures ∙ working (c .before .before .before .before .before .before .before .args .l .now) k (c .before .before .before .before .byte .ensures) (c .before .before .before .before .before .if1 .left) (no .0 .0 .0 .1) (no .0 .0 .1) (no .0 .1) (four k (c .before .before .if2 .left) (no .0 .0 .0 .1) (no .0 .0 .1) (no .0 .1)) (omega (arith, c .before .if3 .taken))
+returns-6 c = c .read5 .ensures ∙ of-kind (c .before .before .before .before .before .args .l .now) (c .before .before .byte .result) (c .before .before .before .if1 .left) (c .before .before .byte .ensures) 5 (c .before .match .keys5)
 
 returns-7 : tie.Need-returns-7
-returns-7 c = let no = c .before .before .match .rest in let k = c .before .before .before .byte .result in let l = c .before .before .before .before .before .before .args .l .now in
-    c .refused2 .ensures ∙ ⊎-elim (λ w. unknown-low l k (c .before .before .before .byte .ensures) (c .before .before .before .before .if1 .left) (no .0 .0 .0 .1) (no .0 .0 .1) (no .0 .1) (no .1) (omega arith)) (λ w. unknown-high l k (c .before .before .before .byte .ensures) (c .before .before .before .before .if1 .left) (no .0 .0 .0 .1) (no .0 .0 .1) (no .0 .1) (no .1) (omega arith)) (c .before .if2 .came)
+returns-7 c = c .read6 .ensures ∙ of-kind (c .before .before .before .before .before .args .l .now) (c .before .before .byte .result) (c .before .before .before .if1 .left) (c .before .before .byte .ensures) 6 (c .before .match .keys6)
+
+returns-8 : tie.Need-returns-8
+returns-8 c = c .read7 .ensures ∙ of-kind (c .before .before .before .before .before .args .l .now) (c .before .before .byte .result) (c .before .before .before .if1 .left) (c .before .before .byte .ensures) 7 (c .before .match .keys7)
+
+returns-9 : tie.Need-returns-9
+returns-9 c = c .read8 .ensures ∙ of-kind (c .before .before .before .before .before .args .l .now) (c .before .before .byte .result) (c .before .before .before .if1 .left) (c .before .before .byte .ensures) 8 (c .before .match .keys8)
+
+returns-10 : tie.Need-returns-10
+returns-10 c = c .read9 .ensures ∙ of-kind (c .before .before .before .before .before .args .l .now) (c .before .before .byte .result) (c .before .before .before .if1 .left) (c .before .before .byte .ensures) 9 (c .before .match .keys9)
+
+returns-11 : tie.Need-returns-11
+returns-11 c = let l = c .before .before .before .before .before .args .l .now in let k = c .before .before .byte .result in let no = c .before .match .rest in
+    c .refused2 .ensures ∙ unknown l k (no .0 .0 .0 .0 .0 .0 .0 .0 .1) (no .0 .0 .0 .0 .0 .0 .0 .1) (no .0 .0 .0 .0 .0 .0 .1) (no .1) (no .0 .0 .0 .0 .0 .1) (no .0 .0 .0 .0 .1) (no .0 .0 .0 .1) (no .0 .0 .1) (no .0 .1) ∙ by-kind l k (c .before .before .before .if1 .left) (c .before .before .byte .ensures)
 
 pub decode-spec : {M : Type 1} → statement M
 decode-spec =
@@ -85,15 +112,23 @@ decode-spec =
     refused-requires
     returns
     byte-requires
-    rack-requires
-    drop-requires
-    xfer-requires
-    split-requires
-    work-requires
+    read-requires
+    read-requires-2
+    read-requires-3
+    read-requires-4
+    read-requires-5
+    read-requires-6
+    read-requires-7
+    read-requires-8
+    read-requires-9
     refused-requires-2
     returns-2
     returns-3
     returns-4
     returns-5
     returns-6
-    returns-7)
+    returns-7
+    returns-8
+    returns-9
+    returns-10
+    returns-11)
