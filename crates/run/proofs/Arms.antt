@@ -1,7 +1,7 @@
 -- The arms of the run's loop: from what the small functions promise, the number of a record and the state after it. Assumes nothing.
 use Prim.Native.Nat.{ℕ, _+_, _-_, _≤_, _<_}
-use mathlib.Core.Path.{_≡_, refl, sym, ap, _∙_}
-use mathlib.Core.Bool.{Bool, true, false}
+use mathlib.Core.Path.{_≡_, sym, _∙_}
+use mathlib.Core.Bool.{false, cond}
 use mathlib.Core.List.{List, map}
 use native.Mathlib.Omega.{arith}
 use lib.ListN.{getD, set}
@@ -15,25 +15,22 @@ use Rattle.machine.specs.declared.State.{State}
 use Rattle.machine.specs.Machine.{inactive, hookOf, loopsOn, carrierOf, movedTo, anyAttached}
 use Rattle.machine.proofs.Laws.{none-moved}
 use Rattle.record.specs.declared.Record.{Record}
-use Rattle.record.proofs.Ranges.{InRange}
+use Rattle.record.proofs.Ranges.{InRange, four}
 use Rattle.run.specs.Relation.{racked, entrySlot, exitSlot, unattached, reparked, attached}
 use Rattle.run.specs.Step.{orNumber, parkedNo, numberAt, applyOf}
-use Rattle.run.specs.Loops.{tuckNo, tucked, formNo, formed, transferNo, transferredLoops}
-use Rattle.run.proofs.Premises.{up, in-zero, in-six}
+use Rattle.run.specs.Loops.{tuckNo, tucked, transferNo, transferredLoops}
 use Rattle.run.proofs.ByKind.{seen, readyNo, rack-number, rack-state, drop-number, drop-state, xfer-number, xfer-state, in-number, in-state, out-number, out-state, miss-number, miss-state, tuck-number, tuck-state, knit-number, knit-state, split-number, split-state}
 
--- the last arm is split's, and the range before it tuck's and knit's
-pub nine : {x : Record} → InRange x → 8 < x .kind → x .kind ≡ 9
-nine i h = omega (arith, i .high)
-
-pub seven : (k : ℕ) → 1 ≤ k → (k ≡ 1 → ⊥) → (k ≡ 2 → ⊥) → (k ≡ 3 → ⊥) → (k ≡ 4 → ⊥) → (k ≡ 5 → ⊥) → (k ≡ 6 → ⊥) → 7 ≤ k
-seven k h n1 n2 n3 n4 n5 n6 = high k (low k h n1 n2 n3) n4 n5 n6
+-- the last arm is split's
+pub nine : {x : Record} → InRange x → (x .kind ≡ 1 → ⊥) → (x .kind ≡ 2 → ⊥) → (x .kind ≡ 3 → ⊥) → (x .kind ≡ 4 → ⊥) → (x .kind ≡ 5 → ⊥) → (x .kind ≡ 6 → ⊥)
+    → (x .kind ≡ 7 → ⊥) → (x .kind ≡ 8 → ⊥) → x .kind ≡ 9
+nine {x} i n1 n2 n3 n4 n5 n6 n7 n8 = last (x .kind) (seven (x .kind) (four (x .kind) (i .low) n1 n2 n3) n4 n5 n6) (i .high) n7 n8
   where
-    low : (k : ℕ) → 1 ≤ k → (k ≡ 1 → ⊥) → (k ≡ 2 → ⊥) → (k ≡ 3 → ⊥) → 4 ≤ k
-    low k h a b c = omega arith
+    seven : (k : ℕ) → 4 ≤ k → (k ≡ 4 → ⊥) → (k ≡ 5 → ⊥) → (k ≡ 6 → ⊥) → 7 ≤ k
+    seven k h a b c = omega arith
 
-    high : (k : ℕ) → 4 ≤ k → (k ≡ 4 → ⊥) → (k ≡ 5 → ⊥) → (k ≡ 6 → ⊥) → 7 ≤ k
-    high k h a b c = omega arith
+    last : (k : ℕ) → 7 ≤ k → k ≤ 9 → (k ≡ 7 → ⊥) → (k ≡ 8 → ⊥) → k ≡ 9
+    last k h i a b = omega arith
 
 -- a carrier's place among the ten
 pub carrier-at : {x : Record} → InRange x → 4 ≤ x .kind → (1 ≤ x .carrier) × (x .carrier ≤ 10)
@@ -50,21 +47,13 @@ module _ (l : List ℕ) (a b : Needle) (r : Racking) (v n : ℕ) (is : n ≡ tra
   transfer-made h = simp (← is, eq-eqb n 0 h)
 
 module _ (l : List ℕ) (a : Needle) (n : ℕ) (is : n ≡ tuckNo (getD l (hookOf a) 0)) where
-  tuck-kept : (n ≡ 0 → ⊥) → tucked l a ≡ l
+  pub tuck-kept : (n ≡ 0 → ⊥) → tucked l a ≡ l
   unfolding tucked
   tuck-kept h = simp (← is, ne-eqb n 0 h)
 
   tuck-made : n ≡ 0 → tucked l a ≡ set l (hookOf a) (getD l (hookOf a) 0 + 1)
   unfolding tucked
   tuck-made h = simp (← is, eq-eqb n 0 h)
-
-pub form-kept : (l : List ℕ) (a : Needle) (kind m : ℕ) → m ≡ formNo kind (getD l (hookOf a) 0) → (m ≡ 0 → ⊥) → formed l a kind ≡ l
-unfolding formNo formed
-form-kept l a kind m f h = go (eqb kind 7) refl
-  where
-    go : (b : Bool) → eqb kind 7 ≡ b → formed l a kind ≡ l
-    go true e = simp e (tuck-kept l a m (f ∙ simp e) h)
-    go false e = absurd (h (f ∙ simp e))
 
 -- the carriers after a move: where none is attached, as they were
 pub unmoved : (a b : Needle) (l : List Carrier) → anyAttached a l ≡ false → l ≡ map (movedTo a b) l
@@ -101,64 +90,63 @@ module _ (s : State) (x : Record) where
     xfer-made h l cs p q =
         (xfer-number s x e ∙ sym is ∙ h, xfer-state s x e ∙ simp (p ∙ transfer-made (s .loops) (x .at) (x .to) (s .racking) 0 n is h, q))
 
-  module _ (e : x .kind ≡ 4) where
-    pub in-stopped : (carrierOf s (x .carrier) .active ≡ 0 → ⊥) → 6 ≡ numberAt s x
-    in-stopped h = sym (in-number s x e ∙ in-six (s .racking) (carrierOf s (x .carrier)) h)
+  -- what the record asks of its carrier, as `asked` says it, is all that in, out, miss and knit ask
+  module _ (n : ℕ) where
+    module _ (e : x .kind ≡ 4) (is : n ≡ cond (seen s x .active) 6 0) where
+      pub in-stopped : n ≡ numberAt s x
+      in-stopped = is ∙ sym (in-number s x e)
 
-    pub in-made : carrierOf s (x .carrier) .active ≡ 0 → (c : Carrier) → c ≡ unattached (entrySlot s x) → Made (parts (s .loops) (set (s .carriers) (x .carrier - 1) c))
-    in-made h c q = (in-number s x e ∙ in-zero (s .racking) (carrierOf s (x .carrier)) h, in-state s x e ∙ simp q)
+      pub in-made : n ≡ 0 → (c : Carrier) → c ≡ unattached (entrySlot s x) → Made (parts (s .loops) (set (s .carriers) (x .carrier - 1) c))
+      in-made h c q = (sym in-stopped ∙ h, in-state s x e ∙ simp q)
 
-  module _ (n : ℕ) (z : Slot) (is : n ≡ parkedNo (seen s x) z) where
-    pub out-stopped : x .kind ≡ 5 → z ≡ exitSlot s x → n ≡ numberAt s x
-    out-stopped e p = is ∙ ap (parkedNo (seen s x)) p ∙ sym (out-number s x e)
+    module _ (e : x .kind ≡ 5) (is : n ≡ parkedNo (seen s x) (exitSlot s x)) where
+      pub out-stopped : n ≡ numberAt s x
+      out-stopped = is ∙ sym (out-number s x e)
 
-    pub out-made : x .kind ≡ 5 → z ≡ exitSlot s x → n ≡ 0 → (c : Carrier) → c ≡ inactive → Made (parts (s .loops) (set (s .carriers) (x .carrier - 1) c))
-    out-made e p h c q = (sym (out-stopped e p) ∙ h, out-state s x e ∙ simp q)
+      pub out-made : n ≡ 0 → (c : Carrier) → c ≡ inactive → Made (parts (s .loops) (set (s .carriers) (x .carrier - 1) c))
+      out-made h c q = (sym out-stopped ∙ h, out-state s x e ∙ simp q)
 
-    pub miss-stopped : x .kind ≡ 6 → z ≡ entrySlot s x → n ≡ numberAt s x
-    miss-stopped e p = is ∙ ap (parkedNo (seen s x)) p ∙ sym (miss-number s x e)
+    module _ (e : x .kind ≡ 6) (is : n ≡ parkedNo (seen s x) (entrySlot s x)) where
+      pub miss-stopped : n ≡ numberAt s x
+      miss-stopped = is ∙ sym (miss-number s x e)
 
-    pub miss-made : x .kind ≡ 6 → z ≡ entrySlot s x → n ≡ 0 → (c : Carrier) → c ≡ reparked (carrierOf s (x .carrier)) (exitSlot s x)
-        → Made (parts (s .loops) (set (s .carriers) (x .carrier - 1) c))
-    miss-made e p h c q = (sym (miss-stopped e p) ∙ h, miss-state s x e ∙ simp q)
+      pub miss-made : n ≡ 0 → (c : Carrier) → c ≡ reparked (carrierOf s (x .carrier)) (exitSlot s x) → Made (parts (s .loops) (set (s .carriers) (x .carrier - 1) c))
+      miss-made h c q = (sym miss-stopped ∙ h, miss-state s x e ∙ simp q)
 
-  module _ (n : ℕ) (is : n ≡ readyNo s x) where
-    pub form-unready : 7 ≤ x .kind → x .kind ≤ 8 → (n ≡ 0 → ⊥) → n ≡ numberAt s x
-    form-unready p q h =
-        up (x .kind) 7 p (λ e. simp (← is) (before n _ h) ∙ sym (tuck-number s x e))
-        (λ w. let e : x .kind ≡ 8 = omega arith in is ∙ sym (knit-number s x e))
+    module _ (e : x .kind ≡ 8) (is : n ≡ readyNo s x) where
+      pub knit-stopped : n ≡ numberAt s x
+      knit-stopped = is ∙ sym (knit-number s x e)
 
-    pub split-unready : x .kind ≡ 9 → (n ≡ 0 → ⊥) → n ≡ numberAt s x
-    split-unready e h = simp (← is) (before n _ h) ∙ sym (split-number s x e)
+      pub knit-made : n ≡ 0 → (c : Carrier) → c ≡ attached (exitSlot s x) (x .at) (x .right) → (l : List ℕ) → l ≡ set (s .loops) (hookOf (x .at)) 1
+          → Made (parts l (set (s .carriers) (x .carrier - 1) c))
+      knit-made h c q l t = (sym knit-stopped ∙ h, knit-state s x e ∙ simp (t, q))
 
-    module _ (h : n ≡ 0) (c : Carrier) (q : c ≡ attached (exitSlot s x) (x .at) (x .right)) where
-      module _ (m : ℕ) where
-        pub form-made : 7 ≤ x .kind → x .kind ≤ 8 → m ≡ formNo (x .kind) (loopsOn s (x .at)) → m ≡ 0 → (l : List ℕ) → l ≡ formed (s .loops) (x .at) (x .kind)
-            → Made (parts l (set (s .carriers) (x .carrier - 1) c))
-        unfolding formNo formed
-        form-made p w f g l t =
-            up (x .kind) 7 p
-            (λ e. let f' : m ≡ tuckNo (loopsOn s (x .at)) = f ∙ (simp e) in let t' : l ≡ tucked (s .loops) (x .at) = t ∙ (simp e) in (
-              tuck-number s x e ∙ sym (after (readyNo s x) (tuckNo (loopsOn s (x .at))) m (sym is ∙ h) f') ∙ g,
-              tuck-state s x e ∙ simp (t' ∙ tuck-made (s .loops) (x .at) m f' g, q),
-            ))
-            (λ u. let e : x .kind ≡ 8 = omega arith in let t' : l ≡ set (s .loops) (hookOf (x .at)) 1 = t ∙ (simp e) in
-            (knit-number s x e ∙ sym is ∙ h, knit-state s x e ∙ simp (t', q)))
+  -- a tuck asks for room besides
+  module _ (e : x .kind ≡ 7) (n : ℕ) (is : n ≡ readyNo s x) where
+    pub tuck-unready : (n ≡ 0 → ⊥) → n ≡ numberAt s x
+    tuck-unready h = simp (← is) (before n _ h) ∙ sym (tuck-number s x e)
 
-        pub split-made : x .kind ≡ 9 → m ≡ transferNo (s .loops) (x .at) (x .to) (s .racking) → m ≡ 0 → (l : List ℕ) (cs : List Carrier)
-            → l ≡ transferredLoops (s .loops) (x .at) (x .to) (s .racking) 1 → cs ≡ map (movedTo (x .at) (x .to)) (s .carriers)
-            → Made (parts l (set cs (x .carrier - 1) c))
-        split-made e f g l cs p t = (
-          split-number s x e ∙ sym (after (readyNo s x) _ m (sym is ∙ h) f) ∙ g,
-          split-state s x e ∙ simp (p ∙ transfer-made (s .loops) (x .at) (x .to) (s .racking) 1 m f g, q, t),
-        )
+    module _ (h : n ≡ 0) (m : ℕ) (f : m ≡ tuckNo (loopsOn s (x .at))) where
+      pub tuck-stopped : m ≡ numberAt s x
+      tuck-stopped = after (readyNo s x) _ m (sym is ∙ h) f ∙ sym (tuck-number s x e)
 
-    module _ (h : n ≡ 0) (m : ℕ) where
-      pub form-stopped : 7 ≤ x .kind → x .kind ≤ 8 → m ≡ formNo (x .kind) (loopsOn s (x .at)) → (m ≡ 0 → ⊥) → m ≡ numberAt s x
-      unfolding formNo
-      form-stopped p w f k =
-          up (x .kind) 7 p (λ e. after (readyNo s x) _ m (sym is ∙ h) (f ∙ simp e) ∙ sym (tuck-number s x e))
-          (λ u. let e : x .kind ≡ 8 = omega arith in absurd (k (f ∙ simp e)))
+      pub tuck-done : m ≡ 0 → (c : Carrier) → c ≡ attached (exitSlot s x) (x .at) (x .right) → (l : List ℕ) → l ≡ tucked (s .loops) (x .at)
+          → Made (parts l (set (s .carriers) (x .carrier - 1) c))
+      tuck-done g c q l t = (sym tuck-stopped ∙ g, tuck-state s x e ∙ simp (t ∙ tuck-made (s .loops) (x .at) m f g, q))
 
-      pub split-stopped : x .kind ≡ 9 → m ≡ transferNo (s .loops) (x .at) (x .to) (s .racking) → m ≡ numberAt s x
-      split-stopped e f = after (readyNo s x) _ m (sym is ∙ h) f ∙ sym (split-number s x e)
+  -- a split asks for room and for opposite needles
+  module _ (e : x .kind ≡ 9) (n : ℕ) (is : n ≡ readyNo s x) where
+    pub split-unready : (n ≡ 0 → ⊥) → n ≡ numberAt s x
+    split-unready h = simp (← is) (before n _ h) ∙ sym (split-number s x e)
+
+    module _ (h : n ≡ 0) (m : ℕ) (f : m ≡ transferNo (s .loops) (x .at) (x .to) (s .racking)) where
+      pub split-stopped : m ≡ numberAt s x
+      split-stopped = after (readyNo s x) _ m (sym is ∙ h) f ∙ sym (split-number s x e)
+
+      pub split-made : m ≡ 0 → (c : Carrier) → c ≡ attached (exitSlot s x) (x .at) (x .right) → (l : List ℕ) (cs : List Carrier)
+          → l ≡ transferredLoops (s .loops) (x .at) (x .to) (s .racking) 1 → cs ≡ map (movedTo (x .at) (x .to)) (s .carriers)
+          → Made (parts l (set cs (x .carrier - 1) c))
+      split-made g c q l cs p t = (
+        sym split-stopped ∙ g,
+        split-state s x e ∙ simp (p ∙ transfer-made (s .loops) (x .at) (x .to) (s .racking) 1 m f g, q, t),
+      )

@@ -1,4 +1,4 @@
--- What tuck, knit and transfers make of the loops, and their refusals: the promises of the code's small functions.
+-- What tuck and transfers make of the loops, and their refusals: the promises of the code's small functions.
 use Prim.Native.Nat.{ℕ, _+_}
 use mathlib.Core.Bool.{cond}
 use mathlib.Core.List.{List}
@@ -15,13 +15,6 @@ tuckNo here = cond (leb (here + 1) 8) 0 11
 
 unfoldable pub tucked : List ℕ → Needle → List ℕ
 tucked l n = cond (eqb (tuckNo (getD l (hookOf n) 0)) 0) (set l (hookOf n) (getD l (hookOf n) 0 + 1)) l
-
--- the loop of a tuck (7) or a knit, and its refusal
-unfoldable pub formNo : ℕ → ℕ → ℕ
-formNo kind here = cond (eqb kind 7) (tuckNo here) 0
-
-unfoldable pub formed : List ℕ → Needle → ℕ → List ℕ
-formed l n kind = cond (eqb kind 7) (tucked l n) (set l (hookOf n) 1)
 
 -- the loops at a go to b, a then holds v, and its refusal
 unfoldable pub transferNo : List ℕ → Needle → Needle → Racking → ℕ

@@ -49,13 +49,16 @@ unfoldable pub floatNo : Look → Column → ℕ
 floatNo c z = cond (c .attached) (cond (withinFloat (c .column) z) 0 9) 0
 
 -- 6 to 9: the carrier is inactive for in, at the exit slot for out, at the entry slot for the rest, and near for tuck, knit and split
+abbrev pub askedNo : ℕ → Needle → Bool → Racking → Look → ℕ
+askedNo kind n right r c =
+    cond (leb kind 3) 0
+    (cond (eqb kind 4) (cond (c .active) 6 0)
+    (cond (eqb kind 5) (parkedNo c (exitOf (columnOf n r) right))
+    (cond (eqb kind 6) (parkedNo c (entryOf (columnOf n r) right))
+    (orNumber (parkedNo c (entryOf (columnOf n r) right)) (floatNo c (columnOf n r))))))
+
 unfoldable pub carrierNo : Record → Racking → Look → ℕ
-carrierNo x r c =
-    cond (leb (x .kind) 3) 0
-    (cond (eqb (x .kind) 4) (cond (c .active) 6 0)
-    (cond (eqb (x .kind) 5) (parkedNo c (exitOf (columnOf (x .at) r) (x .right)))
-    (cond (eqb (x .kind) 6) (parkedNo c (entryOf (columnOf (x .at) r) (x .right)))
-    (orNumber (parkedNo c (entryOf (columnOf (x .at) r) (x .right))) (floatNo c (columnOf (x .at) r))))))
+carrierNo x r c = askedNo (x .kind) (x .at) (x .right) r c
 
 -- 10: the two needles of xfer and split
 unfoldable pub oppositeNo : Record → Racking → ℕ

@@ -1,12 +1,12 @@
 // The step of a record and the run of a program, with the refusals 1 and 3 to 11.
 ghost use mathlib.Core.Path.{_≡_};
-ghost use Prim.Native.Nat.{_<_};
+ghost use Prim.Native.Nat.{_≤_, _<_};
 ghost use lib.ListN.{getD, set};
 ghost use Rattle.machine.specs.Machine.{OnBed, hookOf, emptyState};
 ghost use Rattle.machine.specs.Geometry.{columnOf, entryOf, exitOf};
 ghost use Rattle.run.specs.Relation.{unattached, reparked, attached};
-ghost use Rattle.run.specs.Step.{lookOf, parkedNo, floatNo, orNumber};
-ghost use Rattle.run.specs.Loops.{tuckNo, tucked, formNo, formed, transferNo, transferredLoops};
+ghost use Rattle.run.specs.Step.{lookOf, parkedNo, floatNo, orNumber, askedNo};
+ghost use Rattle.run.specs.Loops.{tuckNo, tucked, transferNo, transferredLoops};
 ghost use Rattle.run.specs.Run.{reached, runFrom, answerOf, runOf, stay, stepOf};
 use machine::Carrier;
 use machine::Needle;
@@ -85,6 +85,24 @@ fn ready(c: Carrier, n: Needle, r: Racking, right: bool) -> u8
     }
 }
 
+// What a record of this kind asks of its carrier: 0, or 6 to 9.
+fn asked(kind: u8, n: Needle, right: bool, c: Carrier, r: Racking) -> u8
+    requires { ⌜ (kind ≤ 9) × (OnBed n) ⌝ }
+    ensures { λ k. ⌜ k ≡ askedNo kind n right r (lookOf r c) ⌝ }
+{
+    match kind {
+        // in
+        4 => { if c.active == 0 { 0 } else { ALREADY_IN } }
+        // out
+        5 => parked(c, n.exit(r, right), r),
+        // miss
+        6 => parked(c, n.entry(r, right), r),
+        // tuck, knit, split
+        7..=9 => ready(c, n, r, right),
+        _ => 0,
+    }
+}
+
 // The carrier after in, after a miss, and after it formed a loop at the needle.
 fn enter(n: Needle, r: Racking, right: bool) -> Carrier
     requires { ⌜ OnBed n ⌝ }
@@ -147,18 +165,6 @@ fn tuck(loops: &mut [u8; State::HOOKS], n: Needle) -> u8
         return HOOK_FULL;
     }
     loops[i] = here + 1;
-    0
-}
-
-// The loop of a tuck (7) or a knit: 0, or 11 and no store.
-fn form(loops: &mut [u8; State::HOOKS], n: Needle, kind: u8) -> u8
-    requires { ⌜ OnBed n ⌝ }
-    ensures { λ k. ⌜ (k ≡ formNo kind (getD (now (loops .entry)) (hookOf n) 0)) × (now (loops .exit) ≡ formed (now (loops .entry)) n kind) ⌝ }
-{
-    if kind == 7 {
-        return tuck(loops, n);
-    }
-    put(loops, n, 1);
     0
 }
 
@@ -242,8 +248,9 @@ fn run_from(state: State, program: &[u8]) -> Reached
             4 => {
                 let k = (x.carrier as usize) - 1;
                 let c = st.carriers[k];
-                if c.active != 0 {
-                    return stop(ALREADY_IN, at, st);
+                let number = asked(4, n, x.right, c, r);
+                if number != 0 {
+                    return stop(number, at, st);
                 }
                 let then = enter(n, r, x.right);
                 st.carriers[k] = then;
@@ -252,7 +259,7 @@ fn run_from(state: State, program: &[u8]) -> Reached
             5 => {
                 let k = (x.carrier as usize) - 1;
                 let c = st.carriers[k];
-                let number = parked(c, n.exit(r, x.right), r);
+                let number = asked(5, n, x.right, c, r);
                 if number != 0 {
                     return stop(number, at, st);
                 }
@@ -263,25 +270,37 @@ fn run_from(state: State, program: &[u8]) -> Reached
             6 => {
                 let k = (x.carrier as usize) - 1;
                 let c = st.carriers[k];
-                let number = parked(c, n.entry(r, x.right), r);
+                let number = asked(6, n, x.right, c, r);
                 if number != 0 {
                     return stop(number, at, st);
                 }
                 let then = pass(c, n, r, x.right);
                 st.carriers[k] = then;
             }
-            // tuck, knit
-            7..=8 => {
+            // tuck
+            7 => {
                 let k = (x.carrier as usize) - 1;
                 let c = st.carriers[k];
-                let number = ready(c, n, r, x.right);
+                let number = asked(7, n, x.right, c, r);
                 if number != 0 {
                     return stop(number, at, st);
                 }
-                let number = form(&mut st.loops, n, kind);
+                let number = tuck(&mut st.loops, n);
                 if number != 0 {
                     return stop(number, at, st);
                 }
+                let then = attach(n, r, x.right);
+                st.carriers[k] = then;
+            }
+            // knit
+            8 => {
+                let k = (x.carrier as usize) - 1;
+                let c = st.carriers[k];
+                let number = asked(8, n, x.right, c, r);
+                if number != 0 {
+                    return stop(number, at, st);
+                }
+                put(&mut st.loops, n, 1);
                 let then = attach(n, r, x.right);
                 st.carriers[k] = then;
             }
@@ -290,7 +309,7 @@ fn run_from(state: State, program: &[u8]) -> Reached
                 let m = x.to;
                 let k = (x.carrier as usize) - 1;
                 let c = st.carriers[k];
-                let number = ready(c, n, r, x.right);
+                let number = asked(9, n, x.right, c, r);
                 if number != 0 {
                     return stop(number, at, st);
                 }

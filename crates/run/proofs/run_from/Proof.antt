@@ -2,7 +2,6 @@
 use Prim.Native.Nat.{ℕ, _+_, _-_, _≤_, _<_}
 use mathlib.Core.Path.{_≡_, refl, sym, _∙_}
 use mathlib.Core.List.{List}
-use mathlib.Core.Logic.{⊎-elim}
 use native.Mathlib.Omega.{arith}
 use borrow.Author.Needs.{needs}
 use lib.ListN.{length, drop}
@@ -13,8 +12,8 @@ use Rattle.record.proofs.Ranges.{InRange}
 use Rattle.run.specs.Step.{numberAt}
 use Rattle.run.specs.Run.{reached, runFrom}
 use Rattle.run.proofs.Turns.{Turn, ended, turned, refused, in-range, sized, stopped, goes}
-use Rattle.run.proofs.Arms.{Made, nine, seven, carrier-at, transfer-kept, form-kept, unmoved, rack-made, drop-made, xfer-stopped, xfer-made, in-stopped, in-made}
-use Rattle.run.proofs.Arms.{out-stopped, out-made, miss-stopped, miss-made, form-unready, form-stopped, form-made, split-unready, split-stopped, split-made}
+use Rattle.run.proofs.Arms.{Made, nine, carrier-at, transfer-kept, tuck-kept, unmoved, rack-made, drop-made, xfer-stopped, xfer-made, in-stopped, in-made, out-stopped, out-made}
+use Rattle.run.proofs.Arms.{miss-stopped, miss-made, tuck-unready, tuck-stopped, tuck-done, knit-stopped, knit-made, split-unready, split-stopped, split-made}
 use Rattle.run.proofs.run_from.Statement.{statement}
 use Rattle.run.proofs.run_from.Tie as tie
 
@@ -60,6 +59,14 @@ module _ (b : tie.Else1 Inv-loop μ-loop) where
   on : {u : State} → Made s x u → (place + d .size ≤ length p) × (runFrom 0 p 0 s₀ ≡ runFrom 0 (drop (place + d .size) p) (place + d .size) u)
   on m = (omega (arith, size .1, b .before .before .before .before .loop-test .taken), goes here (b .if1 .left) _ (m .0) (m .1))
 
+  -- what is left gets shorter
+  less : length p - (place + d .size) < length p - place
+  less = omega (arith, size .0, size .1, b .before .before .before .before .loop-test .taken)
+
+  -- the carrier of a kind that has one
+  ten : {k : ℕ} → x .kind ≡ k → 4 ≤ k → (1 ≤ x .carrier) × (x .carrier ≤ 10)
+  ten e h = carrier-at known (omega (arith, e))
+
 loop-holds : tie.Need-loop-holds Inv-loop μ-loop
 loop-holds c = (search needs, refl)
 
@@ -82,10 +89,10 @@ returns : tie.Need-returns Inv-loop μ-loop
 returns c = c .stop .ensures ∙ refused (turned (c .before .before .before .before .before .loop-test .taken) (c .before .before .before .before .before .before .loop .inv .1) (c .before .before .before .decode .ensures)) (c .before .if1 .taken)
 
 add-next : tie.Need-add-next Inv-loop μ-loop
-add-next c = let b = c .before in let z = size b in omega (arith, z .1, c .before .before .before .before .before .loop-test .taken, c .before .before .before .before .before .before .before .before .good)
+add-next c = let z = size (c .before) in omega (arith, z .1, c .before .before .before .before .before .loop-test .taken, c .before .before .before .before .before .before .before .before .good)
 
 put-requires : tie.Need-put-requires Inv-loop μ-loop
-put-requires c κs = let b = c .before .before .before .before .before .before in known b .at-bed
+put-requires c κs = known (c .before .before .before .before .before .before) .at-bed
 
 transfer-requires : tie.Need-transfer-requires Inv-loop μ-loop
 transfer-requires c κs = let b = c .before .before .before .before .before .before .before in (known b .at-bed, known b .to-bed)
@@ -107,173 +114,204 @@ cast-k : tie.Need-cast-k Inv-loop μ-loop
 cast-k c = search needs
 
 sub-k : tie.Need-sub-k Inv-loop μ-loop
-sub-k c = let b = c .before .before .before .before .before .before in let e = c .before .match .keys4 in let w = carrier-at (known b) (omega (arith, e)) in omega (arith, w .0, w .1)
+sub-k c = let b = c .before .before .before .before .before .before in let e = c .before .match .keys4 in let w = ten b e (omega arith) in omega (arith, w .0, w .1)
 
 mul-c : tie.Need-mul-c Inv-loop μ-loop
-mul-c c = let b = c .before .before .before .before .before .before in let e = c .before .match .keys4 in let w = carrier-at (known b) (omega (arith, e)) in omega (arith, w .0, w .1)
+mul-c c = let b = c .before .before .before .before .before .before in let e = c .before .match .keys4 in let w = ten b e (omega arith) in omega (arith, w .0, w .1)
 
 element-copy-out-c : tie.Need-element-copy-out-c Inv-loop μ-loop
-element-copy-out-c c = let b = c .before .before .before .before .before .before in let e = c .before .match .keys4 in let w = carrier-at (known b) (omega (arith, e)) in omega (arith, w .0, w .1)
+element-copy-out-c c = let b = c .before .before .before .before .before .before in let e = c .before .match .keys4 in let w = ten b e (omega arith) in omega (arith, w .0, w .1)
+
+asked-requires : tie.Need-asked-requires Inv-loop μ-loop
+asked-requires c κs = let b = c .before .before .before .before .before .before .before in (omega arith, known b .at-bed)
 
 stop-requires-3 : tie.Need-stop-requires-3 Inv-loop μ-loop
 stop-requires-3 c κs = search needs
 
 returns-3 : tie.Need-returns-3 Inv-loop μ-loop
 returns-3 c = let b = c .before .before .before .before .before .before .before .before .before .before in let e = c .before .before .before .before .before .match .keys4 in
-    c .stop3 .ensures ∙ halt b (in-stopped (s b) (x b) e (c .before .if4 .taken)) (λ f. omega arith)
+    c .stop3 .ensures ∙ halt b (in-stopped (s b) (x b) _ e (c .before .before .asked .ensures)) (c .before .if4 .taken)
 
 enter-requires : tie.Need-enter-requires Inv-loop μ-loop
-enter-requires c κs = let b = c .before .before .before .before .before .before .before .before .before in known b .at-bed
+enter-requires c κs = known (c .before .before .before .before .before .before .before .before .before) .at-bed
 
 mul-then : tie.Need-mul-then Inv-loop μ-loop
-mul-then c = let b = c .before .before .before .before .before .before .before .before .before .before in let e = c .before .before .before .before .before .match .keys4 in let w = carrier-at (known b) (omega (arith, e)) in omega (arith, w .0, w .1)
+mul-then c = let b = c .before .before .before .before .before .before .before .before .before .before in let e = c .before .before .before .before .before .match .keys4 in let w = ten b e (omega arith) in omega (arith, w .0, w .1)
 
 element-set-from-then : tie.Need-element-set-from-then Inv-loop μ-loop
-element-set-from-then c = let b = c .before .before .before .before .before .before .before .before .before .before in let e = c .before .before .before .before .before .match .keys4 in let w = carrier-at (known b) (omega (arith, e)) in omega (arith, w .0, w .1)
+element-set-from-then c = let b = c .before .before .before .before .before .before .before .before .before .before in let e = c .before .before .before .before .before .match .keys4 in let w = ten b e (omega arith) in omega (arith, w .0, w .1)
 
 cast-k-2 : tie.Need-cast-k-2 Inv-loop μ-loop
 cast-k-2 c = search needs
 
 sub-k-2 : tie.Need-sub-k-2 Inv-loop μ-loop
-sub-k-2 c = let b = c .before .before .before .before .before .before in let e = c .before .match .keys5 in let w = carrier-at (known b) (omega (arith, e)) in omega (arith, w .0, w .1)
+sub-k-2 c = let b = c .before .before .before .before .before .before in let e = c .before .match .keys5 in let w = ten b e (omega arith) in omega (arith, w .0, w .1)
 
 mul-c-2 : tie.Need-mul-c-2 Inv-loop μ-loop
-mul-c-2 c = let b = c .before .before .before .before .before .before in let e = c .before .match .keys5 in let w = carrier-at (known b) (omega (arith, e)) in omega (arith, w .0, w .1)
+mul-c-2 c = let b = c .before .before .before .before .before .before in let e = c .before .match .keys5 in let w = ten b e (omega arith) in omega (arith, w .0, w .1)
 
 element-copy-out-c-2 : tie.Need-element-copy-out-c-2 Inv-loop μ-loop
-element-copy-out-c-2 c = let b = c .before .before .before .before .before .before in let e = c .before .match .keys5 in let w = carrier-at (known b) (omega (arith, e)) in omega (arith, w .0, w .1)
+element-copy-out-c-2 c = let b = c .before .before .before .before .before .before in let e = c .before .match .keys5 in let w = ten b e (omega arith) in omega (arith, w .0, w .1)
 
-exit-requires : tie.Need-exit-requires Inv-loop μ-loop
-exit-requires c κs = let b = c .before .before .before .before .before .before .before in known b .at-bed
-
-parked-requires : tie.Need-parked-requires Inv-loop μ-loop
-parked-requires c κs = search needs
+asked-requires-2 : tie.Need-asked-requires-2 Inv-loop μ-loop
+asked-requires-2 c κs = let b = c .before .before .before .before .before .before .before in (omega arith, known b .at-bed)
 
 stop-requires-4 : tie.Need-stop-requires-4 Inv-loop μ-loop
 stop-requires-4 c κs = search needs
 
 returns-4 : tie.Need-returns-4 Inv-loop μ-loop
-returns-4 c = let b = c .before .before .before .before .before .before .before .before .before .before .before in let e = c .before .before .before .before .before .before .match .keys5 in
-    c .stop4 .ensures ∙ halt b (out-stopped (s b) (x b) _ _ (c .before .before .parked .ensures) e (c .before .before .before .exit .ensures)) (c .before .if5 .taken)
+returns-4 c = let b = c .before .before .before .before .before .before .before .before .before .before in let e = c .before .before .before .before .before .match .keys5 in
+    c .stop4 .ensures ∙ halt b (out-stopped (s b) (x b) _ e (c .before .before .asked2 .ensures)) (c .before .if5 .taken)
 
 inactive-requires : tie.Need-inactive-requires Inv-loop μ-loop
 inactive-requires c κs = search needs
 
 mul-then-2 : tie.Need-mul-then-2 Inv-loop μ-loop
-mul-then-2 c = let b = c .before .before .before .before .before .before .before .before .before .before .before in let e = c .before .before .before .before .before .before .match .keys5 in let w = carrier-at (known b) (omega (arith, e)) in omega (arith, w .0, w .1)
+mul-then-2 c = let b = c .before .before .before .before .before .before .before .before .before .before in let e = c .before .before .before .before .before .match .keys5 in let w = ten b e (omega arith) in omega (arith, w .0, w .1)
 
 element-set-from-then-2 : tie.Need-element-set-from-then-2 Inv-loop μ-loop
-element-set-from-then-2 c = let b = c .before .before .before .before .before .before .before .before .before .before .before in let e = c .before .before .before .before .before .before .match .keys5 in let w = carrier-at (known b) (omega (arith, e)) in omega (arith, w .0, w .1)
+element-set-from-then-2 c = let b = c .before .before .before .before .before .before .before .before .before .before in let e = c .before .before .before .before .before .match .keys5 in let w = ten b e (omega arith) in omega (arith, w .0, w .1)
 
 cast-k-3 : tie.Need-cast-k-3 Inv-loop μ-loop
 cast-k-3 c = search needs
 
 sub-k-3 : tie.Need-sub-k-3 Inv-loop μ-loop
-sub-k-3 c = let b = c .before .before .before .before .before .before in let e = c .before .match .keys6 in let w = carrier-at (known b) (omega (arith, e)) in omega (arith, w .0, w .1)
+sub-k-3 c = let b = c .before .before .before .before .before .before in let e = c .before .match .keys6 in let w = ten b e (omega arith) in omega (arith, w .0, w .1)
 
 mul-c-3 : tie.Need-mul-c-3 Inv-loop μ-loop
-mul-c-3 c = let b = c .before .before .before .before .before .before in let e = c .before .match .keys6 in let w = carrier-at (known b) (omega (arith, e)) in omega (arith, w .0, w .1)
+mul-c-3 c = let b = c .before .before .before .before .before .before in let e = c .before .match .keys6 in let w = ten b e (omega arith) in omega (arith, w .0, w .1)
 
 element-copy-out-c-3 : tie.Need-element-copy-out-c-3 Inv-loop μ-loop
-element-copy-out-c-3 c = let b = c .before .before .before .before .before .before in let e = c .before .match .keys6 in let w = carrier-at (known b) (omega (arith, e)) in omega (arith, w .0, w .1)
+element-copy-out-c-3 c = let b = c .before .before .before .before .before .before in let e = c .before .match .keys6 in let w = ten b e (omega arith) in omega (arith, w .0, w .1)
 
-entry-requires : tie.Need-entry-requires Inv-loop μ-loop
-entry-requires c κs = let b = c .before .before .before .before .before .before .before in known b .at-bed
-
-parked-requires-2 : tie.Need-parked-requires-2 Inv-loop μ-loop
-parked-requires-2 c κs = search needs
+asked-requires-3 : tie.Need-asked-requires-3 Inv-loop μ-loop
+asked-requires-3 c κs = let b = c .before .before .before .before .before .before .before in (omega arith, known b .at-bed)
 
 stop-requires-5 : tie.Need-stop-requires-5 Inv-loop μ-loop
 stop-requires-5 c κs = search needs
 
 returns-5 : tie.Need-returns-5 Inv-loop μ-loop
-returns-5 c = let b = c .before .before .before .before .before .before .before .before .before .before .before in let e = c .before .before .before .before .before .before .match .keys6 in
-    c .stop5 .ensures ∙ halt b (miss-stopped (s b) (x b) _ _ (c .before .before .parked2 .ensures) e (c .before .before .before .entry .ensures)) (c .before .if6 .taken)
+returns-5 c = let b = c .before .before .before .before .before .before .before .before .before .before in let e = c .before .before .before .before .before .match .keys6 in
+    c .stop5 .ensures ∙ halt b (miss-stopped (s b) (x b) _ e (c .before .before .asked3 .ensures)) (c .before .if6 .taken)
 
 pass-requires : tie.Need-pass-requires Inv-loop μ-loop
-pass-requires c κs = let b = c .before .before .before .before .before .before .before .before .before .before in known b .at-bed
+pass-requires c κs = known (c .before .before .before .before .before .before .before .before .before) .at-bed
 
 mul-then-3 : tie.Need-mul-then-3 Inv-loop μ-loop
-mul-then-3 c = let b = c .before .before .before .before .before .before .before .before .before .before .before in let e = c .before .before .before .before .before .before .match .keys6 in let w = carrier-at (known b) (omega (arith, e)) in omega (arith, w .0, w .1)
+mul-then-3 c = let b = c .before .before .before .before .before .before .before .before .before .before in let e = c .before .before .before .before .before .match .keys6 in let w = ten b e (omega arith) in omega (arith, w .0, w .1)
 
 element-set-from-then-3 : tie.Need-element-set-from-then-3 Inv-loop μ-loop
-element-set-from-then-3 c = let b = c .before .before .before .before .before .before .before .before .before .before .before in let e = c .before .before .before .before .before .before .match .keys6 in let w = carrier-at (known b) (omega (arith, e)) in omega (arith, w .0, w .1)
+element-set-from-then-3 c = let b = c .before .before .before .before .before .before .before .before .before .before in let e = c .before .before .before .before .before .match .keys6 in let w = ten b e (omega arith) in omega (arith, w .0, w .1)
 
 cast-k-4 : tie.Need-cast-k-4 Inv-loop μ-loop
 cast-k-4 c = search needs
 
 sub-k-4 : tie.Need-sub-k-4 Inv-loop μ-loop
-sub-k-4 c = let b = c .before .before .before .before .before .before .before .before in let no = c .before .before .before .match .rest in let p = seven (x b .kind) (c .before .before .if7 .left) (no .0 .0 .0 .0 .0 .1) (no .0 .0 .0 .0 .1) (no .0 .0 .0 .1) (no .0 .0 .1) (no .0 .1) (no .1) in let q : x b .kind ≤ 8 = omega (arith, c .before .if8 .taken) in let w = carrier-at (known b) (omega (arith, p)) in omega (arith, w .0, w .1)
+sub-k-4 c = let b = c .before .before .before .before .before .before in let e = c .before .match .keys7 in let w = ten b e (omega arith) in omega (arith, w .0, w .1)
 
 mul-c-4 : tie.Need-mul-c-4 Inv-loop μ-loop
-mul-c-4 c = let b = c .before .before .before .before .before .before .before .before in let no = c .before .before .before .match .rest in let p = seven (x b .kind) (c .before .before .if7 .left) (no .0 .0 .0 .0 .0 .1) (no .0 .0 .0 .0 .1) (no .0 .0 .0 .1) (no .0 .0 .1) (no .0 .1) (no .1) in let q : x b .kind ≤ 8 = omega (arith, c .before .if8 .taken) in let w = carrier-at (known b) (omega (arith, p)) in omega (arith, w .0, w .1)
+mul-c-4 c = let b = c .before .before .before .before .before .before in let e = c .before .match .keys7 in let w = ten b e (omega arith) in omega (arith, w .0, w .1)
 
 element-copy-out-c-4 : tie.Need-element-copy-out-c-4 Inv-loop μ-loop
-element-copy-out-c-4 c = let b = c .before .before .before .before .before .before .before .before in let no = c .before .before .before .match .rest in let p = seven (x b .kind) (c .before .before .if7 .left) (no .0 .0 .0 .0 .0 .1) (no .0 .0 .0 .0 .1) (no .0 .0 .0 .1) (no .0 .0 .1) (no .0 .1) (no .1) in let q : x b .kind ≤ 8 = omega (arith, c .before .if8 .taken) in let w = carrier-at (known b) (omega (arith, p)) in omega (arith, w .0, w .1)
+element-copy-out-c-4 c = let b = c .before .before .before .before .before .before in let e = c .before .match .keys7 in let w = ten b e (omega arith) in omega (arith, w .0, w .1)
 
-ready-requires : tie.Need-ready-requires Inv-loop μ-loop
-ready-requires c κs = let b = c .before .before .before .before .before .before .before .before .before in known b .at-bed
+asked-requires-4 : tie.Need-asked-requires-4 Inv-loop μ-loop
+asked-requires-4 c κs = let b = c .before .before .before .before .before .before .before in (omega arith, known b .at-bed)
 
 stop-requires-6 : tie.Need-stop-requires-6 Inv-loop μ-loop
 stop-requires-6 c κs = search needs
 
 returns-6 : tie.Need-returns-6 Inv-loop μ-loop
-returns-6 c = let b = c .before .before .before .before .before .before .before .before .before .before .before .before in let no = c .before .before .before .before .before .before .before .match .rest in let p = seven (x b .kind) (c .before .before .before .before .before .before .if7 .left) (no .0 .0 .0 .0 .0 .1) (no .0 .0 .0 .0 .1) (no .0 .0 .0 .1) (no .0 .0 .1) (no .0 .1) (no .1) in let q : x b .kind ≤ 8 = omega (arith, c .before .before .before .before .before .if8 .taken) in
-    c .stop6 .ensures ∙ halt b (form-unready (s b) (x b) _ (c .before .before .ready .ensures) p q (c .before .if9 .taken)) (c .before .if9 .taken)
+returns-6 c = let b = c .before .before .before .before .before .before .before .before .before .before in let e = c .before .before .before .before .before .match .keys7 in
+    c .stop6 .ensures ∙ halt b (tuck-unready (s b) (x b) e _ (c .before .before .asked4 .ensures) (c .before .if7 .taken)) (c .before .if7 .taken)
 
-form-requires : tie.Need-form-requires Inv-loop μ-loop
-form-requires c κs = let b = c .before .before .before .before .before .before .before .before .before .before .before .before in known b .at-bed
+tuck-requires : tie.Need-tuck-requires Inv-loop μ-loop
+tuck-requires c κs = known (c .before .before .before .before .before .before .before .before .before .before) .at-bed
 
 stop-requires-7 : tie.Need-stop-requires-7 Inv-loop μ-loop
 stop-requires-7 c κs = search needs
 
 returns-7 : tie.Need-returns-7 Inv-loop μ-loop
-returns-7 c = let b = c .before .before .before .before .before .before .before .before .before .before .before .before .before .before .before in let no = c .before .before .before .before .before .before .before .before .before .before .match .rest in let p = seven (x b .kind) (c .before .before .before .before .before .before .before .before .before .if7 .left) (no .0 .0 .0 .0 .0 .1) (no .0 .0 .0 .0 .1) (no .0 .0 .0 .1) (no .0 .0 .1) (no .0 .1) (no .1) in let q : x b .kind ≤ 8 = omega (arith, c .before .before .before .before .before .before .before .before .if8 .taken) in
-    c .stop7 .ensures ∙ simp (c .before .before .form .ensures .1, form-kept (s b .loops) (x b .at) (x b .kind) _ (c .before .before .form .ensures .0) (c .before .if10 .taken)) (halt b (form-stopped (s b) (x b) _ (c .before .before .before .before .before .ready .ensures) (c .before .before .before .before .if9 .left) _ p q (c .before .before .form .ensures .0) (c .before .if10 .taken)) (c .before .if10 .taken))
+returns-7 c = let b = c .before .before .before .before .before .before .before .before .before .before .before .before .before in let e = c .before .before .before .before .before .before .before .before .match .keys7 in
+    c .stop7 .ensures ∙ simp (c .before .before .tuck .ensures .1, tuck-kept (s b .loops) (x b .at) _ (c .before .before .tuck .ensures .0) (c .before .if8 .taken)) (halt b (tuck-stopped (s b) (x b) e _ (c .before .before .before .before .before .asked4 .ensures) (c .before .before .before .before .if7 .left) _ (c .before .before .tuck .ensures .0)) (c .before .if8 .taken))
 
 attach-requires : tie.Need-attach-requires Inv-loop μ-loop
-attach-requires c κs = let b = c .before .before .before .before .before .before .before .before .before .before .before .before .before .before in known b .at-bed
+attach-requires c κs = known (c .before .before .before .before .before .before .before .before .before .before .before .before) .at-bed
 
 mul-then-4 : tie.Need-mul-then-4 Inv-loop μ-loop
-mul-then-4 c = let b = c .before .before .before .before .before .before .before .before .before .before .before .before .before .before .before in let no = c .before .before .before .before .before .before .before .before .before .before .match .rest in let p = seven (x b .kind) (c .before .before .before .before .before .before .before .before .before .if7 .left) (no .0 .0 .0 .0 .0 .1) (no .0 .0 .0 .0 .1) (no .0 .0 .0 .1) (no .0 .0 .1) (no .0 .1) (no .1) in let q : x b .kind ≤ 8 = omega (arith, c .before .before .before .before .before .before .before .before .if8 .taken) in let w = carrier-at (known b) (omega (arith, p)) in omega (arith, w .0, w .1)
+mul-then-4 c = let b = c .before .before .before .before .before .before .before .before .before .before .before .before .before in let e = c .before .before .before .before .before .before .before .before .match .keys7 in let w = ten b e (omega arith) in omega (arith, w .0, w .1)
 
 element-set-from-then-4 : tie.Need-element-set-from-then-4 Inv-loop μ-loop
-element-set-from-then-4 c = let b = c .before .before .before .before .before .before .before .before .before .before .before .before .before .before .before in let no = c .before .before .before .before .before .before .before .before .before .before .match .rest in let p = seven (x b .kind) (c .before .before .before .before .before .before .before .before .before .if7 .left) (no .0 .0 .0 .0 .0 .1) (no .0 .0 .0 .0 .1) (no .0 .0 .0 .1) (no .0 .0 .1) (no .0 .1) (no .1) in let q : x b .kind ≤ 8 = omega (arith, c .before .before .before .before .before .before .before .before .if8 .taken) in let w = carrier-at (known b) (omega (arith, p)) in omega (arith, w .0, w .1)
+element-set-from-then-4 c = let b = c .before .before .before .before .before .before .before .before .before .before .before .before .before in let e = c .before .before .before .before .before .before .before .before .match .keys7 in let w = ten b e (omega arith) in omega (arith, w .0, w .1)
 
 cast-k-5 : tie.Need-cast-k-5 Inv-loop μ-loop
 cast-k-5 c = search needs
 
 sub-k-5 : tie.Need-sub-k-5 Inv-loop μ-loop
-sub-k-5 c = let b = c .before .before .before .before .before .before .before .before in let i = known b in let e = nine i (⊎-elim {C = 8 < x b .kind} (λ w. omega (arith, i .low)) (λ w. omega arith) (c .before .before .if7 .came)) in let w = carrier-at (known b) (omega (arith, e)) in omega (arith, w .0, w .1)
+sub-k-5 c = let b = c .before .before .before .before .before .before in let e = c .before .match .keys8 in let w = ten b e (omega arith) in omega (arith, w .0, w .1)
 
 mul-c-5 : tie.Need-mul-c-5 Inv-loop μ-loop
-mul-c-5 c = let b = c .before .before .before .before .before .before .before .before in let i = known b in let e = nine i (⊎-elim {C = 8 < x b .kind} (λ w. omega (arith, i .low)) (λ w. omega arith) (c .before .before .if7 .came)) in let w = carrier-at (known b) (omega (arith, e)) in omega (arith, w .0, w .1)
+mul-c-5 c = let b = c .before .before .before .before .before .before in let e = c .before .match .keys8 in let w = ten b e (omega arith) in omega (arith, w .0, w .1)
 
 element-copy-out-c-5 : tie.Need-element-copy-out-c-5 Inv-loop μ-loop
-element-copy-out-c-5 c = let b = c .before .before .before .before .before .before .before .before in let i = known b in let e = nine i (⊎-elim {C = 8 < x b .kind} (λ w. omega (arith, i .low)) (λ w. omega arith) (c .before .before .if7 .came)) in let w = carrier-at (known b) (omega (arith, e)) in omega (arith, w .0, w .1)
+element-copy-out-c-5 c = let b = c .before .before .before .before .before .before in let e = c .before .match .keys8 in let w = ten b e (omega arith) in omega (arith, w .0, w .1)
 
-ready-requires-2 : tie.Need-ready-requires-2 Inv-loop μ-loop
-ready-requires-2 c κs = let b = c .before .before .before .before .before .before .before .before .before in known b .at-bed
+asked-requires-5 : tie.Need-asked-requires-5 Inv-loop μ-loop
+asked-requires-5 c κs = let b = c .before .before .before .before .before .before .before in (omega arith, known b .at-bed)
 
 stop-requires-8 : tie.Need-stop-requires-8 Inv-loop μ-loop
 stop-requires-8 c κs = search needs
 
 returns-8 : tie.Need-returns-8 Inv-loop μ-loop
-returns-8 c = let b = c .before .before .before .before .before .before .before .before .before .before .before .before in let i = known b in let e = nine i (⊎-elim {C = 8 < x b .kind} (λ w. omega (arith, i .low)) (λ w. omega arith) (c .before .before .before .before .before .before .if7 .came)) in
-    c .stop8 .ensures ∙ halt b (split-unready (s b) (x b) _ (c .before .before .ready2 .ensures) e (c .before .if11 .taken)) (c .before .if11 .taken)
+returns-8 c = let b = c .before .before .before .before .before .before .before .before .before .before in let e = c .before .before .before .before .before .match .keys8 in
+    c .stop8 .ensures ∙ halt b (knit-stopped (s b) (x b) _ e (c .before .before .asked5 .ensures)) (c .before .if9 .taken)
 
-transfer-requires-2 : tie.Need-transfer-requires-2 Inv-loop μ-loop
-transfer-requires-2 c κs = let b = c .before .before .before .before .before .before .before .before .before .before .before .before in (known b .at-bed, known b .to-bed)
+put-requires-2 : tie.Need-put-requires-2 Inv-loop μ-loop
+put-requires-2 c κs = known (c .before .before .before .before .before .before .before .before .before .before) .at-bed
+
+attach-requires-2 : tie.Need-attach-requires-2 Inv-loop μ-loop
+attach-requires-2 c κs = known (c .before .before .before .before .before .before .before .before .before .before .before) .at-bed
+
+mul-then-5 : tie.Need-mul-then-5 Inv-loop μ-loop
+mul-then-5 c = let b = c .before .before .before .before .before .before .before .before .before .before .before .before in let e = c .before .before .before .before .before .before .before .match .keys8 in let w = ten b e (omega arith) in omega (arith, w .0, w .1)
+
+element-set-from-then-5 : tie.Need-element-set-from-then-5 Inv-loop μ-loop
+element-set-from-then-5 c = let b = c .before .before .before .before .before .before .before .before .before .before .before .before in let e = c .before .before .before .before .before .before .before .match .keys8 in let w = ten b e (omega arith) in omega (arith, w .0, w .1)
+
+cast-k-6 : tie.Need-cast-k-6 Inv-loop μ-loop
+cast-k-6 c = search needs
+
+sub-k-6 : tie.Need-sub-k-6 Inv-loop μ-loop
+sub-k-6 c = let b = c .before .before .before .before .before .before .before in let no = c .before .before .match .rest in let e = nine (known b) (no .0 .0 .0 .0 .0 .0 .0 .1) (no .0 .0 .0 .0 .0 .0 .1) (no .0 .0 .0 .0 .0 .1) (no .0 .0 .0 .0 .1) (no .0 .0 .0 .1) (no .0 .0 .1) (no .0 .1) (no .1) in let w = ten b e (omega arith) in omega (arith, w .0, w .1)
+
+mul-c-6 : tie.Need-mul-c-6 Inv-loop μ-loop
+mul-c-6 c = let b = c .before .before .before .before .before .before .before in let no = c .before .before .match .rest in let e = nine (known b) (no .0 .0 .0 .0 .0 .0 .0 .1) (no .0 .0 .0 .0 .0 .0 .1) (no .0 .0 .0 .0 .0 .1) (no .0 .0 .0 .0 .1) (no .0 .0 .0 .1) (no .0 .0 .1) (no .0 .1) (no .1) in let w = ten b e (omega arith) in omega (arith, w .0, w .1)
+
+element-copy-out-c-6 : tie.Need-element-copy-out-c-6 Inv-loop μ-loop
+element-copy-out-c-6 c = let b = c .before .before .before .before .before .before .before in let no = c .before .before .match .rest in let e = nine (known b) (no .0 .0 .0 .0 .0 .0 .0 .1) (no .0 .0 .0 .0 .0 .0 .1) (no .0 .0 .0 .0 .0 .1) (no .0 .0 .0 .0 .1) (no .0 .0 .0 .1) (no .0 .0 .1) (no .0 .1) (no .1) in let w = ten b e (omega arith) in omega (arith, w .0, w .1)
+
+asked-requires-6 : tie.Need-asked-requires-6 Inv-loop μ-loop
+asked-requires-6 c κs = let b = c .before .before .before .before .before .before .before .before in (omega arith, known b .at-bed)
 
 stop-requires-9 : tie.Need-stop-requires-9 Inv-loop μ-loop
 stop-requires-9 c κs = search needs
 
 returns-9 : tie.Need-returns-9 Inv-loop μ-loop
-returns-9 c = let b = c .before .before .before .before .before .before .before .before .before .before .before .before .before .before .before in let i = known b in let e = nine i (⊎-elim {C = 8 < x b .kind} (λ w. omega (arith, i .low)) (λ w. omega arith) (c .before .before .before .before .before .before .before .before .before .if7 .came)) in
-    c .stop9 .ensures ∙ simp (c .before .before .transfer2 .ensures .1, transfer-kept (s b .loops) (x b .at) (x b .to) (s b .racking) 1 _ (c .before .before .transfer2 .ensures .0) (c .before .if12 .taken)) (halt b (split-stopped (s b) (x b) _ (c .before .before .before .before .before .ready2 .ensures) (c .before .before .before .before .if11 .left) _ e (c .before .before .transfer2 .ensures .0)) (c .before .if12 .taken))
+returns-9 c = let b = c .before .before .before .before .before .before .before .before .before .before .before in let no = c .before .before .before .before .before .before .match .rest in let e = nine (known b) (no .0 .0 .0 .0 .0 .0 .0 .1) (no .0 .0 .0 .0 .0 .0 .1) (no .0 .0 .0 .0 .0 .1) (no .0 .0 .0 .0 .1) (no .0 .0 .0 .1) (no .0 .0 .1) (no .0 .1) (no .1) in
+    c .stop9 .ensures ∙ halt b (split-unready (s b) (x b) e _ (c .before .before .asked6 .ensures) (c .before .if10 .taken)) (c .before .if10 .taken)
 
-attach-requires-2 : tie.Need-attach-requires-2 Inv-loop μ-loop
-attach-requires-2 c κs = let b = c .before .before .before .before .before .before .before .before .before .before .before .before .before .before in known b .at-bed
+transfer-requires-2 : tie.Need-transfer-requires-2 Inv-loop μ-loop
+transfer-requires-2 c κs = let b = c .before .before .before .before .before .before .before .before .before .before .before in (known b .at-bed, known b .to-bed)
+
+stop-requires-10 : tie.Need-stop-requires-10 Inv-loop μ-loop
+stop-requires-10 c κs = search needs
+
+returns-10 : tie.Need-returns-10 Inv-loop μ-loop
+returns-10 c = let b = c .before .before .before .before .before .before .before .before .before .before .before .before .before .before in let no = c .before .before .before .before .before .before .before .before .before .match .rest in let e = nine (known b) (no .0 .0 .0 .0 .0 .0 .0 .1) (no .0 .0 .0 .0 .0 .0 .1) (no .0 .0 .0 .0 .0 .1) (no .0 .0 .0 .0 .1) (no .0 .0 .0 .1) (no .0 .0 .1) (no .0 .1) (no .1) in
+    c .stop10 .ensures ∙ simp (c .before .before .transfer2 .ensures .1, transfer-kept (s b .loops) (x b .at) (x b .to) (s b .racking) 1 _ (c .before .before .transfer2 .ensures .0) (c .before .if11 .taken)) (halt b (split-stopped (s b) (x b) e _ (c .before .before .before .before .before .asked6 .ensures) (c .before .before .before .before .if10 .left) _ (c .before .before .transfer2 .ensures .0)) (c .before .if11 .taken))
+
+attach-requires-3 : tie.Need-attach-requires-3 Inv-loop μ-loop
+attach-requires-3 c κs = known (c .before .before .before .before .before .before .before .before .before .before .before .before .before) .at-bed
 
 any-attached-requires-2 : tie.Need-any-attached-requires-2 Inv-loop μ-loop
 any-attached-requires-2 c κs = search needs
@@ -282,92 +320,99 @@ attachments-moved-requires-2 : tie.Need-attachments-moved-requires-2 Inv-loop μ
 attachments-moved-requires-2 c κs = search needs
 
 mul-ds : tie.Need-mul-ds Inv-loop μ-loop
-mul-ds c = let b = c .before .before .before .before .before .before .before .before .before .before .before .before .before .before .before .before .before .before .before in let i = known b in let e = nine i (⊎-elim {C = 8 < x b .kind} (λ w. omega (arith, i .low)) (λ w. omega arith) (c .before .before .before .before .before .before .before .before .before .before .before .before .before .if7 .came)) in let w = carrier-at (known b) (omega (arith, e)) in omega (arith, w .0, w .1)
+mul-ds c = let b = c .before .before .before .before .before .before .before .before .before .before .before .before .before .before .before .before .before .before in let no = c .before .before .before .before .before .before .before .before .before .before .before .before .before .match .rest in let e = nine (known b) (no .0 .0 .0 .0 .0 .0 .0 .1) (no .0 .0 .0 .0 .0 .0 .1) (no .0 .0 .0 .0 .0 .1) (no .0 .0 .0 .0 .1) (no .0 .0 .0 .1) (no .0 .0 .1) (no .0 .1) (no .1) in let w = ten b e (omega arith) in omega (arith, w .0, w .1)
 
 array-set-from-ds : tie.Need-array-set-from-ds Inv-loop μ-loop
-array-set-from-ds c = let b = c .before .before .before .before .before .before .before .before .before .before .before .before .before .before .before .before .before .before .before in let i = known b in let e = nine i (⊎-elim {C = 8 < x b .kind} (λ w. omega (arith, i .low)) (λ w. omega arith) (c .before .before .before .before .before .before .before .before .before .before .before .before .before .if7 .came)) in let w = carrier-at (known b) (omega (arith, e)) in omega (arith, w .0, w .1)
+array-set-from-ds c = let b = c .before .before .before .before .before .before .before .before .before .before .before .before .before .before .before .before .before .before in let no = c .before .before .before .before .before .before .before .before .before .before .before .before .before .match .rest in let e = nine (known b) (no .0 .0 .0 .0 .0 .0 .0 .1) (no .0 .0 .0 .0 .0 .0 .1) (no .0 .0 .0 .0 .0 .1) (no .0 .0 .0 .0 .1) (no .0 .0 .0 .1) (no .0 .0 .1) (no .0 .1) (no .1) in let w = ten b e (omega arith) in omega (arith, w .0, w .1)
 
-mul-then-5 : tie.Need-mul-then-5 Inv-loop μ-loop
-mul-then-5 c = let b = c .before .before .before .before .before .before .before .before .before .before .before .before .before .before .before .before .before .before in let i = known b in let e = nine i (⊎-elim {C = 8 < x b .kind} (λ w. omega (arith, i .low)) (λ w. omega arith) (c .before .before .before .before .before .before .before .before .before .before .before .before .if7 .came)) in let w = carrier-at (known b) (omega (arith, e)) in omega (arith, w .0, w .1)
+mul-then-6 : tie.Need-mul-then-6 Inv-loop μ-loop
+mul-then-6 c = let b = c .before .before .before .before .before .before .before .before .before .before .before .before .before .before .before .before .before in let no = c .before .before .before .before .before .before .before .before .before .before .before .before .match .rest in let e = nine (known b) (no .0 .0 .0 .0 .0 .0 .0 .1) (no .0 .0 .0 .0 .0 .0 .1) (no .0 .0 .0 .0 .0 .1) (no .0 .0 .0 .0 .1) (no .0 .0 .0 .1) (no .0 .0 .1) (no .0 .1) (no .1) in let w = ten b e (omega arith) in omega (arith, w .0, w .1)
 
-element-set-from-then-5 : tie.Need-element-set-from-then-5 Inv-loop μ-loop
-element-set-from-then-5 c = let b = c .before .before .before .before .before .before .before .before .before .before .before .before .before .before .before .before .before .before in let i = known b in let e = nine i (⊎-elim {C = 8 < x b .kind} (λ w. omega (arith, i .low)) (λ w. omega arith) (c .before .before .before .before .before .before .before .before .before .before .before .before .if7 .came)) in let w = carrier-at (known b) (omega (arith, e)) in omega (arith, w .0, w .1)
+element-set-from-then-6 : tie.Need-element-set-from-then-6 Inv-loop μ-loop
+element-set-from-then-6 c = let b = c .before .before .before .before .before .before .before .before .before .before .before .before .before .before .before .before .before in let no = c .before .before .before .before .before .before .before .before .before .before .before .before .match .rest in let e = nine (known b) (no .0 .0 .0 .0 .0 .0 .0 .1) (no .0 .0 .0 .0 .0 .0 .1) (no .0 .0 .0 .0 .0 .1) (no .0 .0 .0 .0 .1) (no .0 .0 .0 .1) (no .0 .0 .1) (no .0 .1) (no .1) in let w = ten b e (omega arith) in omega (arith, w .0, w .1)
 
 loop-less : tie.Need-loop-less Inv-loop μ-loop
-loop-less c = let b = c .before .before .before .before .before .before in let z = size b in omega (arith, z .0, z .1, c .before .before .before .before .before .before .before .before .before .before .loop-test .taken)
+loop-less c = less (c .before .before .before .before .before .before)
 
 loop-again : tie.Need-loop-again Inv-loop μ-loop
 loop-again c = let b = c .before .before .before .before .before .before in let e = c .before .match .keys1 in
     on b (rack-made (s b) (x b) e)
 
 loop-less-2 : tie.Need-loop-less-2 Inv-loop μ-loop
-loop-less-2 c = let b = c .before .before .before .before .before .before .before in let z = size b in omega (arith, z .0, z .1, c .before .before .before .before .before .before .before .before .before .before .before .loop-test .taken)
+loop-less-2 c = less (c .before .before .before .before .before .before .before)
 
 loop-again-2 : tie.Need-loop-again-2 Inv-loop μ-loop
 loop-again-2 c = let b = c .before .before .before .before .before .before .before in let e = c .before .before .match .keys2 in
     on b (drop-made (s b) (x b) e _ (c .put .ensures))
 
 loop-less-3 : tie.Need-loop-less-3 Inv-loop μ-loop
-loop-less-3 c = let b = c .before .before .before .before .before .before .before .before .before .before .before .before .before in let z = size b in omega (arith, z .0, z .1, c .before .before .before .before .before .before .before .before .before .before .before .before .before .before .before .before .before .loop-test .taken)
+loop-less-3 c = less (c .before .before .before .before .before .before .before .before .before .before .before .before .before)
 
 loop-again-3 : tie.Need-loop-again-3 Inv-loop μ-loop
 loop-again-3 c = let b = c .before .before .before .before .before .before .before .before .before .before .before .before .before in let e = c .before .before .before .before .before .before .before .before .match .keys3 in
     on b (xfer-made (s b) (x b) e _ (c .before .before .before .before .before .transfer .ensures .0) (c .before .before .before .before .if2 .left) _ _ (c .before .before .before .before .before .transfer .ensures .1) (c .attachments-moved .ensures))
 
 loop-less-4 : tie.Need-loop-less-4 Inv-loop μ-loop
-loop-less-4 c = let b = c .before .before .before .before .before .before .before .before .before .before .before .before in let z = size b in omega (arith, z .0, z .1, c .before .before .before .before .before .before .before .before .before .before .before .before .before .before .before .before .loop-test .taken)
+loop-less-4 c = less (c .before .before .before .before .before .before .before .before .before .before .before .before)
 
 loop-again-4 : tie.Need-loop-again-4 Inv-loop μ-loop
 loop-again-4 c = let b = c .before .before .before .before .before .before .before .before .before .before .before .before in let e = c .before .before .before .before .before .before .before .match .keys3 in
     on b (xfer-made (s b) (x b) e _ (c .before .before .before .before .transfer .ensures .0) (c .before .before .before .if2 .left) _ _ (c .before .before .before .before .transfer .ensures .1) (unmoved (x b .at) (x b .to) (s b .carriers) (sym (c .before .any-attached .ensures) ∙ c .if3 .left)))
 
 loop-less-5 : tie.Need-loop-less-5 Inv-loop μ-loop
-loop-less-5 c = let b = c .before .before .before .before .before .before .before .before .before .before in let z = size b in omega (arith, z .0, z .1, c .before .before .before .before .before .before .before .before .before .before .before .before .before .before .loop-test .taken)
+loop-less-5 c = less (c .before .before .before .before .before .before .before .before .before .before)
 
 loop-again-5 : tie.Need-loop-again-5 Inv-loop μ-loop
 loop-again-5 c = let b = c .before .before .before .before .before .before .before .before .before .before in let e = c .before .before .before .before .before .match .keys4 in
-    on b (in-made (s b) (x b) e (c .before .if4 .left) _ (c .enter .ensures))
+    on b (in-made (s b) (x b) _ e (c .before .before .asked .ensures) (c .before .if4 .left) _ (c .enter .ensures))
 
 loop-less-6 : tie.Need-loop-less-6 Inv-loop μ-loop
-loop-less-6 c = let b = c .before .before .before .before .before .before .before .before .before .before .before in let z = size b in omega (arith, z .0, z .1, c .before .before .before .before .before .before .before .before .before .before .before .before .before .before .before .loop-test .taken)
+loop-less-6 c = less (c .before .before .before .before .before .before .before .before .before .before)
 
 loop-again-6 : tie.Need-loop-again-6 Inv-loop μ-loop
-loop-again-6 c = let b = c .before .before .before .before .before .before .before .before .before .before .before in let e = c .before .before .before .before .before .before .match .keys5 in
-    on b (out-made (s b) (x b) _ _ (c .before .before .parked .ensures) e (c .before .before .before .exit .ensures) (c .before .if5 .left) _ (c .inactive .ensures))
+loop-again-6 c = let b = c .before .before .before .before .before .before .before .before .before .before in let e = c .before .before .before .before .before .match .keys5 in
+    on b (out-made (s b) (x b) _ e (c .before .before .asked2 .ensures) (c .before .if5 .left) _ (c .inactive .ensures))
 
 loop-less-7 : tie.Need-loop-less-7 Inv-loop μ-loop
-loop-less-7 c = let b = c .before .before .before .before .before .before .before .before .before .before .before in let z = size b in omega (arith, z .0, z .1, c .before .before .before .before .before .before .before .before .before .before .before .before .before .before .before .loop-test .taken)
+loop-less-7 c = less (c .before .before .before .before .before .before .before .before .before .before)
 
 loop-again-7 : tie.Need-loop-again-7 Inv-loop μ-loop
-loop-again-7 c = let b = c .before .before .before .before .before .before .before .before .before .before .before in let e = c .before .before .before .before .before .before .match .keys6 in
-    on b (miss-made (s b) (x b) _ _ (c .before .before .parked2 .ensures) e (c .before .before .before .entry .ensures) (c .before .if6 .left) _ (c .pass .ensures))
+loop-again-7 c = let b = c .before .before .before .before .before .before .before .before .before .before in let e = c .before .before .before .before .before .match .keys6 in
+    on b (miss-made (s b) (x b) _ e (c .before .before .asked3 .ensures) (c .before .if6 .left) _ (c .pass .ensures))
 
 loop-less-8 : tie.Need-loop-less-8 Inv-loop μ-loop
-loop-less-8 c = let b = c .before .before .before .before .before .before .before .before .before .before .before .before .before .before .before in let z = size b in omega (arith, z .0, z .1, c .before .before .before .before .before .before .before .before .before .before .before .before .before .before .before .before .before .before .before .loop-test .taken)
+loop-less-8 c = less (c .before .before .before .before .before .before .before .before .before .before .before .before .before)
 
 loop-again-8 : tie.Need-loop-again-8 Inv-loop μ-loop
-loop-again-8 c = let b = c .before .before .before .before .before .before .before .before .before .before .before .before .before .before .before in let no = c .before .before .before .before .before .before .before .before .before .before .match .rest in let p = seven (x b .kind) (c .before .before .before .before .before .before .before .before .before .if7 .left) (no .0 .0 .0 .0 .0 .1) (no .0 .0 .0 .0 .1) (no .0 .0 .0 .1) (no .0 .0 .1) (no .0 .1) (no .1) in let q : x b .kind ≤ 8 = omega (arith, c .before .before .before .before .before .before .before .before .if8 .taken) in
-    on b (form-made (s b) (x b) _ (c .before .before .before .before .before .ready .ensures) (c .before .before .before .before .if9 .left) _ (c .attach .ensures) _ p q (c .before .before .form .ensures .0) (c .before .if10 .left) _ (c .before .before .form .ensures .1))
+loop-again-8 c = let b = c .before .before .before .before .before .before .before .before .before .before .before .before .before in let e = c .before .before .before .before .before .before .before .before .match .keys7 in
+    on b (tuck-done (s b) (x b) e _ (c .before .before .before .before .before .asked4 .ensures) (c .before .before .before .before .if7 .left) _ (c .before .before .tuck .ensures .0) (c .before .if8 .left) _ (c .attach .ensures) _ (c .before .before .tuck .ensures .1))
 
 loop-less-9 : tie.Need-loop-less-9 Inv-loop μ-loop
-loop-less-9 c = let b = c .before .before .before .before .before .before .before .before .before .before .before .before .before .before .before .before .before .before .before in let z = size b in omega (arith, z .0, z .1, c .before .before .before .before .before .before .before .before .before .before .before .before .before .before .before .before .before .before .before .before .before .before .before .loop-test .taken)
+loop-less-9 c = less (c .before .before .before .before .before .before .before .before .before .before .before .before)
 
 loop-again-9 : tie.Need-loop-again-9 Inv-loop μ-loop
-loop-again-9 c = let b = c .before .before .before .before .before .before .before .before .before .before .before .before .before .before .before .before .before .before .before in let i = known b in let e = nine i (⊎-elim {C = 8 < x b .kind} (λ w. omega (arith, i .low)) (λ w. omega arith) (c .before .before .before .before .before .before .before .before .before .before .before .before .before .if7 .came)) in
-    on b (split-made (s b) (x b) _ (c .before .before .before .before .before .before .before .before .before .ready2 .ensures) (c .before .before .before .before .before .before .before .before .if11 .left) _ (c .before .before .before .before .attach2 .ensures) _ e (c .before .before .before .before .before .before .transfer2 .ensures .0) (c .before .before .before .before .before .if12 .left) _ _ (c .before .before .before .before .before .before .transfer2 .ensures .1) (c .attachments-moved2 .ensures))
+loop-again-9 c = let b = c .before .before .before .before .before .before .before .before .before .before .before .before in let e = c .before .before .before .before .before .before .before .match .keys8 in
+    on b (knit-made (s b) (x b) _ e (c .before .before .before .before .asked5 .ensures) (c .before .before .before .if9 .left) _ (c .attach2 .ensures) _ (c .before .put2 .ensures))
 
 loop-less-10 : tie.Need-loop-less-10 Inv-loop μ-loop
-loop-less-10 c = let b = c .before .before .before .before .before .before .before .before .before .before .before .before .before .before .before .before .before .before in let z = size b in omega (arith, z .0, z .1, c .before .before .before .before .before .before .before .before .before .before .before .before .before .before .before .before .before .before .before .before .before .before .loop-test .taken)
+loop-less-10 c = less (c .before .before .before .before .before .before .before .before .before .before .before .before .before .before .before .before .before .before)
 
 loop-again-10 : tie.Need-loop-again-10 Inv-loop μ-loop
-loop-again-10 c = let b = c .before .before .before .before .before .before .before .before .before .before .before .before .before .before .before .before .before .before in let i = known b in let e = nine i (⊎-elim {C = 8 < x b .kind} (λ w. omega (arith, i .low)) (λ w. omega arith) (c .before .before .before .before .before .before .before .before .before .before .before .before .if7 .came)) in
-    on b (split-made (s b) (x b) _ (c .before .before .before .before .before .before .before .before .ready2 .ensures) (c .before .before .before .before .before .before .before .if11 .left) _ (c .before .before .before .attach2 .ensures) _ e (c .before .before .before .before .before .transfer2 .ensures .0) (c .before .before .before .before .if12 .left) _ _ (c .before .before .before .before .before .transfer2 .ensures .1) (unmoved (x b .at) (x b .to) (s b .carriers) (sym (c .before .any-attached2 .ensures) ∙ c .if13 .left)))
+loop-again-10 c = let b = c .before .before .before .before .before .before .before .before .before .before .before .before .before .before .before .before .before .before in let no = c .before .before .before .before .before .before .before .before .before .before .before .before .before .match .rest in let e = nine (known b) (no .0 .0 .0 .0 .0 .0 .0 .1) (no .0 .0 .0 .0 .0 .0 .1) (no .0 .0 .0 .0 .0 .1) (no .0 .0 .0 .0 .1) (no .0 .0 .0 .1) (no .0 .0 .1) (no .0 .1) (no .1) in
+    on b (split-made (s b) (x b) e _ (c .before .before .before .before .before .before .before .before .before .asked6 .ensures) (c .before .before .before .before .before .before .before .before .if10 .left) _ (c .before .before .before .before .before .before .transfer2 .ensures .0) (c .before .before .before .before .before .if11 .left) _ (c .before .before .before .before .attach3 .ensures) _ _ (c .before .before .before .before .before .before .transfer2 .ensures .1) (c .attachments-moved2 .ensures))
 
-stop-requires-10 : tie.Need-stop-requires-10 Inv-loop μ-loop
-stop-requires-10 c κs = search needs
+loop-less-11 : tie.Need-loop-less-11 Inv-loop μ-loop
+loop-less-11 c = less (c .before .before .before .before .before .before .before .before .before .before .before .before .before .before .before .before .before)
 
-returns-10 : tie.Need-returns-10 Inv-loop μ-loop
-returns-10 c = c .stop10 .ensures ∙ ended (c .before .before .before .before .args .state) (c .before .before .before .before .args .program .now) (c .before .before .loop .at) (c .before .before .loop .st) (omega arith) (c .before .before .loop .inv .1)
+loop-again-11 : tie.Need-loop-again-11 Inv-loop μ-loop
+loop-again-11 c = let b = c .before .before .before .before .before .before .before .before .before .before .before .before .before .before .before .before .before in let no = c .before .before .before .before .before .before .before .before .before .before .before .before .match .rest in let e = nine (known b) (no .0 .0 .0 .0 .0 .0 .0 .1) (no .0 .0 .0 .0 .0 .0 .1) (no .0 .0 .0 .0 .0 .1) (no .0 .0 .0 .0 .1) (no .0 .0 .0 .1) (no .0 .0 .1) (no .0 .1) (no .1) in
+    on b (split-made (s b) (x b) e _ (c .before .before .before .before .before .before .before .before .asked6 .ensures) (c .before .before .before .before .before .before .before .if10 .left) _ (c .before .before .before .before .before .transfer2 .ensures .0) (c .before .before .before .before .if11 .left) _ (c .before .before .before .attach3 .ensures) _ _ (c .before .before .before .before .before .transfer2 .ensures .1) (unmoved (x b .at) (x b .to) (s b .carriers) (sym (c .before .any-attached2 .ensures) ∙ c .if12 .left)))
+
+stop-requires-11 : tie.Need-stop-requires-11 Inv-loop μ-loop
+stop-requires-11 c κs = search needs
+
+returns-11 : tie.Need-returns-11 Inv-loop μ-loop
+returns-11 c = c .stop11 .ensures ∙ ended (c .before .before .before .before .args .state) (c .before .before .before .before .args .program .now) (c .before .before .loop .at) (c .before .before .loop .st) (omega arith) (c .before .before .loop .inv .1)
 
 pub run-from-spec : {M : Type 1} → statement M
 run-from-spec =
@@ -393,6 +438,7 @@ run-from-spec =
     sub-k
     mul-c
     element-copy-out-c
+    asked-requires
     stop-requires-3
     returns-3
     enter-requires
@@ -402,8 +448,7 @@ run-from-spec =
     sub-k-2
     mul-c-2
     element-copy-out-c-2
-    exit-requires
-    parked-requires
+    asked-requires-2
     stop-requires-4
     returns-4
     inactive-requires
@@ -413,8 +458,7 @@ run-from-spec =
     sub-k-3
     mul-c-3
     element-copy-out-c-3
-    entry-requires
-    parked-requires-2
+    asked-requires-3
     stop-requires-5
     returns-5
     pass-requires
@@ -424,10 +468,10 @@ run-from-spec =
     sub-k-4
     mul-c-4
     element-copy-out-c-4
-    ready-requires
+    asked-requires-4
     stop-requires-6
     returns-6
-    form-requires
+    tuck-requires
     stop-requires-7
     returns-7
     attach-requires
@@ -437,19 +481,30 @@ run-from-spec =
     sub-k-5
     mul-c-5
     element-copy-out-c-5
-    ready-requires-2
+    asked-requires-5
     stop-requires-8
     returns-8
-    transfer-requires-2
+    put-requires-2
+    attach-requires-2
+    mul-then-5
+    element-set-from-then-5
+    cast-k-6
+    sub-k-6
+    mul-c-6
+    element-copy-out-c-6
+    asked-requires-6
     stop-requires-9
     returns-9
-    attach-requires-2
+    transfer-requires-2
+    stop-requires-10
+    returns-10
+    attach-requires-3
     any-attached-requires-2
     attachments-moved-requires-2
     mul-ds
     array-set-from-ds
-    mul-then-5
-    element-set-from-then-5
+    mul-then-6
+    element-set-from-then-6
     loop-less
     loop-again
     loop-less-2
@@ -470,5 +525,7 @@ run-from-spec =
     loop-again-9
     loop-less-10
     loop-again-10
-    stop-requires-10
-    returns-10)
+    loop-less-11
+    loop-again-11
+    stop-requires-11
+    returns-11)
