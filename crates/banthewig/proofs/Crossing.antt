@@ -19,10 +19,10 @@ use Rattle.panel.proofs.Served.Laws as served
 
 -- a struct's size and alignment; field k, of a type, begins so many bytes from the front
 pub record Laid (τ : Ty) (bytes boundary : ℕ) : Type 0 where
-  pub size-is : size τ ≡ bytes
-  pub align-is : align τ ≡ boundary
+  size-is : size τ ≡ bytes
+  align-is : align τ ≡ boundary
 
-abbrev pub FieldAt : Ty → ℕ → Ty → ℕ → Type 0
+abbrev FieldAt : Ty → ℕ → Ty → ℕ → Type 0
 FieldAt τ k σ at = fieldOf τ k ≡ some (σ, at)
 
 -- slot, racking: one number; needle: bed, number

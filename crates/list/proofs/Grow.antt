@@ -9,7 +9,7 @@ use lib.Seq.{take-all, take-length, take-suc-set, take-append-seam, drop-set-lt,
 use Rattle.list.specs.Grown.{Grown}
 
 -- what was cut off once need not be cut off before
-pub cut-cut : (n : ℕ) (l m : List ℕ) → take n (take n l ++ m) ≡ take n (l ++ m)
+cut-cut : (n : ℕ) (l m : List ℕ) → take n (take n l ++ m) ≡ take n (l ++ m)
 cut-cut zero l m = refl
 cut-cut (suc n) [] m = refl
 cut-cut (suc n) (x ∷ l) m = ap (λ (k : List ℕ). x ∷ k) (cut-cut n l m)

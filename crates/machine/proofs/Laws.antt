@@ -1,4 +1,5 @@
 -- Laws of the machine's definitions: how far columns reach, and the empty state. Assumes nothing.
+use borrow.Table.Steps.{cases}
 use Prim.Native.Nat.{ℕ, _+_, _<_, _≤_}
 use mathlib.Core.Path.{_≡_, refl, sym, ap, subst, _∙_}
 use mathlib.Core.Bool.{Bool, true, false, _&&_, not, cond}
@@ -67,11 +68,6 @@ module _ (a b : ℤ) (h : mag a < 2147483648) (k : mag b < 2147483648) where
   pub difference-is : toZ w64 (ofZ w64 (wide a -ℤ wide b)) ≡ a -ℤ b
   difference-is = toZ-ofZ difference-fits ∙ simp (cast-back w32 w64 a h (omega arith), cast-back w32 w64 b k (omega arith))
 
--- a case by a test
-pub by : {G : Type 0} (b : Bool) → (b ≡ true → G) → (b ≡ false → G) → G
-by true f g = f refl
-by false f g = g refl
-
 -- a walk along a list
 module _ {A : Type 0} (p : A → Bool) where
   pub all-next : (l : List A) (i : ℕ) (d : A) → i < length l → all p (drop i l) ≡ (p (getD l i d) && all p (drop (i + 1) l))
@@ -90,15 +86,20 @@ and-right : (a b : Bool) → (a && b) ≡ true → b ≡ true
 and-right true b e = e
 and-right false b e = absurd (subst (λ (t : Bool). cond t ⊥ ℕ) e 0)
 
-still : (a b : Needle) (c : Carrier) → not (attachedAt a c) ≡ true → movedTo a b c ≡ c
-unfolding movedTo
-still a b c e = simp (not-true (attachedAt a c) e)
+and-false : (t : Bool) → (t && false) ≡ false
+and-false true = refl
+and-false false = refl
 
--- where nothing is attached, nothing moves
-pub none-moved : (a b : Needle) (l : List Carrier) → all (λ (c : Carrier). not (attachedAt a c)) l ≡ true → map (movedTo a b) l ≡ l
+-- a carrier that names no needle of the number
+still : (a b : Needle) (c : Carrier) → not (eqb (c .needle .1) (a .1)) ≡ true → movedTo a b c ≡ c
+unfolding movedTo attachedAt sameNeedle
+still a b c e = simp (not-true (eqb (c .needle .1) (a .1)) e, and-false (eqb (c .needle .0) (a .0)), and-false (not (eqb (c .side) 0)))
+
+-- where no carrier names it, nothing moves
+pub none-moved : (a b : Needle) (l : List Carrier) → all (λ (c : Carrier). not (eqb (c .needle .1) (a .1))) l ≡ true → map (movedTo a b) l ≡ l
 unfolding all
 none-moved a b [] e = refl
-none-moved a b (c ∷ l) e = cc (still a b c (and-left (not (attachedAt a c)) _ e), none-moved a b l (and-right (not (attachedAt a c)) _ e))
+none-moved a b (c ∷ l) e = cc (still a b c (and-left (not (eqb (c .needle .1) (a .1))) _ e), none-moved a b l (and-right (not (eqb (c .needle .1) (a .1))) _ e))
 
 all-one : {A : Type 0} (p : A → Bool) (a : A) → ((x : A) → p x ≡ true → x ≡ a) → (l : List A) → all p l ≡ true → l ≡ replicate (length l) a
 unfolding all
@@ -147,15 +148,12 @@ unfolding slotOk
 slot-in (pos n) = refl
 slot-in (negsuc n) = sym (and-true (leb n 7))
 
--- tests by 0
+-- none: at most 0
 pub none-leb : (n : ℕ) → eqb n 0 ≡ leb n 0
-none-leb n = by (eqb n 0) (λ e. simp (eqb-true n 0 e)) (λ e. e ∙ sym (lt-leb n 0 (positive n e)))
+none-leb n = cases (eqb n 0) (λ e. simp (eqb-true n 0 e)) (λ e. e ∙ sym (lt-leb n 0 (positive n e)))
   where
     positive : (n : ℕ) → eqb n 0 ≡ false → 0 < n
     positive n e = let h = eqb-false n 0 e in omega arith
-
-pub some-leb : (n : ℕ) → ltb 0 n ≡ not (leb n 0)
-some-leb n = by (ltb 0 n) (λ e. let h = ltb-true 0 n e in e ∙ sym (ap not (lt-leb n 0 h))) (λ e. let h = ltb-false 0 n e in e ∙ sym (ap not (le-leb n 0 h)))
 
 -- no loop on any hook: none over 0
 pub none-over : (l : List ℕ) → all (λ (n : ℕ). eqb n 0) l ≡ all (λ (n : ℕ). leb n 0) l
@@ -163,28 +161,11 @@ unfolding all
 none-over [] = refl
 none-over (n ∷ l) = simp (none-leb n, none-over l)
 
--- not attached at a needle: no side there
-pub side-none : (n : Needle) (c : Carrier) → not (attachedAt n c) ≡ leb (cond (sameNeedle (c .needle) n) (c .side) 0) 0
-unfolding attachedAt
-side-none n c = by (sameNeedle (c .needle) n) (λ e. simp e (at (eqb (c .side) 0) (none-leb (c .side)))) (λ e. simp e (off (eqb (c .side) 0)))
-  where
-    at : (t : Bool) → t ≡ leb (c .side) 0 → not (not t && true) ≡ leb (c .side) 0
-    at true e = e
-    at false e = e
-
-    off : (t : Bool) → not (not t && false) ≡ true
-    off true = refl
-    off false = refl
-
 -- the larger of two is at most b exactly if both are
 larger-leb : (b a v : ℕ) → leb (cond (ltb a v) v a) b ≡ (leb a b && leb v b)
 larger-leb b a v =
-    by (ltb a v) (λ t. let h = ltb-true a v t in simp t (by (leb v b) (λ u. let k = leb-true v b u in simp (u, le-leb a b (omega arith))) (λ u. simp (u, and-false (leb a b)))))
-    (λ t. let h = ltb-false a v t in simp t (by (leb a b) (λ u. let k = leb-true a b u in simp (u, le-leb v b (omega arith))) (λ u. simp u)))
-  where
-    and-false : (t : Bool) → (t && false) ≡ false
-    and-false true = refl
-    and-false false = refl
+    cases (ltb a v) (λ t. let h = ltb-true a v t in simp t (cases (leb v b) (λ u. let k = leb-true v b u in simp (u, le-leb a b (omega arith))) (λ u. simp (u, and-false (leb a b)))))
+    (λ t. let h = ltb-false a v t in simp t (cases (leb a b) (λ u. let k = leb-true a b u in simp (u, le-leb v b (omega arith))) (λ u. simp u)))
 
 and-assoc : (a b d : Bool) → ((a && b) && d) ≡ (a && (b && d))
 and-assoc true b d = refl

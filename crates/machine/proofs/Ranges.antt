@@ -1,4 +1,5 @@
 -- States in range: the test is true exactly of them, the empty state is one, and what a step makes of a slot, a carrier or a list stays in range. Assumes nothing.
+use borrow.Table.Steps.{cases}
 use Prim.Native.Nat.{ℕ, zero, suc, _+_, _≤_}
 use mathlib.Core.Path.{_≡_, refl, ap}
 use mathlib.Core.Bool.{Bool, true, false, _&&_, not, cond}
@@ -16,11 +17,11 @@ use Rattle.machine.specs.Geometry.{eqZ, columnOf, entryOf, exitOf}
 use Rattle.machine.specs.Machine.{OnBed, all, attachedAt, movedTo, sameNeedle, inactive, inactiveCarrier, emptyState}
 use Rattle.machine.specs.Range.{SlotInRange, CarrierInRange, StateInRange, slotOk, rackingOk, numberOk, onBed, attachmentOk, carrierOk, stateOk, RangeExactly}
 use Rattle.machine.proofs.Signed.{up, dn, sum}
-use Rattle.machine.proofs.Laws.{by, and-two, inactive-is}
+use Rattle.machine.proofs.Laws.{and-two, inactive-is}
 
 -- ---- what holds of every element of a list, and past its end
 module _ {A : Type 0} (P : A → Type 0) (d : A) where
-  abbrev pub Every : List A → Type 0
+  abbrev Every : List A → Type 0
   Every l = (i : ℕ) → P (getD l i d)
 
   -- a store and a map keep it, and a list of one value has it
@@ -36,20 +37,20 @@ module _ {A : Type 0} (P : A → Type 0) (d : A) where
   every-map f k (x ∷ l) h zero = k x (h zero)
   every-map f k (x ∷ l) h (suc i) = every-map f k l (λ j. h (suc j)) i
 
-  pub every-replicate : (n : ℕ) → P d → Every (replicate n d)
+  every-replicate : (n : ℕ) → P d → Every (replicate n d)
   every-replicate zero p i = p
   every-replicate (suc n) p zero = p
   every-replicate (suc n) p (suc i) = every-replicate n p i
 
   -- a test of every element
   module _ (p : A → Bool) where
-    pub all-every : ((x : A) → p x ≡ true → P x) → P d → (l : List A) → all p l ≡ true → Every l
+    all-every : ((x : A) → p x ≡ true → P x) → P d → (l : List A) → all p l ≡ true → Every l
     unfolding all
     all-every k h [] e i = h
     all-every k h (x ∷ l) e zero = k x (and-two (p x) (all p l) e .0)
     all-every k h (x ∷ l) e (suc i) = all-every k h l (and-two (p x) (all p l) e .1) i
 
-    pub every-all : ((x : A) → P x → p x ≡ true) → (l : List A) → Every l → all p l ≡ true
+    every-all : ((x : A) → P x → p x ≡ true) → (l : List A) → Every l → all p l ≡ true
     unfolding all
     every-all k [] h = refl
     every-all k (x ∷ l) h = simp (k x (h zero), every-all k l (λ j. h (suc j)))
@@ -123,10 +124,10 @@ no-needle a b e = let (p, q) = and-two (eqb a 0) (eqb b 0) e in simp (eqb-true a
 carrier-is : (c : Carrier) → carrierOk c ≡ true → CarrierInRange c
 unfolding carrierOk attachmentOk
 carrier-is c e =
-    by (eqb (c .active) 0) (λ t. CarrierInRange.idle (inactive-is c (simp t at e)))
+    cases (eqb (c .active) 0) (λ t. CarrierInRange.idle (inactive-is c (simp t at e)))
     (λ t. let (a, f) = and-two (eqb (c .active) 1) _ (simp t at e) in
     let (z, g) = and-two (slotOk (c .slot .0)) _ f in
-    by (eqb (c .side) 0)
+    cases (eqb (c .side) 0)
     (λ u. CarrierInRange.unattached (eqb-true (c .active) 1 a) (slot-is (c .slot .0) z) (eqb-true (c .side) 0 u) (no-needle (c .needle .0) (c .needle .1) (simp u at g)))
     (λ u. let (m, n) = and-two (leb (c .side) 2) _ (simp u at g) in
     CarrierInRange.attached (eqb-true (c .active) 1 a) (slot-is (c .slot .0) z) (omega (arith, eqb-false (c .side) 0 u)) (leb-true (c .side) 2 m) (bed-is (c .needle) n)))
@@ -150,7 +151,7 @@ moved n c b h (CarrierInRange.attached a z u v m) = CarrierInRange.attached a z 
 pub moved-in : (from to : Needle) → OnBed to → (c : Carrier) → CarrierInRange c → CarrierInRange (movedTo from to c)
 unfolding movedTo attachedAt
 moved-in from to b c k =
-    by (attachedAt from c)
+    cases (attachedAt from c)
     (λ t. simp t (moved to c b (eqb-false (c .side) 0 (not-true (eqb (c .side) 0) (and-two (not (eqb (c .side) 0)) (sameNeedle (c .needle) from) t .0))) k))
     (λ t. simp t k)
 

@@ -143,7 +143,7 @@ neg-mag a = go (negℤ a) (up-neg a) (dn-neg a)
     go (pos n) p q = omega (arith, dn-mag a)
     go (negsuc n) p q = omega (arith, up-mag a)
 
-pub mag-difference : (a b : ℤ) → mag (a -ℤ b) ≤ mag a + mag b + 2
+mag-difference : (a b : ℤ) → mag (a -ℤ b) ≤ mag a + mag b + 2
 mag-difference a b = omega (arith, mag-sum a (negℤ b), neg-mag b)
 
 pub and-true : (t : Bool) → (t && true) ≡ t

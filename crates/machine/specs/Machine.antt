@@ -54,9 +54,9 @@ attachedAt n c = not (eqb (c .side) 0) && sameNeedle (c .needle) n
 unfoldable pub movedTo : Needle → Needle → Carrier → Carrier
 movedTo from to c = cond (attachedAt from c) (record { active = c .active; side = c .side; slot = c .slot; needle = to }) c
 
--- whether one is attached at the needle: the code then moves attachments, and else need not
-abbrev pub anyAttached : Needle → List Carrier → Bool
-anyAttached n l = not (all (λ (c : Carrier). not (attachedAt n c)) l)
+-- whether a carrier names a needle of this number, on either bed, attached or not: where none does, code need not move attachments
+abbrev pub anyBeside : Needle → List Carrier → Bool
+anyBeside n l = not (all (λ (c : Carrier). not (eqb (c .needle .1) (n .1))) l)
 
 -- no loop on any hook; every carrier the inactive one, 0 in every field
 abbrev pub noLoops : List ℕ → Bool

@@ -4,7 +4,7 @@ ghost use Prim.Native.Nat.{ℕ};
 ghost use mathlib.Core.Bool.{cond};
 ghost use mathlib.Core.List.{map};
 ghost use lib.Dec.{leb, ltb};
-ghost use Rattle.machine.specs.Machine.{OnBed, inactive, emptyState, hookOf, sameNeedle, attachedAt, movedTo, anyAttached, all, Most, noLoops, inactiveCarrier, allInactive, completeOf};
+ghost use Rattle.machine.specs.Machine.{OnBed, inactive, emptyState, hookOf, sameNeedle, attachedAt, movedTo, anyBeside, all, Most, noLoops, inactiveCarrier, allInactive, completeOf};
 ghost use Rattle.machine.specs.Geometry.{columnOf, entryOf, exitOf, sameColumn, withinFloat};
 ghost use Rattle.machine.specs.Range.{rackingOk, slotOk, onBed, attachmentOk, carrierOk, stateOk};
 
@@ -231,7 +231,7 @@ impl Carrier {
     }
 
     // Whether every field is an inactive carrier's.
-    pub fn is_inactive(self) -> bool
+    fn is_inactive(self) -> bool
         ensures { λ b. ⌜ b ≡ inactiveCarrier self ⌝ }
     {
         let z = self.slot;
@@ -285,16 +285,8 @@ impl Carrier {
         self.attachment_in_range()
     }
 
-    // The attachment's side where it is at the needle, else 0.
-    fn side_at(self, n: Needle) -> u8
-        ensures { λ k. ⌜ k ≡ cond (sameNeedle (self .needle) n) (self .side) 0 ⌝ }
-    {
-        let here = self.needle;
-        if here.equals(n) { self.side } else { 0 }
-    }
-
     // Whether the carrier is attached at the needle.
-    pub fn attached_at(self, n: Needle) -> bool
+    fn attached_at(self, n: Needle) -> bool
         ensures { λ b. ⌜ b ≡ attachedAt n self ⌝ }
     {
         if self.side == 0 {
@@ -305,7 +297,7 @@ impl Carrier {
     }
 
     // The carrier after the loops at `from` went to `to`: an attachment there goes with them, its side kept.
-    pub fn moved(self, from: Needle, to: Needle) -> Carrier
+    fn moved(self, from: Needle, to: Needle) -> Carrier
         ensures { λ c. ⌜ c ≡ movedTo from to self ⌝ }
     {
         if self.attached_at(from) {
@@ -371,7 +363,7 @@ fn carriers_in_range(carriers: [Carrier; State::CARRIERS]) -> bool
 }
 
 // Whether every carrier is the inactive one, 0 in every field.
-pub fn all_inactive(carriers: [Carrier; State::CARRIERS]) -> bool
+fn all_inactive(carriers: [Carrier; State::CARRIERS]) -> bool
     ensures { λ b. ⌜ b ≡ allInactive carriers ⌝ }
 {
     let mut k = 0;
@@ -385,18 +377,19 @@ pub fn all_inactive(carriers: [Carrier; State::CARRIERS]) -> bool
     true
 }
 
-// Whether a carrier is attached at the needle. (No early end, as for the loops.)
-pub fn any_attached(carriers: [Carrier; State::CARRIERS], n: Needle) -> bool
-    ensures { λ b. ⌜ b ≡ anyAttached n carriers ⌝ }
+// Whether a carrier names a needle of this number, on either bed: else none is attached at the needle, and none moves with
+// its loops. (One comparison a carrier; most transfers have none.)
+pub fn any_beside(carriers: [Carrier; State::CARRIERS], n: Needle) -> bool
+    ensures { λ b. ⌜ b ≡ anyBeside n carriers ⌝ }
 {
-    let mut most = 0;
     let mut k = 0;
     while k < State::CARRIERS {
-        let c = carriers[k];
-        most = larger(most, c.side_at(n));
+        if carriers[k].needle.1 == n.1 {
+            return true;
+        }
         k += 1;
     }
-    0 < most
+    false
 }
 
 // The carriers after the loops at `from` went to `to`.

@@ -1,4 +1,5 @@
 -- The claims of the panel's services. Assumes nothing.
+use borrow.Table.Steps.{cases}
 use Prim.Native.Nat.{ℕ, _-_, _≤_}
 use mathlib.Core.Path.{_≡_, refl, sym, ap, subst, _∙_}
 use mathlib.Core.Bool.{true, false}
@@ -11,7 +12,6 @@ use Rattle.machine.specs.declared.State.{State}
 use Rattle.machine.specs.Geometry.{eqZ}
 use Rattle.machine.specs.Machine.{inactive, emptyState, all, inactiveCarrier}
 use Rattle.machine.specs.Range.{StateInRange, slotOk, attachmentOk, carrierOk, stateOk}
-use Rattle.machine.proofs.Laws.{by}
 use Rattle.machine.proofs.Ranges.{range-exactly}
 use Rattle.record.specs.Format.{refusedAs, decodeOf}
 use Rattle.run.specs.declared.Stepped.{Stepped}
@@ -33,7 +33,7 @@ fine : {s : State} → StateInRange s → stateOk s ≡ true
 fine {s} h = range-exactly s .1 h
 
 either : {G : Type 0} (s : State) → (StateInRange s → G) → (stateOk s ≡ false → G) → G
-either s f g = by (stateOk s) (λ t. f (range-exactly s .0 t)) g
+either s f g = cases (stateOk s) (λ t. f (range-exactly s .0 t)) g
 
 -- ---- the step's numbers end at 11
 record-small : {n : ℕ} {s : State} {x : _} → RecordReason n s x → n ≤ 11
@@ -68,29 +68,29 @@ list-number e = ap (λ (a : Served). a .number) e
 
 pub list-short-exactly : ListShortExactly
 list-short-exactly s n h = (
-  (λ e. by (ltb n 10) (λ t. ltb-true n 10 t) (λ t. absurd (omega (arith, e, list-number (long-list s n (fine h) (ltb-false n 10 t)))))),
+  (λ e. cases (ltb n 10) (λ t. ltb-true n 10 t) (λ t. absurd (omega (arith, e, list-number (long-list s n (fine h) (ltb-false n 10 t)))))),
   (λ k. list-number (short-list s n (fine h) k)),
 )
 
 pub list-foul-exactly : ListFoulExactly
 list-foul-exactly s n = (
-  (λ e h. by (ltb n 10) (λ t. omega (arith, e, list-number (short-list s n (fine h) (ltb-true n 10 t))))
+  (λ e h. cases (ltb n 10) (λ t. omega (arith, e, list-number (short-list s n (fine h) (ltb-true n 10 t))))
       (λ t. omega (arith, e, list-number (long-list s n (fine h) (ltb-false n 10 t))))),
   (λ h. either s (λ k. absurd (h k)) (λ e. list-number (foul-list s n e))),
 )
 
 pub list-done-exactly : ListDoneExactly
 list-done-exactly s n = (
-  (λ e. by (stateOk s)
-      (λ t. by (ltb n 10) (λ u. absurd (omega (arith, list-number e, list-number (short-list s n t (ltb-true n 10 u))))) (λ u. (range-exactly s .0 t, ltb-false n 10 u)))
+  (λ e. cases (stateOk s)
+      (λ t. cases (ltb n 10) (λ u. absurd (omega (arith, list-number e, list-number (short-list s n t (ltb-true n 10 u))))) (λ u. (range-exactly s .0 t, ltb-false n 10 u)))
       (λ t. absurd (omega (arith, list-number e, list-number (foul-list s n t))))),
   (λ h. long-list s n (fine (h .0)) (h .1)),
 )
 
 pub list-refused-keeps : ListRefusedKeeps
 list-refused-keeps s list d = (
-  by (stateOk s)
-      (λ t. by (ltb (length list) 10) (λ u. ap (λ (a : Served). a .length) (short-list s _ t (ltb-true _ 10 u))) (λ u. absurd (d (list-number (long-list s _ t (ltb-false _ 10 u))))))
+  cases (stateOk s)
+      (λ t. cases (ltb (length list) 10) (λ u. ap (λ (a : Served). a .length) (short-list s _ t (ltb-true _ 10 u))) (λ u. absurd (d (list-number (long-list s _ t (ltb-false _ 10 u))))))
       (λ t. ap (λ (a : Served). a .length) (foul-list s _ t)),
   sym (list-kept s list d),
 )

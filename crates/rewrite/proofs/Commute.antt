@@ -1,4 +1,5 @@
 -- Untied records change places: argued once, over any two records, by what they work and name. Assumes nothing.
+use borrow.Table.Steps.{cases}
 use Prim.Native.Nat.{ℕ, _-_, _≤_}
 use mathlib.Core.Path.{_≡_, refl, sym, ap, _∙_}
 use mathlib.Core.Bool.{Bool, true, false, _&&_, not, cond, true≢false}
@@ -23,7 +24,6 @@ use Rattle.run.specs.Step.{lookOf, Seen, seeOf, orNumber, carrierNo, oppositeNo
 use Rattle.run.specs.Step.{rackingAfter as rackingLeft}
 use Rattle.run.proofs.Premises.{is}
 use Rattle.trace.specs.Machine.{andThen}
-use Rattle.trace.proofs.Tests.{by-test}
 use Rattle.rewrite.specs.Extents.{extentOf, meets, shareCarrier, isRack, rackingAfter}
 use Rattle.rewrite.proofs.Machine.{stepped}
 use Rattle.rewrite.proofs.Edits.{Away, Apart, apart-sym, edit-other, edit-edit, map-at, map-edit, map-map}
@@ -41,22 +41,22 @@ forms : (k : ℕ) → 7 ≤ k → 1 ≤ needleCount k
 unfolding needleCount
 forms k h =
     simp (lt-leb k 1 (omega arith), ne-eqb k 2 (λ e. omega arith), ne-eqb k 3 (λ e. omega arith), lt-leb k 6 (omega arith))
-    (by-test (leb k 8) (λ e. simp e (omega arith)) (λ e. simp e (omega arith)))
+    (cases (leb k 8) (λ e. simp e (omega arith)) (λ e. simp e (omega arith)))
 
 module _ (x : Record) (a b : Seen) (g : Agree x a b) where
   same-carrier : carrierNo x (a .racking) (a .look) ≡ carrierNo x (b .racking) (b .look)
   unfolding carrierNo
-  same-carrier = by-test (leb (x .kind) 3) (λ e. rw e) (λ e. let l = g .look e in rw (e, l, g .racking))
+  same-carrier = cases (leb (x .kind) 3) (λ e. rw e) (λ e. let l = g .look e in rw (e, l, g .racking))
 
   same-first : firstAfter (x .kind) (a .here) ≡ firstAfter (x .kind) (b .here)
   unfolding firstAfter
   same-first =
-      by-test (eqb (x .kind) 7) (λ e. let h = g .here (forms (x .kind) (omega (arith, eqb-true (x .kind) 7 e))) in rw (e, h)) (λ e. rw e)
+      cases (eqb (x .kind) 7) (λ e. let h = g .here (forms (x .kind) (omega (arith, eqb-true (x .kind) 7 e))) in rw (e, h)) (λ e. rw e)
 
   same-second : secondAfter (x .kind) (a .here) (a .there) ≡ secondAfter (x .kind) (b .here) (b .there)
   unfolding secondAfter
   same-second =
-      by-test (eqb (needleCount (x .kind)) 2)
+      cases (eqb (needleCount (x .kind)) 2)
       (λ e. let t = eqb-true (needleCount (x .kind)) 2 e in let h = g .here (omega arith) in let k = g .there t in rw (e, h, k))
       (λ e. rw e)
 
@@ -89,13 +89,13 @@ needle-eq a b e =
     λ i. record { 0 = bed i; 1 = number i }
 
 other-needle : (a b : Needle) → (hookOf a ≡ hookOf b → ⊥) → sameNeedle a b ≡ false
-other-needle a b h = by-test (sameNeedle a b) (λ e. absurd (h (ap hookOf (needle-eq a b e)))) (λ e. e)
+other-needle a b h = cases (sameNeedle a b) (λ e. absurd (h (ap hookOf (needle-eq a b e)))) (λ e. e)
 
 -- a record sees no change where an attachment moves within a column
 look-moved : (r : Racking) (a b : Needle) (c : Carrier) → columnOf a r ≡ columnOf b r → lookOf r (movedTo a b c) ≡ lookOf r c
 unfolding lookOf movedTo attachedAt
 look-moved r a b c e =
-    by-test (attachedAt a c)
+    cases (attachedAt a c)
     (λ g. let (side, here) = and-two (not (eqb (c .side) 0)) (sameNeedle (c .needle) a) g in
     let q : columnOf (c .needle) r ≡ columnOf b r = ap (λ (n : Needle). columnOf n r) (needle-eq (c .needle) a here) ∙ e in
     rw (g, q))
@@ -108,18 +108,18 @@ Free a v = v .keep ≡ false → (not (eqb (v .side) 0) && sameNeedle (v .needle
 moved-acted : (a b : Needle) (v : Act) → Free a v → (c : Carrier) → movedTo a b (acted v c) ≡ acted v (movedTo a b c)
 unfolding movedTo attachedAt acted
 moved-acted a b v f c =
-    by-test (v .keep)
-    (λ k. by-test (attachedAt a c) (λ g. rw (k, g)) (λ g. rw (k, g)))
+    cases (v .keep)
+    (λ k. cases (attachedAt a c) (λ g. rw (k, g)) (λ g. rw (k, g)))
     (λ k. rw (k, f k))
 
 moved-moved : (a b c d : Needle) → sameNeedle a c ≡ false → sameNeedle d a ≡ false → sameNeedle b c ≡ false
     → (k : Carrier) → movedTo a b (movedTo c d k) ≡ movedTo c d (movedTo a b k)
 unfolding movedTo attachedAt
 moved-moved a b c d p q w k =
-    by-test (eqb (k .side) 0) (λ t. simp t)
-    (λ t. by-test (sameNeedle (k .needle) a)
+    cases (eqb (k .side) 0) (λ t. simp t)
+    (λ t. cases (sameNeedle (k .needle) a)
     (λ g. let h : sameNeedle (k .needle) c ≡ false = ap (λ (n : Needle). sameNeedle n c) (needle-eq (k .needle) a g) ∙ p in simp (t, g, h, w))
-    (λ g. by-test (sameNeedle (k .needle) c) (λ h. simp (t, g, h, q)) (λ h. simp (t, g, h))))
+    (λ g. cases (sameNeedle (k .needle) c) (λ h. simp (t, g, h, q)) (λ h. simp (t, g, h))))
 
 and-no : (t : Bool) → (t && false) ≡ false
 and-no true = refl
@@ -128,9 +128,9 @@ and-no false = refl
 act-free : (x : Record) (r : Racking) (a : Needle) → (1 ≤ needleCount (x .kind) → sameNeedle (x .at) a ≡ false) → Free a (actOf x r)
 unfolding actOf
 act-free x r a h =
-    by-test (leb (x .kind) 4) (λ e. rw e (λ k. refl))
-    (λ e. by-test (eqb (x .kind) 5) (λ f. rw (e, f) (λ k. refl))
-    (λ f. by-test (eqb (x .kind) 6) (λ g. rw (e, f, g) (λ k. absurd (true≢false k)))
+    cases (leb (x .kind) 4) (λ e. rw e (λ k. refl))
+    (λ e. cases (eqb (x .kind) 5) (λ f. rw (e, f) (λ k. refl))
+    (λ f. cases (eqb (x .kind) 6) (λ g. rw (e, f, g) (λ k. absurd (true≢false k)))
     (λ g. rw (e, f, g) (λ k. rw (h (forms (x .kind) (omega (arith, leb-false (x .kind) 4 e, eqb-false (x .kind) 5 f, eqb-false (x .kind) 6 g)))) (and-no (not (eqb (cond (x .right) 2 1) 0)))))))
 
 inactive-moved : (a b : Needle) → movedTo a b inactive ≡ inactive
@@ -155,7 +155,7 @@ module _ (s : State) (x y : Record) (C : Clear (s .racking) x y) where
   look-kept : (cs : List Carrier) (i : ℕ) → lookOf (s .racking) (getD (moveAttachments y cs) i inactive) ≡ lookOf (s .racking) (getD cs i inactive)
   unfolding moveAttachments
   look-kept cs i =
-      by-test (eqb (needleCount (y .kind)) 2)
+      cases (eqb (needleCount (y .kind)) 2)
       (λ e. rw e (ap (lookOf (s .racking)) (map-at acted inactive (movedTo (y .at) (y .to)) (inactive-moved (y .at) (y .to)) cs i)
       ∙ look-moved (s .racking) (y .at) (y .to) (getD cs i inactive) (C .opposite (eqb-true (needleCount (y .kind)) 2 e))))
       (λ e. rw e)
@@ -181,7 +181,7 @@ module _ (s : State) (x y : Record) (C : Clear (s .racking) x y) where
       → moveAttachments y (edit acted inactive (placesOf x) (actOf x (s .racking) ∷ []) cs) ≡ edit acted inactive (placesOf x) (actOf x (s .racking) ∷ []) (moveAttachments y cs)
   unfolding moveAttachments
   moves-edit cs =
-      by-test (eqb (needleCount (y .kind)) 2)
+      cases (eqb (needleCount (y .kind)) 2)
       (λ e. let t = eqb-true (needleCount (y .kind)) 2 e in
       rw e (map-edit acted inactive (movedTo (y .at) (y .to)) (inactive-moved (y .at) (y .to)) (placesOf x) (actOf x (s .racking) ∷ []) cs (
         moved-acted (y .at) (y .to) (actOf x (s .racking)) (act-free x (s .racking) (y .at)
@@ -193,8 +193,8 @@ module _ (s : State) (x y : Record) (C : Clear (s .racking) x y) where
   moves-moves : (cs : List Carrier) → moveAttachments x (moveAttachments y cs) ≡ moveAttachments y (moveAttachments x cs)
   unfolding moveAttachments
   moves-moves cs =
-      by-test (eqb (needleCount (x .kind)) 2)
-      (λ e. by-test (eqb (needleCount (y .kind)) 2)
+      cases (eqb (needleCount (x .kind)) 2)
+      (λ e. cases (eqb (needleCount (y .kind)) 2)
       (λ f. let t = eqb-true (needleCount (x .kind)) 2 e in let u = eqb-true (needleCount (y .kind)) 2 f in
       let first = first-away (omega arith) in let second = second-away t in
       rw (e, f) (map-map (movedTo (x .at) (x .to)) (movedTo (y .at) (y .to))
@@ -258,25 +258,25 @@ module _ (s : State) (x y : Record) (C : Clear (s .racking) x y) (D : Clear (s .
   both-stepped : andThen (stepped s x) (λ t. stepped t y) ≡ andThen (stepped s y) (λ t. stepped t x)
   both-stepped =
       let p = same-y in let q = same-x in let e = both-applied in
-      by-test (eqb (numberAt s x) 0)
-      (λ f. by-test (eqb (numberAt s y) 0) (λ g. simp (f, g, p, q, e)) (λ g. simp (f, g, p)))
-      (λ f. by-test (eqb (numberAt s y) 0) (λ g. simp (f, g, q)) (λ g. simp (f, g)))
+      cases (eqb (numberAt s x) 0)
+      (λ f. cases (eqb (numberAt s y) 0) (λ g. simp (f, g, p, q, e)) (λ g. simp (f, g, p)))
+      (λ f. cases (eqb (numberAt s y) 0) (λ g. simp (f, g, q)) (λ g. simp (f, g)))
 
 -- ---- what a record that has its step is
 pub racking-left : (x : Record) (r : Racking) → InRange x → rackingLeft x r ≡ rackingAfter r x
 unfolding rackingLeft
 racking-left x r h =
-    by-test (eqb (x .kind) 1) (λ e. rw (e, le-leb (x .kind) 1 (omega (arith, eqb-true (x .kind) 1 e))))
+    cases (eqb (x .kind) 1) (λ e. rw (e, le-leb (x .kind) 1 (omega (arith, eqb-true (x .kind) 1 e))))
     (λ e. rw (e, lt-leb (x .kind) 1 (omega (arith, h .low, eqb-false (x .kind) 1 e))))
 
 kept-racking : (x : Record) (r : Racking) → InRange x → isRack x ≡ false → rackingLeft x r ≡ r
 kept-racking x r h e = racking-left x r h ∙ simp e
 
 or-left : (a b : ℕ) → orNumber a b ≡ 0 → a ≡ 0
-or-left a b e = by-test (eqb a 0) (λ h. eqb-true a 0 h) (λ h. sym (simp h) ∙ e)
+or-left a b e = cases (eqb a 0) (λ h. eqb-true a 0 h) (λ h. sym (simp h) ∙ e)
 
 or-right : (a b : ℕ) → orNumber a b ≡ 0 → b ≡ 0
-or-right a b e = by-test (eqb a 0) (λ h. sym (simp h) ∙ e) (λ h. absurd (eqb-false a 0 h (sym (simp h) ∙ e)))
+or-right a b e = cases (eqb a 0) (λ h. sym (simp h) ∙ e) (λ h. absurd (eqb-false a 0 h (sym (simp h) ∙ e)))
 
 -- its two needles are opposite, which rests on the racking alone
 number-opposite : (s : State) (x : Record) → numberAt s x ≡ 0 → oppositeNo x (s .racking) ≡ 0
@@ -286,7 +286,7 @@ number-opposite s x e = or-left (oppositeNo x (s .racking)) _ (or-right (carrier
 opposite-columns : (x : Record) (r : Racking) → oppositeNo x r ≡ 0 → needleCount (x .kind) ≡ 2 → columnOf (x .at) r ≡ columnOf (x .to) r
 unfolding oppositeNo sameColumn
 opposite-columns x r e t =
-    by-test (sameColumn (columnOf (x .at) r) (columnOf (x .to) r)) (λ q. let z = eqZ-true (columnOf (x .at) r .0) (columnOf (x .to) r .0) q in λ i. record { 0 = z i })
+    cases (sameColumn (columnOf (x .at) r) (columnOf (x .to) r)) (λ q. let z = eqZ-true (columnOf (x .at) r .0) (columnOf (x .to) r .0) q in λ i. record { 0 = z i })
     (λ q. absurd (ten (sym (simp (eq-eqb (needleCount (x .kind)) 2 t, q)) ∙ e)))
   where
     ten : _≡_ {A = ℕ} 10 0 → ⊥
@@ -312,7 +312,7 @@ refused-both s x y q h =
     let a = refused s x (s .racking) refl h in
     let b = refused (applyOf s y) x (s .racking) (racking-applied s y ∙ q) h in
     ap (λ (o : Option State). andThen o (λ t. stepped t y)) a
-    ∙ by-test (eqb (numberAt s y) 0) (λ e. simp e (sym b)) (λ e. simp e)
+    ∙ cases (eqb (numberAt s y) 0) (λ e. simp e (sym b)) (λ e. simp e)
 
 -- untied records, each with its step or refused, do the same in either order
 pub untied-commute : (s : State) (x y : Record) → InRange x → InRange y → isRack x ≡ false → isRack y ≡ false → shareCarrier x y ≡ false

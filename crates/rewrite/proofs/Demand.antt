@@ -1,4 +1,5 @@
 -- Demand 3: which swaps are made, what every list of calls keeps, and what is reached. Assumes nothing.
+use borrow.Table.Steps.{cases}
 use Prim.Native.Nat.{ℕ, _+_, _*_, _≤_}
 use mathlib.Core.Path.{_≡_, refl, sym, ap, subst, _∙_}
 use mathlib.Core.Bool.{Bool, true, false}
@@ -9,7 +10,6 @@ use Rattle.machine.specs.declared.State.{State}
 use Rattle.machine.specs.declared.Racking.{Racking}
 use Rattle.machine.specs.Machine.{emptyState}
 use Rattle.run.specs.Relation.{Valid}
-use Rattle.trace.proofs.Tests.{by-test}
 use Rattle.trace.specs.Records.{tied}
 use Rattle.trace.specs.Swaps.{made, Swaps, no-swap, swap-first}
 use Rattle.trace.specs.Order.{inForce, SameOrder}
@@ -74,7 +74,7 @@ module _ {p : List ℕ} {t : State} (w : Valid p t) (c : Call) (is rest : List �
         made = swap-made;
         refused = swap-refused;
         thirteen = (
-          (λ (n, k). by-test areTied (λ e. e) (λ e. absurd (omega (arith, later-place e n, k)))),
+          (λ (n, k). cases areTied (λ e. e) (λ e. absurd (omega (arith, later-place e n, k)))),
           (λ e. (ap (λ (r : Rewritten). r .answer .number) (swap-refused e), ap (λ (r : Rewritten). r .answer .place) (swap-refused e))),
         );
       }

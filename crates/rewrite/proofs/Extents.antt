@@ -1,4 +1,5 @@
 -- Extents and ties, read as code tests them. Assumes nothing.
+use borrow.Table.Steps.{cases}
 use Prim.Native.Nat.{ℕ, suc, _+_, _≤_, _<_}
 use mathlib.Core.Path.{_≡_, refl, sym, _∙_}
 use mathlib.Core.Bool.{Bool, true, false, _&&_, _||_}
@@ -18,7 +19,6 @@ use Rattle.record.specs.declared.Record.{Record}
 use Rattle.record.specs.Names.{carriersOf, outlineOf}
 use Rattle.record.proofs.Forms.{cond-cases}
 use Rattle.trace.specs.Records.{tied}
-use Rattle.trace.proofs.Tests.{by-test}
 use Rattle.rewrite.specs.declared.Extent.{Extent}
 use Rattle.rewrite.specs.Extents.{halfColumn, layerOf, narrow, broad, formExtent, extentOf, meets, shareCarrier, isRack}
 use Rattle.rewrite.specs.Programs.{what, knitting}
@@ -172,7 +172,7 @@ meets-near r x y e = near (a -ℤ b) (difference a b)
 pub far-apart : (r : Racking) (x y : Record) → farApart (columnOf (x .at) r) (columnOf (y .at) r) ≡ true → meets (extentOf r x) (extentOf r y) ≡ false
 unfolding farApart
 far-apart r x y e =
-    by-test (meets (extentOf r x) (extentOf r y)) (λ t. absurd (omega (arith, meets-near r x y t, ltb-true 1 (natAbs (columnOf (x .at) r .0 -ℤ columnOf (y .at) r .0)) e))) (λ t. t)
+    cases (meets (extentOf r x) (extentOf r y)) (λ t. absurd (omega (arith, meets-near r x y t, ltb-true 1 (natAbs (columnOf (x .at) r .0 -ℤ columnOf (y .at) r .0)) e))) (λ t. t)
 
 -- the comparison of columns, as code makes it
 pub outside : (d : ℤ) → ltb 1 (natAbs d) ≡ (ltZ d (negsuc 0) || ltZ (pos 1) d)
@@ -180,7 +180,7 @@ outside (pos n) = refl
 outside (negsuc n) = below n ∙ or-false (ltb 0 n)
   where
     below : (n : ℕ) → ltb 1 (suc n) ≡ ltb 0 n
-    below n = by-test (ltb 0 n) (λ e. lt-ltb 1 (suc n) (omega (arith, ltb-true 0 n e)) ∙ sym e) (λ e. le-ltb 1 (suc n) (omega (arith, ltb-false 0 n e)) ∙ sym e)
+    below n = cases (ltb 0 n) (λ e. lt-ltb 1 (suc n) (omega (arith, ltb-true 0 n e)) ∙ sym e) (λ e. le-ltb 1 (suc n) (omega (arith, ltb-false 0 n e)) ∙ sym e)
 
     or-false : (t : Bool) → t ≡ (t || false)
     or-false true = refl

@@ -1,4 +1,5 @@
 -- Footprints: extents by kind, what they cover and when they meet; each hook that a record works lies inside its extent. Assumes nothing.
+use borrow.Table.Steps.{cases}
 use Prim.Native.Nat.{ℕ, _-_, _≤_}
 use mathlib.Core.Path.{_≡_, refl, sym, subst, _∙_}
 use mathlib.Core.Bool.{Bool, true, false, _&&_, _||_, true≢false}
@@ -19,7 +20,6 @@ use Rattle.record.specs.declared.Record.{Record}
 use Rattle.record.specs.Names.{needleCount, carrierCount, needlesOf, carriersOf}
 use Rattle.record.proofs.Ranges.{InRange}
 use Rattle.record.proofs.Forms.{cond-cases}
-use Rattle.trace.proofs.Tests.{by-test}
 use Rattle.rewrite.specs.declared.Extent.{Extent}
 use Rattle.rewrite.specs.Extents.{halfColumn, layerOf, narrow, broad, formExtent, extentOf, Covers, Share, meets, member, common, shareCarrier}
 use Rattle.rewrite.proofs.Edits.{Each, Away, Apart}
@@ -66,14 +66,14 @@ module _ (r : Racking) (x : Record) where
   unfolding needleCount extentOf
   footprint =
       let k = x .kind in
-      by-test (leb k 1)
+      cases (leb k 1)
       (λ a. let h = leb-true k 1 a in simp (a, ne-eqb k 2 (λ q. omega arith), ne-eqb k 3 (λ q. omega arith), lt-leb 4 k (omega arith), lt-leb 7 k (omega arith)) rack)
-      (λ a. by-test (eqb k 2) (λ b. simp (a, b) drop)
-      (λ b. by-test (eqb k 3) (λ c. simp (a, b, c) xfer)
+      (λ a. cases (eqb k 2) (λ b. simp (a, b) drop)
+      (λ b. cases (eqb k 3) (λ c. simp (a, b, c) xfer)
       (λ c. let low = le-leb 4 k (omega (arith, leb-false k 1 a, eqb-false k 2 b, eqb-false k 3 c)) in
-      by-test (leb k 6) (λ d. simp (a, b, c, low, d) pass)
+      cases (leb k 6) (λ d. simp (a, b, c, low, d) pass)
       (λ d. let next = le-leb 7 k (omega (arith, leb-false k 6 d)) in
-      by-test (leb k 8) (λ e. simp (a, b, c, low, d, next, e) form) (λ e. simp (a, b, c, low, d, next, e) split)))))
+      cases (leb k 8) (λ e. simp (a, b, c, low, d, next, e) form) (λ e. simp (a, b, c, low, d, next, e) split)))))
 
 on-narrow : (h : ℤ) {low high layer : ℕ} → low ≤ layer → layer ≤ high → Covers (narrow h low high) h layer
 on-narrow h a b = record { left = le-self h; right = le-self h; low = a; high = b }
@@ -88,7 +88,7 @@ layer-high n = cond-cases (λ (m : ℕ). m ≤ 11) (eqb (n .0) 0) (λ e. omega a
 -- a tuck or knit covers its needle's bed
 on-form : (h : ℤ) (n : Needle) (k : ℕ) → k ≤ 10 → Covers (formExtent h n k) h (layerOf n)
 unfolding layerOf
-on-form h n k le = by-test (eqb (n .0) 0) (λ e. simp e (on-broad h (omega arith) (omega arith))) (λ e. simp e (on-broad h (omega arith) (omega arith)))
+on-form h n k le = cases (eqb (n .0) 0) (λ e. simp e (on-broad h (omega arith) (omega arith))) (λ e. simp e (on-broad h (omega arith) (omega arith)))
 
 module _ {h : ℤ} {n : Needle} {k : ℕ} where
   -- every extent covers something
@@ -176,7 +176,7 @@ pub record Settled (r : Racking) (x : Record) : Type 0 where
 -- a needle inside an extent
 pub record Inside (r : Racking) (e : Extent) (n : Needle) : Type 0 where
   pub on-bed : OnBed n
-  pub covered : Covers e (halfColumn n r) (layerOf n)
+  covered : Covers e (halfColumn n r) (layerOf n)
 
 module _ (r : Racking) (x : Record) (S : Settled r x) where
   to-covered : needleCount (x .kind) ≡ 2 → Covers (extentOf r x) (halfColumn (x .to) r) (layerOf (x .to))
@@ -231,7 +231,7 @@ Numbered l = Each (λ (k : ℕ). 1 ≤ k) l
 
 numbered : (x : Record) → InRange x → Numbered (carriersOf x)
 unfolding carriersOf carrierCount
-numbered x h = by-test (leb (x .kind) 3) (λ e. simp e tt) (λ e. simp e (h .carrier-low (omega (arith, leb-false (x .kind) 3 e)), tt))
+numbered x h = cases (leb (x .kind) 3) (λ e. simp e tt) (λ e. simp e (h .carrier-low (omega (arith, leb-false (x .kind) 3 e)), tt))
 
 member-away : (i : ℕ) (l : List ℕ) → 1 ≤ i → Numbered l → member i l ≡ false → Away (i - 1) (map (λ (k : ℕ). k - 1) l)
 unfolding member

@@ -1,4 +1,5 @@
 -- One call on a valid program: the program that it hands on, and one swap as a call of its own. Assumes nothing.
+use borrow.Table.Steps.{cases}
 use Prim.Native.Nat.{ℕ, zero, suc, _/_, _≤_, _<_}
 use mathlib.Core.Path.{_≡_, refl, ap, _∙_}
 use mathlib.Core.Bool.{false, _&&_, _||_}
@@ -13,7 +14,6 @@ use Rattle.machine.specs.Machine.{emptyState}
 use Rattle.run.specs.Relation.{Valid}
 use Rattle.run.specs.Run.{reached, answerOf}
 use Rattle.run.proofs.Premises.{is}
-use Rattle.trace.proofs.Tests.{by-test}
 use Rattle.run.proofs.Demand.{final}
 use Rattle.trace.specs.Swaps.{made, Swaps, no-swap, swap-first}
 use Rattle.rewrite.specs.Programs.{flat, recordsOf, knitting}
@@ -32,8 +32,8 @@ lent p c = lentNo (length p) (length (c .log)) (length (c .output)) (length (c .
 lent-number : (p : List ℕ) (c : Call) → lent p c ≤ 2
 unfolding lentNo
 lent-number p c =
-    by-test (ltb 32768 (length p) || ltb 32768 (length (c .log))) (λ a. simp a (omega arith))
-    (λ a. by-test (ltb (length (c .output)) (length p) || ltb (length (c .work)) (length p / 2)) (λ b. simp (a, b) (omega arith)) (λ b. simp (a, b) (omega arith)))
+    cases (ltb 32768 (length p) || ltb 32768 (length (c .log))) (λ a. simp a (omega arith))
+    (λ a. cases (ltb (length (c .output)) (length p) || ltb (length (c .work)) (length p / 2)) (λ b. simp (a, b) (omega arith)) (λ b. simp (a, b) (omega arith)))
 
 -- 1 and 2 hand the same program on
 call-refused : (p : List ℕ) (c : Call) → (lent p c ≡ 0 → ⊥) → callOf p c ≡ refused (answerOf (reached (lent p c) 0 emptyState)) (c .output) (c .work)

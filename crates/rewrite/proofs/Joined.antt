@@ -1,4 +1,5 @@
 -- A program is valid exactly if it is not too long and the machine runs its records, each by its bytes, to the end. Assumes nothing.
+use borrow.Table.Steps.{cases}
 use Prim.Native.Nat.{ℕ, _≤_}
 use mathlib.Core.Path.{_≡_, refl, sym, subst, _∙_}
 use mathlib.Core.Bool.{true, true≢false}
@@ -14,7 +15,6 @@ use Rattle.record.specs.Format.{Encodes}
 use Rattle.record.proofs.Forms.{form-in}
 use Rattle.run.specs.Relation.{Step, Steps, Valid}
 use Rattle.run.specs.Step.{numberAt, applyOf}
-use Rattle.trace.proofs.Tests.{by-test}
 use Rattle.run.proofs.Sound.{step-only, step-sound}
 use Rattle.trace.specs.Machine.{Ends}
 use Rattle.rewrite.specs.Programs.{flat, cut, recordsOf, what}
@@ -29,13 +29,13 @@ form-step {x} {r} {s} {t} form step =
     simp (form-whole form, form-what form) (simp (eq-eqb (numberAt s r) 0 z, e))
 
 step-whole : (s t : State) (x : List ℕ) → machine .step s x ≡ some t → whole x ≡ true
-step-whole s t x e = by-test (whole x) (λ w. w) (λ w. absurd (true≢false (cc)))
+step-whole s t x e = cases (whole x) (λ w. w) (λ w. absurd (true≢false (cc)))
 
 step-form : (s t : State) (x : List ℕ) → machine .step s x ≡ some t → Step s (what x) t
 step-form s t x e =
     let w = step-whole s t x e in
     let f : stepped s (what x) ≡ some t = sym (simp w) ∙ e in
-    by-test (eqb (numberAt s (what x)) 0)
+    cases (eqb (numberAt s (what x)) 0)
     (λ z. let g : applyOf s (what x) ≡ t = cc in subst (Step s (what x)) g (step-sound s (what x) (form-in (whole-form x w)) (eqb-true (numberAt s (what x)) 0 z)))
     (λ z. absurd (true≢false (cc)))
 

@@ -1,4 +1,5 @@
 -- The laws that the theory of swaps (crate trace) asks of records and of the machine, and ties in 01's words. Assumes nothing.
+use borrow.Table.Steps.{cases}
 use Prim.Native.Nat.{ℕ, _≤_}
 use mathlib.Core.Path.{_≡_, refl, sym, ap, subst, _∙_}
 use mathlib.Core.Bool.{Bool, true, false, _||_, true≢false, and-comm}
@@ -24,7 +25,6 @@ use Rattle.record.proofs.Forms.{Reads, reads, decode-in}
 use Rattle.run.specs.Step.{numberAt, applyOf}
 use Rattle.trace.specs.Records.{Lawful, tied}
 use Rattle.trace.specs.Machine.{andThen, Orderly}
-use Rattle.trace.proofs.Tests.{by-test}
 use Rattle.rewrite.specs.declared.Extent.{Extent}
 use mathlib.Core.Logic.{_↔_}
 use Rattle.rewrite.specs.Extents.{halfColumn, extentOf, Share, meets, member, common, shareCarrier, isRack, rackingAfter}
@@ -68,7 +68,7 @@ bytes-meet r x = meets-self r (what x) (carrier-high x)
 
 -- ---- carriers in common
 eqb-sym : (m n : ℕ) → eqb m n ≡ eqb n m
-eqb-sym m n = by-test (eqb m n) (λ e. e ∙ sym (eq-eqb n m (sym (eqb-true m n e)))) (λ e. e ∙ sym (ne-eqb n m (λ q. eqb-false m n e (sym q))))
+eqb-sym m n = cases (eqb m n) (λ e. e ∙ sym (eq-eqb n m (sym (eqb-true m n e)))) (λ e. e ∙ sym (ne-eqb n m (λ q. eqb-false m n e (sym q))))
 
 common-none : (l : List ℕ) → common l [] ≡ false
 unfolding common member
@@ -96,8 +96,8 @@ common-member : (i : ℕ) (is js : List ℕ) → member i is ≡ true → member
 unfolding common member
 common-member i [] js e f = absurd (true≢false (sym e))
 common-member i (j ∷ is) js e f =
-    by-test (eqb i j) (λ q. let p : member j js ≡ true = subst (λ (n : ℕ). member n js ≡ true) (eqb-true i j q) f in simp p)
-    (λ q. let p = common-member i is js (sym (simp q) ∙ e) f in by-test (member j js) (λ m. simp m) (λ m. simp (m, p)))
+    cases (eqb i j) (λ q. let p : member j js ≡ true = subst (λ (n : ℕ). member n js ≡ true) (eqb-true i j q) f in simp p)
+    (λ q. let p = common-member i is js (sym (simp q) ∙ e) f in cases (member j js) (λ m. simp m) (λ m. simp (m, p)))
 
 member-self : (i : ℕ) (l : List ℕ) → member i (i ∷ l) ≡ true
 unfolding member
@@ -105,13 +105,13 @@ member-self i l = simp (eq-eqb i i refl)
 
 member-more : (i j : ℕ) (l : List ℕ) → member i l ≡ true → member i (j ∷ l) ≡ true
 unfolding member
-member-more i j l e = by-test (eqb i j) (λ q. simp q) (λ q. simp (q, e))
+member-more i j l e = cases (eqb i j) (λ q. simp q) (λ q. simp (q, e))
 
 common-some : (is js : List ℕ) → common is js ≡ true → (k : ℕ) × (member k is ≡ true) × (member k js ≡ true)
 unfolding common
 common-some [] js e = absurd (true≢false (sym e))
 common-some (i ∷ is) js e =
-    by-test (member i js) (λ m. (i, member-self i is, m))
+    cases (member i js) (λ m. (i, member-self i is, m))
     (λ m. let (k, p, q) = common-some is js (sym (simp m) ∙ e) in (k, member-more k i is p, q))
 
 -- ---- the laws of records
@@ -174,8 +174,8 @@ record Had (s t : State) (x : List ℕ) : Type 0 where
 
 had : (s t : State) (x : List ℕ) → machine .step s x ≡ some t → Had s t x
 had s t x e =
-    by-test (whole x)
-    (λ w. by-test (eqb (numberAt s (what x)) 0)
+    cases (whole x)
+    (λ w. cases (eqb (numberAt s (what x)) 0)
     (λ n. record { in-range = whole-in x w; number = eqb-true (numberAt s (what x)) 0 n; state = cc })
     (λ n. absurd (true≢false (cc))))
     (λ w. absurd (true≢false (cc)))
@@ -194,14 +194,14 @@ commute : (s : State) (x y : List ℕ) → tied knitting (s .racking) x y ≡ fa
     → andThen (machine .step s x) (λ t. machine .step t y) ≡ andThen (machine .step s y) (λ t. machine .step t x)
 commute s x y t =
     let (a, b, c, d) = or-parts (isRack (what x)) (isRack (what y)) (shareCarrier (what x) (what y)) (meets (extentOf (s .racking) (what x)) (extentOf (s .racking) (what y))) t in
-    by-test (whole x)
-    (λ v. by-test (whole y) (λ w. simp (v, w) (untied-commute s (what x) (what y) (whole-in x v) (whole-in y w) a b c d)) (λ w. simp (v, w, none-after)))
-    (λ v. by-test (whole y) (λ w. simp (v, w, none-after)) (λ w. simp (v, w)))
+    cases (whole x)
+    (λ v. cases (whole y) (λ w. simp (v, w) (untied-commute s (what x) (what y) (whole-in x v) (whole-in y w) a b c d)) (λ w. simp (v, w, none-after)))
+    (λ v. cases (whole y) (λ w. simp (v, w, none-after)) (λ w. simp (v, w)))
 
 member-each : (P : Needle → Type 0) (n : Needle) (l : List Needle) → memberNeedle n l ≡ true → Each P l → P n
 unfolding memberNeedle
 member-each P n [] e h = absurd (true≢false (sym e))
-member-each P n (m ∷ l) e h = by-test (sameNeedle n m) (λ q. subst P (sym (needle-eq n m q)) (h .0)) (λ q. member-each P n l (sym (simp q) ∙ e) (h .1))
+member-each P n (m ∷ l) e h = cases (sameNeedle n m) (λ q. subst P (sym (needle-eq n m q)) (h .0)) (λ q. member-each P n l (sym (simp q) ∙ e) (h .1))
 
 -- settled records that name one needle or carrier
 named-both : (n : Named) (r : Racking) (x y : List ℕ) → Settled r (what x) → Settled r (what y) → names n x ≡ true → names n y ≡ true
@@ -234,9 +234,9 @@ orderly =
 -- ---- a tie in 01's words
 tied-words : (r : Racking) (x y : List ℕ) → tied knitting r x y ≡ true → Tied r x y
 tied-words r x y e =
-    by-test (isRack (what x)) (λ a. Tied.first-rack (eqb-true _ 1 a)) λ a.
-    by-test (isRack (what y)) (λ b. Tied.second-rack (eqb-true _ 1 b)) λ b.
-    by-test (shareCarrier (what x) (what y)) (λ c. let (k, p, q) = common-some (carriersOf (what x)) (carriersOf (what y)) c in Tied.one-carrier k p q) λ c.
+    cases (isRack (what x)) (λ a. Tied.first-rack (eqb-true _ 1 a)) λ a.
+    cases (isRack (what y)) (λ b. Tied.second-rack (eqb-true _ 1 b)) λ b.
+    cases (shareCarrier (what x) (what y)) (λ c. let (k, p, q) = common-some (carriersOf (what x)) (carriersOf (what y)) c in Tied.one-carrier k p q) λ c.
     Tied.extents-meet (meets-exactly r (what x) (what y) (carrier-high x) (carrier-high y) .0 (sym (simp (a, b, c)) ∙ e))
 
 or-tied : (a b c d : Bool) → (a ≡ false → b ≡ false → c ≡ false → d ≡ true) → (a || (b || (c || d))) ≡ true

@@ -140,7 +140,7 @@ module _ (p : List ℕ) (sound : Sound p) (n at : ℕ) (h : Upto p n at) where
 
   -- one start more
   module _ (i : at < length p) where
-    pub kind-next : sizeOf (getD p at 0) ≡ length (nth p n)
+    kind-next : sizeOf (getD p at 0) ≡ length (nth p n)
     kind-next =
         let s = more (not-yet i) in
         ap sizeOf (ap (λ (a : ℕ). getD p a 0) (sym (is-start (not-yet i))) ∙ kind-at p own n s) ∙ sym (s .sized .kind)

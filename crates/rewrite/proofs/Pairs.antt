@@ -32,7 +32,7 @@ module _ (u : List (List ℕ)) (x y : List ℕ) (v : List (List ℕ)) where
   flat-pair = flat-append u (x ∷ y ∷ v)
 
   -- the bytes
-  pub bytes-exchanged : exchanged (flat (u ++ x ∷ y ∷ v)) before (before + length x) (before + length x + length y) ≡ flat (u ++ y ∷ x ∷ v)
+  bytes-exchanged : exchanged (flat (u ++ x ∷ y ∷ v)) before (before + length x) (before + length x + length y) ≡ flat (u ++ y ∷ x ∷ v)
   unfolding exchanged
   bytes-exchanged =
       let o = flat u ++ (x ++ (y ++ flat v)) in
@@ -54,7 +54,7 @@ module _ (u : List (List ℕ)) (x y : List ℕ) (v : List (List ℕ)) where
       assoc a b c = omega arith
 
   -- the starts: only the second moves
-  pub starts-exchanged : (n : ℕ) → length u + 1 ≡ n → set (startsOf 0 (u ++ x ∷ y ∷ v)) n (before + length y) ≡ startsOf 0 (u ++ y ∷ x ∷ v)
+  starts-exchanged : (n : ℕ) → length u + 1 ≡ n → set (startsOf 0 (u ++ x ∷ y ∷ v)) n (before + length y) ≡ startsOf 0 (u ++ y ∷ x ∷ v)
   unfolding startsOf
   starts-exchanged n h =
       let s = startsOf 0 u in
@@ -86,13 +86,13 @@ module _ (p w : List ℕ) (laid : Laid p w) (i : ℕ) (h : i + 1 < length w) whe
   rest = drop (suc (i + 1)) (recordsOf p)
 
   -- what is left of a swap that is made
-  abbrev pub exchangedPair : List (List ℕ)
+  abbrev exchangedPair : List (List ℕ)
   exchangedPair = front ++ second ∷ first ∷ rest
 
   enough : i + 1 < length (recordsOf p)
   enough = omega (arith, work-length p w laid)
 
-  pub pair-cut : recordsOf p ≡ front ++ first ∷ second ∷ rest
+  pair-cut : recordsOf p ≡ front ++ first ∷ second ∷ rest
   pair-cut =
       split-at (recordsOf p) i [] (omega (arith, enough))
       ∙ ap (λ (l : List (List ℕ)). front ++ first ∷ l) (ap (λ (n : ℕ). drop n (recordsOf p)) (sym (add-one i)) ∙ drop-cons (recordsOf p) (i + 1) [] enough)
@@ -107,7 +107,7 @@ module _ (p w : List ℕ) (laid : Laid p w) (i : ℕ) (h : i + 1 < length w) whe
   two = stands p w laid (i + 1) h
 
   -- where the second starts and ends
-  pub second-start : getD w (i + 1) 0 ≡ getD w i 0 + length first
+  second-start : getD w (i + 1) 0 ≡ getD w i 0 + length first
   second-start =
       let l = recordsOf p in
       let e : take (i + 1) l ≡ front ++ first ∷ [] = ap (λ (n : ℕ). take n l) (add-one i) ∙ take-suc l i [] (omega (arith, enough)) in
@@ -141,10 +141,10 @@ module _ (p w : List ℕ) (laid : Laid p w) (i : ℕ) (h : i + 1 < length w) whe
   swap-read = λ k. swapOf (sym front-length k) (pair-cut k)
 
   module _ (e : ℕ) (at : e ≡ getD w (i + 1) 0 + length second) where
-    pub first-part : part p (getD w i 0) (getD w (i + 1) 0) ≡ first
+    first-part : part p (getD w i 0) (getD w (i + 1) 0) ≡ first
     first-part = part-at p w i one (getD w (i + 1) 0) second-start
 
-    pub second-part : part p (getD w (i + 1) 0) e ≡ second
+    second-part : part p (getD w (i + 1) 0) e ≡ second
     second-part = part-at p w (i + 1) two e at
 
     -- what the two stores leave

@@ -1,4 +1,5 @@
 -- What a log makes of a list of records: swaps that are made one after another, up to its end or to the log record that is refused. Assumes nothing.
+use borrow.Table.Steps.{cases}
 use Prim.Native.Nat.{ℕ, zero, suc, _+_, _*_, _/_, _%_, _≤_, _<_}
 use mathlib.Core.Path.{_≡_, refl, ap, _∙_}
 use mathlib.Core.Bool.{false, true≢false, _&&_}
@@ -8,7 +9,6 @@ use native.Mathlib.Nat.{div-add-mod'}
 use lib.Dec.{eqb, leb}
 use lib.ListN.{length, length-append}
 use borrow.Author.Tests.{eqb-true, le-leb, lt-leb}
-use Rattle.trace.proofs.Tests.{by-test}
 use Rattle.trace.specs.Records.{Records}
 use Rattle.trace.specs.Swaps.{Outcome, no-pair, is-tied, made, swapAt, Swaps, no-swap, swap-first}
 use Rattle.trace.proofs.Swaps.{behind-made, front-made}
@@ -87,7 +87,7 @@ replayed [] at l = Replayed.through
 replayed (k ∷ []) at l = Replayed.stopped 14 (omega arith) (omega arith)
 replayed (k ∷ high ∷ []) at l = Replayed.stopped 14 (omega arith) (omega arith)
 replayed (k ∷ high ∷ low ∷ log) at l =
-    by-test (eqb k 64) (λ e. rw (e, eqb-true k 64 e) (go (swapOf (high * 256 + low) l) refl (replayed log (at + 3)))) (λ e. rw e (Replayed.stopped 14 (omega arith) (omega arith)))
+    cases (eqb k 64) (λ e. rw (e, eqb-true k 64 e) (go (swapOf (high * 256 + low) l) refl (replayed log (at + 3)))) (λ e. rw e (Replayed.stopped 14 (omega arith) (omega arith)))
   where
     go : (o : Outcome (List ℕ)) → swapOf (high * 256 + low) l ≡ o → ((m : List (List ℕ)) → Replayed log (at + 3) m (replay log (at + 3) m))
         → Replayed (64 ∷ high ∷ low ∷ log) at l (onOutcome o at l (λ m. replay log (at + 3) m))

@@ -115,7 +115,7 @@ module _ (p log output work : List ℕ) where
   unfolding rewriteOf
   lent-call d = simp (ne-eqb number 0 d)
 
-  pub refused-call : number ≡ 0 → (runOf p .number ≡ 0 → ⊥) → call ≡ refused (runOf p) output work
+  refused-call : number ≡ 0 → (runOf p .number ≡ 0 → ⊥) → call ≡ refused (runOf p) output work
   unfolding rewriteOf
   refused-call z d = simp (eq-eqb number 0 z, ne-eqb (runOf p .number) 0 d)
 

@@ -70,13 +70,13 @@ module _ (u : List ℕ) (x : ℕ) (v : List ℕ) (y : ℕ) (w : List ℕ) (i j :
   right-long : (z : ℕ) → length (u ++ z ∷ v) ≡ j
   right-long z = length-append u (z ∷ v) ∙ at-j
 
-  pub spaced-first : getD (spaced u x v y w) i 0 ≡ x
+  spaced-first : getD (spaced u x v y w) i 0 ≡ x
   spaced-first = getD-at u x (v ++ y ∷ w) 0 i at-i
 
-  pub spaced-second : getD (spaced u x v y w) j 0 ≡ y
+  spaced-second : getD (spaced u x v y w) j 0 ≡ y
   spaced-second = ap (λ (l : List ℕ). getD l j 0) (spaced-right x) ∙ getD-at (u ++ x ∷ v) y w 0 j (right-long x)
 
-  pub spaced-exchanged : set (set (spaced u x v y w) i y) j x ≡ spaced u y v x w
+  spaced-exchanged : set (set (spaced u x v y w) i y) j x ≡ spaced u y v x w
   spaced-exchanged =
       ap (λ (l : List ℕ). set l j x) (set-at u x (v ++ y ∷ w) y i at-i ∙ spaced-right y)
       ∙ set-at (u ++ y ∷ v) y w x j (right-long y) ∙ append-assoc u (y ∷ v) (x ∷ w)

@@ -1,4 +1,5 @@
 -- The order of whole numbers for `omega`, by z = up z - dn z, and the later of two places. Assumes nothing.
+use borrow.Table.Steps.{cases}
 use Prim.Native.Nat.{ℕ, suc, _+_, _≤_}
 use mathlib.Core.Path.{_≡_, refl, sym}
 use mathlib.Core.Bool.{true, false, true≢false}
@@ -8,9 +9,8 @@ use lib.Signed.{leZ}
 use lib.Dec.{leb}
 use borrow.Author.Tests.{le-leb, leb-true, leb-false}
 use Rattle.machine.proofs.Signed.{up, dn, sum, difference}
-use Rattle.trace.proofs.Tests.{by-test}
 
-pub le-of : (a b : ℤ) → up a + dn b ≤ up b + dn a → leZ a b ≡ true
+le-of : (a b : ℤ) → up a + dn b ≤ up b + dn a → leZ a b ≡ true
 le-of (pos a) (pos b) h = le-leb a b (omega arith)
 le-of (pos a) (negsuc b) h = absurd (no h)
   where
@@ -45,7 +45,7 @@ le-other (negsuc a) (negsuc b) e = le-leb a b (omega (arith, leb-false b a e))
 
 -- the later of two, of whole numbers and of naturals
 pub later : (a b : ℤ) → (z : ℤ) × (leZ a z ≡ true) × (leZ b z ≡ true) × ((c : ℤ) → leZ a c ≡ true → leZ b c ≡ true → leZ z c ≡ true)
-later a b = by-test (leZ a b) (λ h. (b, h, le-self b, λ c p q. q)) (λ h. (a, le-self a, le-other a b h, λ c p q. p))
+later a b = cases (leZ a b) (λ h. (b, h, le-self b, λ c p q. q)) (λ h. (a, le-self a, le-other a b h, λ c p q. p))
 
 pub higher : (m n : ℕ) → (k : ℕ) × (m ≤ k) × (n ≤ k) × ((c : ℕ) → m ≤ c → n ≤ c → k ≤ c)
-higher m n = by-test (leb m n) (λ h. (n, leb-true m n h, omega arith, λ c p q. q)) (λ h. (m, omega arith, omega (arith, leb-false m n h), λ c p q. p))
+higher m n = cases (leb m n) (λ h. (n, leb-true m n h, omega arith, λ c p q. q)) (λ h. (m, omega arith, omega (arith, leb-false m n h), λ c p q. p))

@@ -1,4 +1,5 @@
 -- The run of one record alone is its step. Assumes nothing.
+use borrow.Table.Steps.{cases}
 use Prim.Native.Nat.{ℕ, suc, _+_, _≤_}
 use mathlib.Core.Path.{_≡_, refl, sym, ap, subst, _∙_}
 use mathlib.Core.List.{List, []}
@@ -8,7 +9,6 @@ use lib.Seq.{drop-length, length-take-le}
 use lib.Dec.{eqb}
 use borrow.Author.Tests.{eqb-true, eqb-false}
 use Rattle.machine.specs.declared.State.{State}
-use Rattle.machine.proofs.Laws.{by}
 use Rattle.record.specs.declared.Decoded.{Decoded}
 use Rattle.record.specs.Format.{byte, sizeOf, refusedAs, decodeOf}
 use Rattle.record.proofs.Forms.{decode-front, decode-kind}
@@ -70,9 +70,9 @@ module _ (s : State) (l : List ℕ) (n : ℕ) (size : n ≡ sizeOf (byte l 0)) (
 
   both : Both (runFrom 0 q 0 s) (stepOf s l)
   both =
-      by (eqb (decodeOf l .number) 0)
+      cases (eqb (decodeOf l .number) 0)
       (λ k. let z = eqb-true (decodeOf l .number) 0 k in
-      by (eqb (numberAt s (decodeOf l .what)) 0) (λ h. passes z (eqb-true (numberAt s (decodeOf l .what)) 0 h)) (λ h. stops z (eqb-false (numberAt s (decodeOf l .what)) 0 h)))
+      cases (eqb (numberAt s (decodeOf l .what)) 0) (λ h. passes z (eqb-true (numberAt s (decodeOf l .what)) 0 h)) (λ h. stops z (eqb-false (numberAt s (decodeOf l .what)) 0 h)))
       (λ k. unread (eqb-false (decodeOf l .number) 0 k))
 
   stopped : {r : Reached} {t : Stepped} → Both r t → (r .number ≡ 0 → ⊥) → stay (r .number) s ≡ t

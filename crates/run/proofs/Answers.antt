@@ -1,4 +1,5 @@
 -- The answer to a program: what is said of every way in which a run ends, said of its answer. Assumes nothing.
+use borrow.Table.Steps.{cases}
 use Prim.Native.Nat.{ℕ, _≤_, _<_}
 use mathlib.Core.Path.{_≡_, refl, ap, subst, _∙_}
 use mathlib.Core.Bool.{true}
@@ -10,7 +11,7 @@ use lib.ListN.{length, take, drop, length-replicate}
 use borrow.Author.Tests.{leb-true, leb-false, le-leb, lt-leb}
 use Rattle.machine.specs.declared.State.{State}
 use Rattle.machine.specs.Machine.{emptyState, completeOf, inactive}
-use Rattle.machine.proofs.Laws.{by, complete-is-empty, empty-is-complete}
+use Rattle.machine.proofs.Laws.{complete-is-empty, empty-is-complete}
 use Rattle.run.specs.declared.Reached.{Reached}
 use Rattle.run.specs.declared.Answer.{Answer}
 use Rattle.run.specs.Relation.{Steps, Valid}
@@ -44,7 +45,7 @@ ended {p} h (Ends.refused {n = n} {place = place} {k = k} {t = t} e b before r) 
 
 pub answered : (p : List ℕ) → Answered p (runOf p)
 answered p =
-    by (leb (length p) 32768)
+    cases (leb (length p) 32768)
     (λ t. let h = leb-true (length p) 32768 t in rw (short-run p h) (ended h (runs (length p) p (omega arith) 0 emptyState)))
     (λ t. let h = leb-false (length p) 32768 t in rw (long-run p h) (Answered.too-long h))
 

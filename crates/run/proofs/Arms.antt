@@ -1,18 +1,16 @@
 -- The arms of the run's loop: from what the small functions promise, the number of a record and the state after it. Assumes nothing.
-use Prim.Native.Nat.{ℕ, _+_, _-_, _≤_, _<_}
+use Prim.Native.Nat.{ℕ, _+_, _-_, _≤_}
 use mathlib.Core.Path.{_≡_, sym, _∙_}
 use mathlib.Core.Bool.{false, cond}
 use mathlib.Core.List.{List, map}
 use native.Mathlib.Omega.{arith}
 use lib.ListN.{getD, set}
-use lib.Dec.{eqb}
 use borrow.Author.Tests.{eq-eqb, ne-eqb, not-false}
 use Rattle.machine.specs.declared.Needle.{Needle}
 use Rattle.machine.specs.declared.Racking.{Racking}
 use Rattle.machine.specs.declared.Carrier.{Carrier}
-use Rattle.machine.specs.declared.Slot.{Slot}
 use Rattle.machine.specs.declared.State.{State}
-use Rattle.machine.specs.Machine.{inactive, hookOf, loopsOn, carrierOf, movedTo, anyAttached}
+use Rattle.machine.specs.Machine.{inactive, hookOf, loopsOn, carrierOf, movedTo, anyBeside}
 use Rattle.machine.proofs.Laws.{none-moved}
 use Rattle.record.specs.declared.Record.{Record}
 use Rattle.record.proofs.Ranges.{InRange, four}
@@ -55,8 +53,8 @@ module _ (l : List ℕ) (a : Needle) (n : ℕ) (is : n ≡ tuckNo (getD l (hookO
   unfolding tucked
   tuck-made h = simp (← is, eq-eqb n 0 h)
 
--- the carriers after a move: where none is attached, as they were
-pub unmoved : (a b : Needle) (l : List Carrier) → anyAttached a l ≡ false → l ≡ map (movedTo a b) l
+-- the carriers after a move: where none names the needle, as they were
+pub unmoved : (a b : Needle) (l : List Carrier) → anyBeside a l ≡ false → l ≡ map (movedTo a b) l
 unmoved a b l e = sym (none-moved a b l (not-false _ e))
 
 -- a number after one that is 0, and one that is not

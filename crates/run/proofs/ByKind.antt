@@ -110,7 +110,7 @@ module _ (s : State) (x : Record) where
       go false = refl
 
   -- a split as code stores it, and as the relation says it
-  abbrev pub splitState : State
+  abbrev splitState : State
   splitState =
       record {
         racking = s .racking;

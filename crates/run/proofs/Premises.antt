@@ -1,4 +1,5 @@
 -- Each test of the step: 0 where its premise holds, else the number of its reason. Assumes nothing.
+use borrow.Table.Steps.{cases}
 use Prim.Native.Nat.{ℕ, _+_, _≤_, _<_}
 use mathlib.Core.Path.{_≡_, refl, ap, _∙_}
 use mathlib.Core.Bool.{true, false, cond}
@@ -14,7 +15,6 @@ use Rattle.machine.specs.declared.State.{State}
 use Rattle.machine.specs.Machine.{loopsOn, carrierOf}
 use Rattle.machine.specs.Geometry.{eqZ, columnOf, sameColumn, withinFloat}
 use Rattle.machine.proofs.Signed.{eqZ-yes, eqZ-no, eqZ-true, eqZ-false}
-use Rattle.machine.proofs.Laws.{by}
 use Rattle.record.specs.declared.Record.{Record}
 use Rattle.record.proofs.Forms.{cond-cases}
 use Rattle.run.specs.Relation.{Active, Inactive, Attached, ParkedAt, Opposite, Room}
@@ -24,7 +24,7 @@ use Rattle.run.proofs.Looks.{parked-is, in-is, float-is}
 
 -- a case by the kind
 pub is : {G : Type 0} (k n : ℕ) → (k ≡ n → G) → ((k ≡ n → ⊥) → G) → G
-is k n f g = by (eqb k n) (λ t. f (eqb-true k n t)) (λ t. g (eqb-false k n t))
+is k n f g = cases (eqb k n) (λ t. f (eqb-true k n t)) (λ t. g (eqb-false k n t))
 
 pub up : {G : Type 0} (k n : ℕ) → n ≤ k → (k ≡ n → G) → (n < k → G) → G
 up k n h f g = is k n f (λ d. g (omega arith))
@@ -69,7 +69,7 @@ module _ (r : Racking) (c : Carrier) where
   pub parked-cases : (z : Slot) {G : Type 0} → (Inactive c → G) → (Active c → (c .slot ≡ z → ⊥) → G) → (ParkedAt c z → G) → G
   parked-cases z f g k =
       is (c .active) 0 f
-      (λ a. by (eqZ (c .slot .0) (z .0)) (λ t. k (record { active = a; here = slot-same (c .slot) z (eqZ-true (c .slot .0) (z .0) t) }))
+      (λ a. cases (eqZ (c .slot .0) (z .0)) (λ t. k (record { active = a; here = slot-same (c .slot) z (eqZ-true (c .slot .0) (z .0) t) }))
       (λ t. g a (λ e. eqZ-false (c .slot .0) (z .0) t (ap (λ (y : Slot). y .0) e))))
 
   pub parked-le : (z : Slot) → parkedNo (lookOf r c) z ≤ 8
@@ -77,7 +77,7 @@ module _ (r : Racking) (c : Carrier) where
       rw (parked-is r c z) (cond-cases (λ (n : ℕ). n ≤ 8) (eqb (c .active) 0) (λ t. omega arith)
       (λ t. cond-cases (λ (n : ℕ). n ≤ 8) (eqZ (c .slot .0) (z .0)) (λ u. omega arith) (λ u. omega arith)))
 
-  abbrev pub inNo : ℕ
+  abbrev inNo : ℕ
   inNo = cond (lookOf r c .active) 6 0
 
   pub in-zero : Inactive c → inNo ≡ 0
@@ -104,7 +104,7 @@ module _ (r : Racking) (c : Carrier) where
     pub float-cases : {G : Type 0} → (Attached c → 20 < far → G) → ((Attached c → far ≤ 20) → G) → G
     float-cases f g =
         is (c .side) 0 (λ e. g (λ a. absurd (a e)))
-        (λ a. by (leb far 20) (λ t. g (λ b. leb-true far 20 t)) (λ t. f a (leb-false far 20 t)))
+        (λ a. cases (leb far 20) (λ t. g (λ b. leb-true far 20 t)) (λ t. f a (leb-false far 20 t)))
 
     pub float-le : floatNo (lookOf r c) z ≤ 9
     float-le =
@@ -142,7 +142,7 @@ module _ (s : State) (x : Record) where
 
   pub opposite-cases : {G : Type 0} → (Opposite s x → G) → ((Opposite s x → ⊥) → G) → G
   opposite-cases f g =
-      by (eqZ (columnOf (x .at) (s .racking) .0) (columnOf (x .to) (s .racking) .0))
+      cases (eqZ (columnOf (x .at) (s .racking) .0) (columnOf (x .to) (s .racking) .0))
       (λ t. f (column-same (columnOf (x .at) (s .racking)) (columnOf (x .to) (s .racking)) (eqZ-true _ _ t)))
       (λ t. g (λ e. eqZ-false _ _ t (ap (λ (z : Column). z .0) e)))
 

@@ -80,10 +80,10 @@ racking-in (Encodes.xfer h i j) = omega arith
 racking-in (Encodes.work a b c d e f g) = omega arith
 racking-in (Encodes.split c d e f g h) = omega arith
 
-pub form-keeps : {bytes : List ℕ} {x : Record} {s t : State} → StateInRange s → Encodes bytes x → Step s x t → StateInRange t
+form-keeps : {bytes : List ℕ} {x : Record} {s t : State} → StateInRange s → Encodes bytes x → Step s x t → StateInRange t
 form-keeps h form step = step-keeps h (form-in form) (racking-in form) step
 
-pub steps-keep : {s t : State} {p : List ℕ} → StateInRange s → Steps s p t → StateInRange t
+steps-keep : {s t : State} {p : List ℕ} → StateInRange s → Steps s p t → StateInRange t
 steps-keep h Steps.none = h
 steps-keep h (Steps.next form step more) = steps-keep (form-keeps h form step) more
 

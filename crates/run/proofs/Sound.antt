@@ -1,4 +1,5 @@
 -- The step as code makes it against the relation: 0 exactly where the relation has a step, else the number of a reason that holds. Assumes nothing.
+use borrow.Table.Steps.{cases}
 use Prim.Native.Nat.{ℕ, _+_, _≤_, _<_}
 use mathlib.Core.Path.{_≡_, _∙_}
 use mathlib.Core.Bool.{cond}
@@ -10,7 +11,6 @@ use Rattle.machine.specs.declared.Slot.{Slot}
 use Rattle.machine.specs.declared.State.{State}
 use Rattle.machine.specs.Machine.{hookOf, loopsOn}
 use Rattle.machine.specs.Geometry.{columnOf}
-use Rattle.machine.proofs.Laws.{by}
 use Rattle.record.specs.declared.Record.{Record}
 use Rattle.record.specs.Names.{needleCount}
 use Rattle.record.proofs.Ranges.{InRange}
@@ -98,7 +98,7 @@ module _ (s : State) (x : Record) where
 
   tuck-judged : x .kind ≡ 7 → Judged s x (Room (loopsOn s (x .at) + 1)) (tuckNo (loopsOn s (x .at)))
   tuck-judged e =
-      by (leb n 8) (λ t. let h = leb-true n 8 t in Judged.fine (tuck-zero (loopsOn s (x .at)) h) h)
+      cases (leb n 8) (λ t. let h = leb-true n 8 t in Judged.fine (tuck-zero (loopsOn s (x .at)) h) h)
       (λ t. let h = leb-false n 8 t in Judged.refused (RecordReason.hook-full (tuck-full (loopsOn s (x .at)) h) (HookFull.tuck e h)))
     where
       n : ℕ
@@ -107,7 +107,7 @@ module _ (s : State) (x : Record) where
   move-judged : ((Opposite s x → ⊥) → NotOpposite s x) → (8 < sum s x → HookFull s x) → Judged s x (Opposite s x × Room (sum s x)) (moveNo s x)
   move-judged f g =
       opposite-cases s x
-      (λ o. by (leb (sum s x) 8) (λ t. let h = leb-true (sum s x) 8 t in Judged.fine (move-zero s x o h) (o, h))
+      (λ o. cases (leb (sum s x) 8) (λ t. let h = leb-true (sum s x) 8 t in Judged.fine (move-zero s x o h) (o, h))
       (λ t. let h = leb-false (sum s x) 8 t in Judged.refused (RecordReason.hook-full (move-full s x o h) (g h))))
       (λ h. Judged.refused (RecordReason.not-opposite (move-apart s x h) (f h)))
 

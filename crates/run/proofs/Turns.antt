@@ -16,7 +16,7 @@ use Rattle.run.specs.declared.Stepped.{Stepped}
 use Rattle.run.specs.Run.{reached, stay, stepOf, turn, runFrom}
 
 -- passing over bytes
-pub run-skip : (k : ℕ) (l : List ℕ) (at : ℕ) (s : State) → runFrom k l at s ≡ runFrom 0 (drop k l) at s
+run-skip : (k : ℕ) (l : List ℕ) (at : ℕ) (s : State) → runFrom k l at s ≡ runFrom 0 (drop k l) at s
 unfolding runFrom
 run-skip zero l at s = refl
 run-skip (suc k) [] at s = refl

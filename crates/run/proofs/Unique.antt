@@ -1,4 +1,5 @@
 -- Whatever is a first refusal of a program is the run's. Assumes nothing.
+use borrow.Table.Steps.{cases}
 use Prim.Native.Nat.{ℕ, _+_, _≤_, _<_}
 use mathlib.Core.Path.{_≡_, sym, ap, _∙_}
 use mathlib.Core.List.{List, [], _∷_, _++_, append-assoc}
@@ -9,7 +10,6 @@ use lib.Seq.{length-take-le}
 use borrow.Author.Tests.{ltb-true, ltb-false}
 use Rattle.machine.specs.declared.State.{State}
 use Rattle.machine.specs.Machine.{emptyState}
-use Rattle.machine.proofs.Laws.{by}
 use Rattle.record.specs.Format.{decodeOf}
 use Rattle.record.proofs.Forms.{decode-form, decode-in}
 use Rattle.run.specs.declared.Reached.{Reached}
@@ -34,8 +34,8 @@ run-prefix {s} {t} (Steps.next {bytes = bytes} {rest = rest} form step more) r a
 -- the least reason is one
 same-number : {n m : ℕ} {s : State} {l : List ℕ} → Refusal n s l → Refusal m s l → n ≡ m
 same-number {n} {m} a b =
-    by (ltb n m) (λ t. absurd (b .least n (ltb-true n m t) (a .reason)))
-    (λ t. by (ltb m n) (λ u. absurd (a .least m (ltb-true m n u) (b .reason)))
+    cases (ltb n m) (λ t. absurd (b .least n (ltb-true n m t) (a .reason)))
+    (λ t. cases (ltb m n) (λ u. absurd (a .least m (ltb-true m n u) (b .reason)))
     (λ u. omega (arith, ltb-false n m t, ltb-false m n u)))
 
 stops-there : (l : List ℕ) (at n : ℕ) (s : State) → 0 < length l → Refusal n s l → runFrom 0 l at s ≡ reached n at s

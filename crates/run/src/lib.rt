@@ -239,7 +239,7 @@ fn run_from(state: State, program: &[u8]) -> Reached
                     return stop(number, at, st);
                 }
                 let cs = st.carriers;
-                if machine::any_attached(cs, n) {
+                if machine::any_beside(cs, n) {
                     let ds = machine::attachments_moved(cs, n, m);
                     st.carriers = ds;
                 }
@@ -319,7 +319,7 @@ fn run_from(state: State, program: &[u8]) -> Reached
                 }
                 let then = attach(n, r, x.right);
                 let cs = st.carriers;
-                if machine::any_attached(cs, n) {
+                if machine::any_beside(cs, n) {
                     let mut ds = machine::attachments_moved(cs, n, m);
                     ds[k] = then;
                     st.carriers = ds;

@@ -1,9 +1,10 @@
 -- Lists with the same elements, repeats counted, agree in every count. Assumes nothing.
+use borrow.Table.Steps.{cases}
 use mathlib.Core.Path.{_≡_, sym, _∙_}
 use mathlib.Core.Bool.{Bool, true}
 use mathlib.Core.List.{List}
 use Rattle.trace.specs.Lists.{count}
-use Rattle.trace.proofs.Tests.{by-test, test-eq}
+use Rattle.trace.proofs.Tests.{test-eq}
 use Rattle.trace.proofs.Lists.{keep-one, count-ext}
 use Rattle.trace.proofs.Exchanges.{Ties, oneOf, SameViews, views-exchanges, exchanges-count}
 
@@ -20,7 +21,7 @@ module _ {A : Type 0} (same : A → A → Bool) (same-refl : (x : A) → same x 
   equalsTied = record { same = same; tied = same; same-refl = same-refl; same-eq = same-eq; tied-refl = same-refl; tied-sym = same-sym }
 
   one-of-equals : (x y : A) → same x y ≡ true → (z : A) → oneOf equalsTied x y z ≡ same x z
-  one-of-equals x y e z = let f = same-eq x y e in by-test (same x z) (λ g. cc) (λ g. cc)
+  one-of-equals x y e z = let f = same-eq x y e in cases (same x z) (λ g. cc) (λ g. cc)
 
   elements-views : (l m : List A) → SameElements same l m → SameViews equalsTied l m
   elements-views l m c x y e =

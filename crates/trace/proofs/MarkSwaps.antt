@@ -1,11 +1,11 @@
 -- Swaps of records are exchanges of their marks, and back. Assumes nothing.
+use borrow.Table.Steps.{cases}
 use Prim.Native.Nat.{ℕ, zero, suc}
 use mathlib.Core.Path.{_≡_, sym, ap, _∙_}
 use mathlib.Core.Bool.{false, true≢false}
 use mathlib.Core.List.{List, [], _∷_, head-eq-of-cons-eq, tail-eq-of-cons-eq}
 use Rattle.trace.specs.Records.{Records, tied, Lawful}
 use Rattle.trace.specs.Swaps.{made, behind, swapAt, Swaps, no-swap, swap-first}
-use Rattle.trace.proofs.Tests.{by-test}
 use Rattle.trace.proofs.Exchanges.{Exchange, Exchanges}
 use Rattle.trace.proofs.Swaps.{behind-made, front-made, untied}
 use Rattle.trace.proofs.Marks.{Mark, eqb-self, marked, marks, marks-eq, stretchAfter, tiedMarks}
@@ -38,7 +38,7 @@ module _ {A R : Type 0} (K : Records A R) (L : Lawful K) where
   -- neighbours whose marks are not tied are not tied
   marks-untied : (k : ℕ) (r : R) (a b : A) → tiedMarks K (marked K k r a) (marked K (stretchAfter K k a) (after r a) b) ≡ false → tied K r a b ≡ false
   marks-untied k r a b h =
-      by-test (isRack a) (λ e. absurd (true≢false (cc))) λ e.
+      cases (isRack a) (λ e. absurd (true≢false (cc))) λ e.
       cc (after-other r a e, eqb-self k, racking-refl r)
 
   made-front : (k : ℕ) (r : R) (a b : A) (l : List A) → tied K r a b ≡ false

@@ -1,4 +1,5 @@
 -- A record of a list, marked with its stretch and the racking in force there: so marked, it is fixed which records are tied. Assumes nothing.
+use borrow.Table.Steps.{cases}
 use Prim.Native.Nat.{ℕ, suc}
 use mathlib.Core.Path.{_≡_, refl, sym, ap, _∙_}
 use mathlib.Core.Bool.{Bool, true, cond, _||_, _&&_}
@@ -6,7 +7,7 @@ use mathlib.Core.List.{List, [], _∷_, map}
 use lib.Dec.{eqb}
 use borrow.Author.Tests.{eqb-true, eq-eqb}
 use Rattle.trace.specs.Records.{Records, Lawful}
-use Rattle.trace.proofs.Tests.{by-test, and-left, and-right, test-eq}
+use Rattle.trace.proofs.Tests.{and-left, and-right, test-eq}
 use Rattle.trace.proofs.Exchanges.{Ties}
 
 pub record Mark (A R : Type 0) : Type 0 where
@@ -82,8 +83,8 @@ module _ {A R : Type 0} (K : Records A R) where
 
     pub marks-tied-refl : (z : Mark A R) → tiedMarks z z ≡ true
     marks-tied-refl z =
-        by-test (isRack (z .what)) (λ a. cc)
-        (λ a. by-test (share (z .what) (z .what)) (λ b. cc) (λ b. cc (together-eq z z refl refl, meet-refl (z .racking) (z .what) a b)))
+        cases (isRack (z .what)) (λ a. cc)
+        (λ a. cases (share (z .what) (z .what)) (λ b. cc) (λ b. cc (together-eq z z refl refl, meet-refl (z .racking) (z .what) a b)))
 
     pub marks-tied-sym : (z w : Mark A R) → tiedMarks z w ≡ tiedMarks w z
     marks-tied-sym z w =
@@ -91,8 +92,8 @@ module _ {A R : Type 0} (K : Records A R) where
         let c = share-sym (z .what) (w .what) in
         let m = meet-sym (z .racking) (z .what) (w .what) in
         let rest : (together z w && meet (z .racking) (z .what) (w .what)) ≡ (together w z && meet (w .racking) (w .what) (z .what)) =
-        by-test (together z w) (λ e. let r = together-racking z w e in cc) (λ e. cc) in
-        by-test (isRack (z .what)) (λ a. by-test (isRack (w .what)) (λ b. cc) (λ b. cc)) (λ a. by-test (isRack (w .what)) (λ b. cc) (λ b. cc))
+        cases (together z w) (λ e. let r = together-racking z w e in cc) (λ e. cc) in
+        cases (isRack (z .what)) (λ a. cases (isRack (w .what)) (λ b. cc) (λ b. cc)) (λ a. cases (isRack (w .what)) (λ b. cc) (λ b. cc))
 
     abbrev pub markTies : Ties (Mark A R)
     markTies =

@@ -1,4 +1,5 @@
 -- The place of a record among its equals in the list, from its mark's place among the equal marks; and its ties from the marks' ties. Assumes nothing.
+use borrow.Table.Steps.{cases}
 use Prim.Native.Nat.{ℕ, zero, suc, _+_, _<_, _≤_}
 use mathlib.Core.Path.{_≡_, refl, sym, ap, ap₂, _∙_}
 use mathlib.Core.Bool.{Bool, true, cond, _&&_, true≢false}
@@ -11,7 +12,6 @@ use borrow.Author.Tests.{eqb-true, eqb-false, ne-eqb, ltb-true, ltb-false}
 use Rattle.trace.specs.Lists.{count, Nth}
 use Rattle.trace.specs.Records.{Records, Lawful}
 use Rattle.trace.specs.Order.{inForce, stretchAt, tiedIn}
-use Rattle.trace.proofs.Tests.{by-test}
 use Rattle.trace.proofs.Marks.{Mark, eqb-self, marked, marks, stretchAfter, together, together-stretch, sameMark, tiedMarks}
 
 module _ {A R : Type 0} (K : Records A R) where
@@ -27,7 +27,7 @@ module _ {A R : Type 0} (K : Records A R) where
   at-marks k r (z ∷ l) zero x e = let f : k + 0 ≡ k = omega arith in rw f (cc)
   at-marks k r (z ∷ l) (suc p) x e =
       let ih = at-marks (stretchAfter K k z) (after r z) l p x e in
-      by-test (isRack z)
+      cases (isRack z)
       (λ a. let f : k + suc (stretchAt K l p) ≡ suc k + stretchAt K l p = omega arith in cc)
       (λ a. cc)
 
@@ -50,8 +50,8 @@ module _ {A R : Type 0} (K : Records A R) where
   none-earlier : (z : Mark A R) (k : ℕ) (r : R) (l : List A) → z .stretch ≤ k → count (earlier z) (marks K k r l) ≡ 0
   none-earlier z k r [] h = refl
   none-earlier z k r (x ∷ l) h =
-      by-test (ltb k (z .stretch)) (λ a. absurd (omega (arith, ltb-true k (z .stretch) a))) λ a.
-      rw a (none-earlier z (stretchAfter K k x) (after r x) l (by-test (isRack x) (λ b. rw b (omega arith)) (λ b. rw b h)))
+      cases (ltb k (z .stretch)) (λ a. absurd (omega (arith, ltb-true k (z .stretch) a))) λ a.
+      rw a (none-earlier z (stretchAfter K k x) (after r x) l (cases (isRack x) (λ b. rw b (omega arith)) (λ b. rw b h)))
 
   module _ (L : Lawful K) where
     open Lawful L using (racking-refl, after-other, share-sym, meet-sym)
@@ -60,32 +60,32 @@ module _ {A R : Type 0} (K : Records A R) where
     no-rack : (r : R) (l : List A) → count isRack l ≡ 0 → inForce K r l ≡ r
     no-rack r [] e = refl
     no-rack r (x ∷ l) e =
-        by-test (isRack x) (λ a. absurd (omega (arith, rw a at e))) (λ a. rw (after-other r x a) (no-rack r l (rw a at e)))
+        cases (isRack x) (λ a. absurd (omega (arith, rw a at e))) (λ a. rw (after-other r x a) (no-rack r l (rw a at e)))
 
     one-racking : (l : List A) (r : R) (p q : ℕ) → p ≤ q → stretchAt K l p ≡ stretchAt K l q → inForce K r (take p l) ≡ inForce K r (take q l)
     one-racking l r zero q h e = sym (no-rack r (take q l) (sym e))
     one-racking l r (suc p) zero h e = absurd (omega arith)
     one-racking [] r (suc p) (suc q) h e = refl
     one-racking (x ∷ l) r (suc p) (suc q) h e =
-        one-racking l (after r x) p q (omega arith) (by-test (isRack x) (λ a. let f = rw a at e in omega arith) (λ a. rw a at e))
+        one-racking l (after r x) p q (omega arith) (cases (isRack x) (λ a. let f = rw a at e in omega arith) (λ a. rw a at e))
 
     -- an equal record before the mark z stands in an earlier stretch, or it has the same mark
     head-count : (z : Mark A R) (k : ℕ) (r : R) (x : A) → k ≤ z .stretch → (z .stretch ≡ k → z .racking ≡ r) → (c b s : ℕ) → c ≡ b + s
         → cond (same (z .what) x) (suc c) c ≡ cond (earlier z (marked K k r x)) (suc b) b + cond (sameMark K z (marked K k r x)) (suc s) s
     head-count z k r x h g c b s e =
-        by-test (same (z .what) x)
-        (λ a. by-test (ltb k (z .stretch))
-        (λ d. by-test (together K z (marked K k r x))
+        cases (same (z .what) x)
+        (λ a. cases (ltb k (z .stretch))
+        (λ d. cases (together K z (marked K k r x))
         (λ n. absurd (omega (arith, together-stretch K L z (marked K k r x) n, ltb-true k (z .stretch) d)))
         (λ n. rw (a, d, n) (omega arith)))
-        (λ d. by-test (together K z (marked K k r x))
+        (λ d. cases (together K z (marked K k r x))
         (λ n. rw (a, d, n) (omega arith))
         (λ n. let q : z .stretch ≡ k = omega (arith, ltb-false k (z .stretch) d) in
         let t = g q in
         absurd (true≢false (cc (eqb-self k, racking-refl r))))))
-        (λ a. by-test (ltb k (z .stretch))
-        (λ d. by-test (together K z (marked K k r x)) (λ n. rw (a, d, n) e) (λ n. rw (a, d, n) e))
-        (λ d. by-test (together K z (marked K k r x)) (λ n. rw (a, d, n) e) (λ n. rw (a, d, n) e)))
+        (λ a. cases (ltb k (z .stretch))
+        (λ d. cases (together K z (marked K k r x)) (λ n. rw (a, d, n) e) (λ n. rw (a, d, n) e))
+        (λ d. cases (together K z (marked K k r x)) (λ n. rw (a, d, n) e) (λ n. rw (a, d, n) e)))
 
     equals-before : (l : List A) (p k : ℕ) (r : R) (z : Mark A R) → getElem? l p ≡ some (z .what) → z .stretch ≡ k + stretchAt K l p → z .racking ≡ inForce K r (take p l)
         → count (same (z .what)) (take p l) ≡ count (earlier z) (marks K k r l) + count (sameMark K z) (take p (marks K k r l))
@@ -96,7 +96,7 @@ module _ {A R : Type 0} (K : Records A R) where
         (count (same (z .what)) (take p l))
         (count (earlier z) (marks K (stretchAfter K k x) (after r x) l))
         (count (sameMark K z) (take p (marks K (stretchAfter K k x) (after r x) l)))
-        (equals-before l p (stretchAfter K k x) (after r x) z e (by-test (isRack x) (λ a. rw a (let h = rw a at f in omega arith)) (λ a. rw a (rw a at f))) g)
+        (equals-before l p (stretchAfter K k x) (after r x) z e (cases (isRack x) (λ a. rw a (let h = rw a at f in omega arith)) (λ a. rw a (rw a at f))) g)
 
     pub equals-at : (r : R) (l : List A) (p : ℕ) (x : A) → getElem? l p ≡ some x
         → count (same x) (take p l) ≡ count (earlier (markAt r l p x)) (marks K 0 r l) + count (sameMark K (markAt r l p x)) (take p (marks K 0 r l))
@@ -112,7 +112,7 @@ module _ {A R : Type 0} (K : Records A R) where
     -- records are tied in a list exactly if their marks are
     pub tied-marks : (r : R) (l : List A) (p q : ℕ) (x y : A) → p < q → tiedIn K r l p q x y ≡ true → tiedMarks K (markAt r l p x) (markAt r l q y) ≡ true
     tied-marks r l p q x y h t =
-        by-test (eqb (stretchAt K l p) (stretchAt K l q))
+        cases (eqb (stretchAt K l p) (stretchAt K l q))
         (λ e. cc (one-racking l r p q (omega arith) (eqb-true (stretchAt K l p) (stretchAt K l q) e), racking-refl (inForce K r (take p l))))
         (λ e. cc)
 
@@ -121,17 +121,17 @@ module _ {A R : Type 0} (K : Records A R) where
     tied-in-sym r l p q x y h =
         let c = share-sym x y in
         let rest : (eqb (stretchAt K l p) (stretchAt K l q) && meet (inForce K r (take p l)) x y) ≡ (eqb (stretchAt K l q) (stretchAt K l p) && meet (inForce K r (take q l)) y x) =
-        by-test (eqb (stretchAt K l p) (stretchAt K l q))
+        cases (eqb (stretchAt K l p) (stretchAt K l q))
         (λ e. let f = eqb-true (stretchAt K l p) (stretchAt K l q) e in
         cc (one-racking l r p q (omega arith) f, meet-sym (inForce K r (take p l)) x y))
         (λ e. cc (ne-eqb (stretchAt K l q) (stretchAt K l p) (λ f. eqb-false (stretchAt K l p) (stretchAt K l q) e (sym f)))) in
-        by-test (isRack x) (λ a. by-test (isRack y) (λ b. cc) (λ b. cc)) (λ a. by-test (isRack y) (λ b. cc) (λ b. cc))
+        cases (isRack x) (λ a. cases (isRack y) (λ b. cc) (λ b. cc)) (λ a. cases (isRack y) (λ b. cc) (λ b. cc))
 
   marks-tied : (r : R) (l : List A) (p q : ℕ) (x y : A) → tiedMarks K (markAt r l p x) (markAt r l q y) ≡ true → tiedIn K r l p q x y ≡ true
   marks-tied r l p q x y t =
-      by-test (eqb (stretchAt K l p) (stretchAt K l q))
-      (λ e. by-test (sameRacking (inForce K r (take p l)) (inForce K r (take q l))) (λ s. cc)
-      (λ s. by-test (isRack x) (λ a. cc) λ a. by-test (isRack y) (λ b. cc) λ b. by-test (share x y) (λ c. cc) (λ c. cc)))
+      cases (eqb (stretchAt K l p) (stretchAt K l q))
+      (λ e. cases (sameRacking (inForce K r (take p l)) (inForce K r (take q l))) (λ s. cc)
+      (λ s. cases (isRack x) (λ a. cc) λ a. cases (isRack y) (λ b. cc) λ b. cases (share x y) (λ c. cc) (λ c. cc)))
       (λ e. cc)
 
   pub marks-tied-at : (r : R) (l : List A) (p q : ℕ) (z w : Mark A R) → getElem? (marks K 0 r l) p ≡ some z → getElem? (marks K 0 r l) q ≡ some w

@@ -1,4 +1,5 @@
 -- The position of an element that has i equal ones before it: there is one if more than i are counted, and not a second. Assumes nothing.
+use borrow.Table.Steps.{cases}
 use Prim.Native.Nat.{ℕ, zero, suc, _<_}
 use mathlib.Core.Path.{_≡_, refl, sym, ap}
 use mathlib.Core.Bool.{Bool, true, true≢false}
@@ -7,7 +8,6 @@ use mathlib.Core.Option.{some}
 use native.Mathlib.Omega.{arith}
 use lib.ListN.{take}
 use Rattle.trace.specs.Lists.{count, Nth}
-use Rattle.trace.proofs.Tests.{by-test}
 use Rattle.trace.proofs.Lists.{count-lt}
 
 module _ {A : Type 0} (same : A → A → Bool) (same-refl : (x : A) → same x x ≡ true) where
@@ -21,7 +21,7 @@ module _ {A : Type 0} (same : A → A → Bool) (same-refl : (x : A) → same x 
   nth-bound x (z ∷ l) i (suc p) n =
       let ih = nth-bound x l (count (same x) (take p l)) p (record { holds = n .holds; equals = refl }) in
       let f = n .equals in
-      by-test (same x z) (λ e. let g = rw e at f in rw e (omega arith)) (λ e. let g = rw e at f in rw e (omega arith))
+      cases (same x z) (λ e. let g = rw e at f in rw e (omega arith)) (λ e. let g = rw e at f in rw e (omega arith))
 
   pub nth-unique : (x : A) (l : List A) (i p q : ℕ) → Nth same l x i p → Nth same l x i q → p ≡ q
   nth-unique x l i p q n m =
@@ -33,7 +33,7 @@ module _ {A : Type 0} (same : A → A → Bool) (same-eq : (x y : A) → same x 
   pub nth-exists : (x : A) (l : List A) (i : ℕ) → i < count (same x) l → (p : ℕ) × Nth same l x i p
   nth-exists x [] i h = absurd (omega arith)
   nth-exists x (z ∷ l) i h =
-      by-test (same x z)
+      cases (same x z)
       (λ e. equal i e (rw e at h) (nth-exists x l))
       (λ e. let (p, n) = nth-exists x l i (rw e at h) in (suc p, record { holds = n .holds; equals = rw e (n .equals) }))
     where

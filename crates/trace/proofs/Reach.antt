@@ -1,4 +1,5 @@
 -- The lists that swaps reach: those with the same records between the same racks and the same order of tied records. Assumes nothing.
+use borrow.Table.Steps.{cases}
 use Prim.Native.Nat.{ℕ, _+_, _<_}
 use mathlib.Core.Path.{_≡_, refl, sym, _∙_}
 use mathlib.Core.Bool.{true}
@@ -12,7 +13,6 @@ use Rattle.trace.specs.Lists.{count, Nth}
 use Rattle.trace.specs.Records.{Records, Lawful}
 use Rattle.trace.specs.Swaps.{Swaps}
 use Rattle.trace.specs.Order.{SameRecords, tiedIn, SameOrder, KeepsOrder}
-use Rattle.trace.proofs.Tests.{by-test}
 use Rattle.trace.proofs.Positions.{nth-bound, nth-exists, nth-unique}
 use Rattle.trace.proofs.Exchanges.{exchanges-views, views-exchanges}
 use Rattle.trace.proofs.Elements.{SameElements, elements-count}
@@ -92,7 +92,7 @@ module _ {A R : Type 0} (K : Records A R) (L : Lawful K) (r : R) (l m : List A) 
       let (is, t) = views-exchanges (markTies K L) new old (order-views (markTies K L) old new c (order-marks c o)) in
       (is, exchanges-swaps K L t r l m refl refl)
 
-  pub keeps-order : {is : List ℕ} → Swaps K r is l m → KeepsOrder K r l m
+  keeps-order : {is : List ℕ} → Swaps K r is l m → KeepsOrder K r l m
   keeps-order t =
       let h = exchanges-views (markTies K L) (swaps-exchanges K L t) in
       marks-order (views-elements (markTies K L) old new h) (views-order (markTies K L) old new h)
@@ -115,7 +115,7 @@ module _ {A R : Type 0} (K : Records A R) (L : Lawful K) where
       → Nth same m x i p′ → Nth same m y j q′ → (p < q) ↔ (p′ < q′)
   positions r l m o x y i j p q p′ q′ a b t c d = (
     order-positions r l m o x y i j p q p′ q′ a b t c d,
-    (λ h. by-test (ltb p q) (ltb-true p q) (λ e. by-test (ltb q p) (λ f. absurd (later h (ltb-true q p f))) (λ f. absurd (equal h (omega (arith, ltb-false p q e, ltb-false q p f)))))),
+    (λ h. cases (ltb p q) (ltb-true p q) (λ e. cases (ltb q p) (λ f. absurd (later h (ltb-true q p f))) (λ f. absurd (equal h (omega (arith, ltb-false p q e, ltb-false q p f)))))),
   )
     where
       later : p′ < q′ → q < p → ⊥

@@ -1,4 +1,5 @@
 -- The same records between the same racks: kept by swaps, and enough for the same marks, repeats counted. Assumes nothing.
+use borrow.Table.Steps.{cases}
 use Prim.Native.Nat.{ℕ, zero, suc, _+_}
 use mathlib.Core.Path.{_≡_, refl, ap, _∙_, fun-ext}
 use mathlib.Core.Bool.{Bool, false, cond, true≢false}
@@ -8,7 +9,6 @@ use Rattle.trace.specs.Lists.{keep, count}
 use Rattle.trace.specs.Records.{Records, Lawful}
 use Rattle.trace.specs.Swaps.{made, swapAt, Swaps, no-swap, swap-first}
 use Rattle.trace.specs.Order.{stretch, SameRecords}
-use Rattle.trace.proofs.Tests.{by-test}
 use Rattle.trace.proofs.Lists.{count-swap}
 use Rattle.trace.proofs.Elements.{SameElements}
 use Rattle.trace.proofs.Swaps.{behind-made, front-made, untied, swaps-keep}
@@ -34,8 +34,8 @@ module _ {A R : Type 0} (K : Records A R) where
       rw g (go n k (λ k. made-stretch p l n (after r x) i k f))
     where
       go : (n : List A) (k : ℕ) → ((k : ℕ) → count p (stretch K k l) ≡ count p (stretch K k n)) → count p (stretch K k (x ∷ l)) ≡ count p (stretch K k (x ∷ n))
-      go n zero ih = by-test (isRack x) (λ a. cc) (λ a. cc (ih zero))
-      go n (suc k) ih = by-test (isRack x) (λ a. cc (ih k)) (λ a. cc (ih (suc k)))
+      go n zero ih = cases (isRack x) (λ a. cc) (λ a. cc (ih zero))
+      go n (suc k) ih = cases (isRack x) (λ a. cc (ih k)) (λ a. cc (ih (suc k)))
 
   swaps-stretch : {r : R} {is : List ℕ} {l m : List A} → Swaps K r is l m → (p : A → Bool) (k : ℕ) → count p (stretch K k l) ≡ count p (stretch K k m)
   swaps-stretch no-swap p k = refl
@@ -59,8 +59,8 @@ module _ {A R : Type 0} (K : Records A R) where
   mark-count-first z k r [] c d h = omega arith
   mark-count-first z k r (x ∷ racks) c d h =
       let t = mark-count-ext z (suc k) (after r x) racks (λ j. c (suc j)) (λ j. d (suc j)) h in
-      by-test (together K z (marked K k r x))
-      (λ n. by-test (same (z .what) x) (λ a. rw (n, a) (omega arith)) (λ a. rw (n, a) (omega arith)))
+      cases (together K z (marked K k r x))
+      (λ n. cases (same (z .what) x) (λ a. rw (n, a) (omega arith)) (λ a. rw (n, a) (omega arith)))
       (λ n. rw n (omega arith))
 
   -- how often x stands in each stretch
@@ -72,23 +72,23 @@ module _ {A R : Type 0} (K : Records A R) where
 
     count-marks : (z : Mark A R) (k : ℕ) (r : R) (l : List A) → count (sameMark K z) (marks K k r l) ≡ markCount z k r (keep isRack l) (eachStretch (z .what) l)
     unfolding markCount
-    count-marks z k r [] = by-test (together K z (marked K k r (z .what))) (λ n. rw n) (λ n. rw n)
+    count-marks z k r [] = cases (together K z (marked K k r (z .what))) (λ n. rw n) (λ n. rw n)
     count-marks z k r (x ∷ l) =
         let ih = count-marks z (stretchAfter K k x) (after r x) l in
-        by-test (isRack x)
+        cases (isRack x)
         (λ a.
         let t = mark-count-ext z (suc k) (after r x) (keep isRack l) (λ j. eachStretch (z .what) (x ∷ l) (suc j)) (eachStretch (z .what) l) (λ j. cc) in
         let u : eachStretch (z .what) (x ∷ l) 0 ≡ 0 = cc in
         let g = rw a at ih in
-        by-test (together K z (marked K k r x))
-        (λ n. by-test (same (z .what) x) (λ b. rw (a, n, b) (omega arith)) (λ b. rw (a, n, b) (omega arith)))
+        cases (together K z (marked K k r x))
+        (λ n. cases (same (z .what) x) (λ b. rw (a, n, b) (omega arith)) (λ b. rw (a, n, b) (omega arith)))
         (λ n. rw (a, n) (omega arith)))
         (λ a.
         let t = mark-count-first z k r (keep isRack l) (eachStretch (z .what) (x ∷ l)) (eachStretch (z .what) l) (λ j. cc) in
         let u : eachStretch (z .what) (x ∷ l) 0 ≡ cond (same (z .what) x) (suc (eachStretch (z .what) l 0)) (eachStretch (z .what) l 0) = cc in
         let g = rw (a, after-other r x a) at ih in
-        by-test (together K z (marked K k r x))
-        (λ n. by-test (same (z .what) x)
+        cases (together K z (marked K k r x))
+        (λ n. cases (same (z .what) x)
         (λ b. rw (a, after-other r x a, n, b) (let t′ = rw n at t in let u′ = rw b at u in omega arith))
         (λ b. rw (a, after-other r x a, n, b) (let t′ = rw n at t in let u′ = rw b at u in omega arith)))
         (λ n. rw (a, after-other r x a, n) (let t′ = rw n at t in omega arith)))

@@ -1,4 +1,5 @@
 -- Swaps: when one is made, that it can be undone, and that tests which only tied records pass are kept. Assumes nothing.
+use borrow.Table.Steps.{cases}
 use Prim.Native.Nat.{ℕ, zero, suc, _≤_}
 use mathlib.Core.Path.{_≡_, refl, sym, _∙_}
 use mathlib.Core.Bool.{Bool, true, false, true≢false}
@@ -10,7 +11,6 @@ use Rattle.trace.specs.Lists.{keep}
 use Rattle.trace.specs.Records.{Records, tied, Lawful}
 use Rattle.trace.specs.Swaps.{Outcome, no-pair, is-tied, made, behind, swapAt, Swaps, no-swap, swap-first}
 use Rattle.trace.specs.Order.{inForce}
-use Rattle.trace.proofs.Tests.{by-test}
 use Rattle.trace.proofs.Lists.{keep-swap}
 
 -- what a swap behind the head comes from
@@ -25,33 +25,33 @@ module _ {A R : Type 0} (K : Records A R) where
   -- what the lack of a tie rules out
   pub untied : (r : R) (x y : A) → tied K r x y ≡ false → (isRack x ≡ false) × (isRack y ≡ false) × (share x y ≡ false) × (meet r x y ≡ false)
   untied r x y e =
-      by-test (isRack x) (λ a. absurd (true≢false (cc))) λ a.
-      by-test (isRack y) (λ b. absurd (true≢false (cc))) λ b.
-      by-test (share x y) (λ c. absurd (true≢false (cc))) λ c.
+      cases (isRack x) (λ a. absurd (true≢false (cc))) λ a.
+      cases (isRack y) (λ b. absurd (true≢false (cc))) λ b.
+      cases (share x y) (λ c. absurd (true≢false (cc))) λ c.
       (a, b, c, cc)
 
   -- what a swap at the front comes from
   pub front-made : (r : R) (x y : A) (l m : List A) → swapAt K r zero (x ∷ y ∷ l) ≡ made m → (tied K r x y ≡ false) × (m ≡ y ∷ x ∷ l)
-  front-made r x y l m e = by-test (tied K r x y) (λ t. absurd (true≢false (cc))) (λ t. (t, cc))
+  front-made r x y l m e = cases (tied K r x y) (λ t. absurd (true≢false (cc))) (λ t. (t, cc))
 
   -- a swap of two neighbours that stand there
   pub untied-is-made : (r : R) (u : List A) (x y : A) (v : List A) → tied K (inForce K r u) x y ≡ false → swapAt K r (length u) (u ++ x ∷ y ∷ v) ≡ made (u ++ y ∷ x ∷ v)
   untied-is-made r [] x y v t = rw t
   untied-is-made r (z ∷ u) x y v t = rw (untied-is-made (after r z) u x y v t)
 
-  pub tied-is-refused : (r : R) (u : List A) (x y : A) (v : List A) → tied K (inForce K r u) x y ≡ true → swapAt K r (length u) (u ++ x ∷ y ∷ v) ≡ is-tied
+  tied-is-refused : (r : R) (u : List A) (x y : A) (v : List A) → tied K (inForce K r u) x y ≡ true → swapAt K r (length u) (u ++ x ∷ y ∷ v) ≡ is-tied
   tied-is-refused r [] x y v t = rw t
   tied-is-refused r (z ∷ u) x y v t = rw (tied-is-refused (after r z) u x y v t)
 
   pub made-exactly : (r : R) (u : List A) (x y : A) (v : List A) → (swapAt K r (length u) (u ++ x ∷ y ∷ v) ≡ made (u ++ y ∷ x ∷ v)) ↔ (tied K (inForce K r u) x y ≡ false)
   made-exactly r u x y v = (
-    (λ e. by-test (tied K (inForce K r u) x y) (λ t. absurd (true≢false (cc (tied-is-refused r u x y v t)))) (λ t. t)),
+    (λ e. cases (tied K (inForce K r u) x y) (λ t. absurd (true≢false (cc (tied-is-refused r u x y v t)))) (λ t. t)),
     untied-is-made r u x y v,
   )
 
   pub refused-exactly : (r : R) (u : List A) (x y : A) (v : List A) → (swapAt K r (length u) (u ++ x ∷ y ∷ v) ≡ is-tied) ↔ (tied K (inForce K r u) x y ≡ true)
   refused-exactly r u x y v = (
-    (λ e. by-test (tied K (inForce K r u) x y) (λ t. t) (λ t. absurd (true≢false (cc (untied-is-made r u x y v t))))),
+    (λ e. cases (tied K (inForce K r u) x y) (λ t. t) (λ t. absurd (true≢false (cc (untied-is-made r u x y v t))))),
     tied-is-refused r u x y v,
   )
 
@@ -65,7 +65,7 @@ module _ {A R : Type 0} (K : Records A R) where
   pub no-pair-short : (r : R) (i : ℕ) (l : List A) → swapAt K r i l ≡ no-pair → length l ≤ suc i
   no-pair-short r i [] e = omega arith
   no-pair-short r zero (x ∷ []) e = omega arith
-  no-pair-short r zero (x ∷ y ∷ l) e = by-test (tied K r x y) (λ t. absurd (true≢false (cc))) (λ t. absurd (true≢false (cc)))
+  no-pair-short r zero (x ∷ y ∷ l) e = cases (tied K r x y) (λ t. absurd (true≢false (cc))) (λ t. absurd (true≢false (cc)))
   no-pair-short r (suc i) (x ∷ l) e = go (swapAt K (after r x) i l) refl (no-pair-short (after r x) i l)
     where
       go : (t : Outcome A) → swapAt K (after r x) i l ≡ t → (swapAt K (after r x) i l ≡ no-pair → length l ≤ suc i) → length (x ∷ l) ≤ suc (suc i)
@@ -101,11 +101,11 @@ module _ {A R : Type 0} (K : Records A R) where
     tied-sym r x y =
         let a = share-sym x y in
         let b = meet-sym r x y in
-        by-test (isRack x) (λ e. by-test (isRack y) (λ f. cc) (λ f. cc)) (λ e. by-test (isRack y) (λ f. cc) (λ f. cc))
+        cases (isRack x) (λ e. cases (isRack y) (λ f. cc) (λ f. cc)) (λ e. cases (isRack y) (λ f. cc) (λ f. cc))
 
     -- equal records are tied
     tied-refl : (r : R) (x : A) → tied K r x x ≡ true
-    tied-refl r x = by-test (isRack x) (λ a. cc) (λ a. by-test (share x x) (λ b. cc) (λ b. cc (meet-refl r x a b)))
+    tied-refl r x = cases (isRack x) (λ a. cc) (λ a. cases (share x x) (λ b. cc) (λ b. cc (meet-refl r x a b)))
 
     pub equals-are-tied : (r : R) (x y : A) → K .same x y ≡ true → tied K r x y ≡ true
     equals-are-tied r x y e = rw (← same-eq x y e) (tied-refl r x)

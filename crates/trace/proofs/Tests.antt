@@ -1,11 +1,6 @@
--- Tests: a case for each answer, and what a conjunction says. Assumes nothing.
+-- Tests: what a conjunction says, and when two are equal. Assumes nothing.
 use mathlib.Core.Path.{_≡_, refl, sym}
 use mathlib.Core.Bool.{Bool, true, false, _&&_}
-
--- a test answers true or false
-pub by-test : {G : Type 0} (b : Bool) → (b ≡ true → G) → (b ≡ false → G) → G
-by-test true f g = f refl
-by-test false f g = g refl
 
 pub and-left : (a b : Bool) → (a && b) ≡ true → a ≡ true
 and-left true b e = refl

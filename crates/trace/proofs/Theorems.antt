@@ -39,7 +39,7 @@ module _ {A R : Type 0} (K : Records A R) where
   one-half-is-enough L r l m s o = same-order K L (reaches K L r l m s o .1)
 
 module _ {A R S N : Type 0} (K : Records A R) (M : Machine A R S) (names : N → A → Bool) (Good : S → Type 0) where
-  pub swaps-keep-the-run : SwapsKeepTheRun K M names Good
+  swaps-keep-the-run : SwapsKeepTheRun K M names Good
   swaps-keep-the-run O s g is l m t = swaps-run K M names Good O s g t
 
   pub swaps-keep : SwapsKeep K M names Good

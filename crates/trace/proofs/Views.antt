@@ -1,4 +1,5 @@
 -- The order of tied elements, said by positions, is the same as the same views of any two. Assumes nothing.
+use borrow.Table.Steps.{cases}
 use Prim.Native.Nat.{ℕ, zero, suc, _<_}
 use mathlib.Core.Path.{_≡_, refl, sym, _∙_}
 use mathlib.Core.Bool.{Bool, true, false, cond, true≢false}
@@ -6,7 +7,6 @@ use mathlib.Core.List.{List, [], _∷_}
 use native.Mathlib.Omega.{arith}
 use lib.ListN.{take}
 use Rattle.trace.specs.Lists.{keep, count, Nth}
-use Rattle.trace.proofs.Tests.{by-test}
 use Rattle.trace.proofs.Lists.{keep-passes, count-keep, count-none, take-keep, keep-at, keep-from, count-lt, count-later}
 use Rattle.trace.proofs.Positions.{nth-exists}
 use Rattle.trace.proofs.Exchanges.{Ties, oneOf, one-of-tied, SameViews}
@@ -38,7 +38,7 @@ module _ {A : Type 0} (same : A → A → Bool) (same-refl : (x : A) → same x 
         let (q, e, f) = keep-from w x l p (n .holds) in
         (q, record { holds = e; equals = sym (count-keep w (same x) h (take q l)) ∙ (rw (← take-keep w l q, f) (n .equals)) }, f)
 
-    pub before-keep : (x y : A) → Passes x → Passes y → (l : List A) (i j : ℕ) → Before same l x i y j → Before same (keep w l) x i y j
+    before-keep : (x y : A) → Passes x → Passes y → (l : List A) (i j : ℕ) → Before same l x i y j → Before same (keep w l) x i y j
     before-keep x y h k l i j b =
         record {
           p = count w (take (b .p) l);
@@ -48,7 +48,7 @@ module _ {A : Type 0} (same : A → A → Bool) (same-refl : (x : A) → same x 
           before = count-lt w x (h x (same-refl x)) l (b .p) (b .q) (b .x-at-p .holds) (b .before);
         }
 
-    pub keep-before : (x y : A) → Passes x → Passes y → (l : List A) (i j : ℕ) → Before same (keep w l) x i y j → Before same l x i y j
+    keep-before : (x y : A) → Passes x → Passes y → (l : List A) (i j : ℕ) → Before same (keep w l) x i y j → Before same l x i y j
     keep-before x y h k l i j b =
         let (p, n, e) = keep-nth x h l i (b .p) (b .x-at-p) in
         let (q, m, f) = keep-nth y k l j (b .q) (b .y-at-q) in
@@ -63,7 +63,7 @@ module _ {A : Type 0} (same : A → A → Bool) (same-refl : (x : A) → same x 
 
   nth-down : (a x : A) (l : List A) (i p : ℕ) → Nth same (a ∷ l) x (countUp a x i) p → (q : ℕ) × (p ≡ suc q) × Nth same l x i q
   nth-down a x l i zero n = absurd (true≢false (let e = n .holds in let f = n .equals in cc (same-refl x)))
-  nth-down a x l i (suc p) n = (p, refl, record { holds = n .holds; equals = let e = n .equals in by-test (same x a) (λ f. cc) (λ f. cc) })
+  nth-down a x l i (suc p) n = (p, refl, record { holds = n .holds; equals = let e = n .equals in cases (same x a) (λ f. cc) (λ f. cc) })
 
   -- all of the order of u is that of v
   abbrev SameBefore : List A → List A → Type 0
@@ -93,15 +93,15 @@ module _ {A : Type 0} (same : A → A → Bool) (same-refl : (x : A) → same x 
   other-at a b u (suc p) f n = omega arith
 
   -- lists with the same elements, all in the same order, are equal
-  pub same-list : ((x y : A) → same x y ≡ true → x ≡ y) → (u v : List A) → SameElements same u v → SameBefore u v → u ≡ v
+  same-list : ((x y : A) → same x y ≡ true → x ≡ y) → (u v : List A) → SameElements same u v → SameBefore u v → u ≡ v
   same-list same-eq [] [] c h = refl
   same-list same-eq [] (b ∷ v) c h = absurd (true≢false (let e = c b in cc (same-refl b)))
   same-list same-eq (a ∷ u) [] c h = absurd (true≢false (let e = c a in cc (same-refl a)))
   same-list same-eq (a ∷ u) (b ∷ v) c h =
-      by-test (same a b)
+      cases (same a b)
       (λ e.
       let f = same-eq a b e in
-      let ih = same-list same-eq u v (λ z. let g = c z in by-test (same z a) (λ k. cc) (λ k. cc)) (before-tail a u v (λ x y i j t. rw f (h x y i j t))) in
+      let ih = same-list same-eq u v (λ z. let g = c z in cases (same z a) (λ k. cc) (λ k. cc)) (before-tail a u v (λ x y i j t. rw f (h x y i j t))) in
       cc)
       (λ e.
       let k : count (same b) (b ∷ v) ≡ suc (count (same b) v) = cc (same-refl b) in
@@ -120,7 +120,7 @@ module _ {A : Type 0} (T : Ties A) where
   is-first x y z e = cc
 
   is-second : (x y z : A) → same y z ≡ true → oneOf T x y z ≡ true
-  is-second x y z e = by-test (same x z) (λ f. cc) (λ f. cc)
+  is-second x y z e = cases (same x z) (λ f. cc) (λ f. cc)
 
   pub views-elements : (l m : List A) → SameViews T l m → SameElements same l m
   views-elements l m h x =
@@ -147,7 +147,7 @@ module _ {A : Type 0} (T : Ties A) where
 
       elements : SameElements same (keep w l) (keep w m)
       elements z =
-          by-test (w z)
+          cases (w z)
           (λ e. cc (count-keep w (same z) (in-w z e) l, count-keep w (same z) (in-w z e) m, c z))
           (λ e. cc (count-none w (same z) (out-w z e) l, count-none w (same z) (out-w z e) m))
 

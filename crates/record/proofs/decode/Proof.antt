@@ -1,7 +1,7 @@
 -- Each kind by itself. Assumes nothing.
+use borrow.Table.Steps.{cases}
 use borrow.Author.Needs.{needs}
 use borrow.Author.Tests.{eq-eqb, ne-eqb, le-leb, lt-leb, leb-true, leb-false}
-use Rattle.machine.proofs.Laws.{by}
 use mathlib.Core.Path.{_≡_, sym, ap, _∙_}
 use mathlib.Core.List.{List}
 use native.Mathlib.Omega.{arith}
@@ -29,7 +29,7 @@ module _ (l : List ℕ) (k : ℕ) (n1 : k ≡ 1 → ⊥) (n2 : k ≡ 2 → ⊥) 
   unknown-low h = simp (ne-eqb k 1 n1, ne-eqb k 2 n2, ne-eqb k 3 n3, lt-leb 4 k h, ne-eqb k 9 n9)
 
   unknown : (k ≡ 4 → ⊥) → (k ≡ 5 → ⊥) → (k ≡ 6 → ⊥) → (k ≡ 7 → ⊥) → (k ≡ 8 → ⊥) → refusedAs 3 ≡ readAt k l
-  unknown n4 n5 n6 n7 n8 = by (leb 4 k) (λ t. unknown-high (over k (leb-true 4 k t) n4 n5 n6 n7 n8)) (λ t. unknown-low (leb-false 4 k t))
+  unknown n4 n5 n6 n7 n8 = cases (leb 4 k) (λ t. unknown-high (over k (leb-true 4 k t) n4 n5 n6 n7 n8)) (λ t. unknown-low (leb-false 4 k t))
     where
       over : (k : ℕ) → 4 ≤ k → (k ≡ 4 → ⊥) → (k ≡ 5 → ⊥) → (k ≡ 6 → ⊥) → (k ≡ 7 → ⊥) → (k ≡ 8 → ⊥) → 8 < k
       over k h a b c d e = omega arith

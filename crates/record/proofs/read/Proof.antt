@@ -5,7 +5,7 @@ use native.Mathlib.Omega.{arith}
 use mathlib.Core.Path.{_≡_, _∙_}
 use mathlib.Core.Logic.{⊎-elim}
 use mathlib.Core.List.{List}
-use Prim.Native.Nat.{ℕ, _≤_, _<_}
+use Prim.Native.Nat.{ℕ, _≤_}
 use Rattle.record.specs.Format.{whole, workAt, splitAt, readAt}
 use Rattle.record.proofs.Ranges.{four}
 use Rattle.record.proofs.read.Statement.{statement}

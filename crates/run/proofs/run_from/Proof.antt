@@ -104,8 +104,8 @@ returns-2 : tie.Need-returns-2 Inv-loop μ-loop
 returns-2 c = let b = c .before .before .before .before .before .before .before .before .before .before in let e = c .before .before .before .before .before .match .keys3 in
     c .stop2 .ensures ∙ simp (c .before .before .transfer .ensures .1, transfer-kept (s b .loops) (x b .at) (x b .to) (s b .racking) 0 _ (c .before .before .transfer .ensures .0) (c .before .if2 .taken)) (halt b (xfer-stopped (s b) (x b) e _ (c .before .before .transfer .ensures .0)) (c .before .if2 .taken))
 
-any-attached-requires : tie.Need-any-attached-requires Inv-loop μ-loop
-any-attached-requires c κs = search needs
+any-beside-requires : tie.Need-any-beside-requires Inv-loop μ-loop
+any-beside-requires c κs = search needs
 
 attachments-moved-requires : tie.Need-attachments-moved-requires Inv-loop μ-loop
 attachments-moved-requires c κs = search needs
@@ -313,8 +313,8 @@ returns-10 c = let b = c .before .before .before .before .before .before .before
 attach-requires-3 : tie.Need-attach-requires-3 Inv-loop μ-loop
 attach-requires-3 c κs = known (c .before .before .before .before .before .before .before .before .before .before .before .before .before) .at-bed
 
-any-attached-requires-2 : tie.Need-any-attached-requires-2 Inv-loop μ-loop
-any-attached-requires-2 c κs = search needs
+any-beside-requires-2 : tie.Need-any-beside-requires-2 Inv-loop μ-loop
+any-beside-requires-2 c κs = search needs
 
 attachments-moved-requires-2 : tie.Need-attachments-moved-requires-2 Inv-loop μ-loop
 attachments-moved-requires-2 c κs = search needs
@@ -357,7 +357,7 @@ loop-less-4 c = less (c .before .before .before .before .before .before .before 
 
 loop-again-4 : tie.Need-loop-again-4 Inv-loop μ-loop
 loop-again-4 c = let b = c .before .before .before .before .before .before .before .before .before .before .before .before in let e = c .before .before .before .before .before .before .before .match .keys3 in
-    on b (xfer-made (s b) (x b) e _ (c .before .before .before .before .transfer .ensures .0) (c .before .before .before .if2 .left) _ _ (c .before .before .before .before .transfer .ensures .1) (unmoved (x b .at) (x b .to) (s b .carriers) (sym (c .before .any-attached .ensures) ∙ c .if3 .left)))
+    on b (xfer-made (s b) (x b) e _ (c .before .before .before .before .transfer .ensures .0) (c .before .before .before .if2 .left) _ _ (c .before .before .before .before .transfer .ensures .1) (unmoved (x b .at) (x b .to) (s b .carriers) (sym (c .before .any-beside .ensures) ∙ c .if3 .left)))
 
 loop-less-5 : tie.Need-loop-less-5 Inv-loop μ-loop
 loop-less-5 c = less (c .before .before .before .before .before .before .before .before .before .before)
@@ -406,7 +406,7 @@ loop-less-11 c = less (c .before .before .before .before .before .before .before
 
 loop-again-11 : tie.Need-loop-again-11 Inv-loop μ-loop
 loop-again-11 c = let b = c .before .before .before .before .before .before .before .before .before .before .before .before .before .before .before .before .before in let no = c .before .before .before .before .before .before .before .before .before .before .before .before .match .rest in let e = nine (known b) (no .0 .0 .0 .0 .0 .0 .0 .1) (no .0 .0 .0 .0 .0 .0 .1) (no .0 .0 .0 .0 .0 .1) (no .0 .0 .0 .0 .1) (no .0 .0 .0 .1) (no .0 .0 .1) (no .0 .1) (no .1) in
-    on b (split-made (s b) (x b) e _ (c .before .before .before .before .before .before .before .before .asked6 .ensures) (c .before .before .before .before .before .before .before .if10 .left) _ (c .before .before .before .before .before .transfer2 .ensures .0) (c .before .before .before .before .if11 .left) _ (c .before .before .before .attach3 .ensures) _ _ (c .before .before .before .before .before .transfer2 .ensures .1) (unmoved (x b .at) (x b .to) (s b .carriers) (sym (c .before .any-attached2 .ensures) ∙ c .if12 .left)))
+    on b (split-made (s b) (x b) e _ (c .before .before .before .before .before .before .before .before .asked6 .ensures) (c .before .before .before .before .before .before .before .if10 .left) _ (c .before .before .before .before .before .transfer2 .ensures .0) (c .before .before .before .before .if11 .left) _ (c .before .before .before .attach3 .ensures) _ _ (c .before .before .before .before .before .transfer2 .ensures .1) (unmoved (x b .at) (x b .to) (s b .carriers) (sym (c .before .any-beside2 .ensures) ∙ c .if12 .left)))
 
 stop-requires-11 : tie.Need-stop-requires-11 Inv-loop μ-loop
 stop-requires-11 c κs = search needs
@@ -432,7 +432,7 @@ run-from-spec =
     transfer-requires
     stop-requires-2
     returns-2
-    any-attached-requires
+    any-beside-requires
     attachments-moved-requires
     cast-k
     sub-k
@@ -499,7 +499,7 @@ run-from-spec =
     stop-requires-10
     returns-10
     attach-requires-3
-    any-attached-requires-2
+    any-beside-requires-2
     attachments-moved-requires-2
     mul-ds
     array-set-from-ds
