@@ -6,6 +6,9 @@
 
 enum { RACK = 1, DROP, XFER, IN, OUT, MISS, TUCK, KNIT, SPLIT, KIND_LIMIT };
 
+/* What is lent is aligned to this, since the C library copies by alignment. */
+enum { LINE = 64 };
+
 /* A record's direction. */
 enum { LEFT, RIGHT };
 

@@ -8,7 +8,7 @@ enum { PROGRAMS = 15 };
 
 struct program {
     const char *name;
-    uint8_t bytes[KNITOUT_PROGRAM_MOST];
+    _Alignas(LINE) uint8_t bytes[KNITOUT_PROGRAM_MOST];
     size_t length;
     unsigned records;             /* that a run comes to, a refused one included */
     unsigned of_kind[KIND_LIMIT]; /* the same, by kind; entry 0 is not used */

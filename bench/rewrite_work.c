@@ -15,8 +15,8 @@ enum { OUTPUT = KNITOUT_PROGRAM_MOST + 64, WORK = KNITOUT_PROGRAM_MOST / 2 + 64,
 
 /* The areas lent to a call, and its answer. */
 struct lent {
-    uint8_t output[OUTPUT];
-    uint16_t work[WORK];
+    _Alignas(LINE) uint8_t output[OUTPUT];
+    _Alignas(LINE) uint16_t work[WORK];
     uint64_t answer;
 };
 

@@ -20,7 +20,7 @@ struct swap_case {
 
 /* A case built. */
 struct swap_input {
-    uint8_t program[KNITOUT_PROGRAM_MOST];
+    _Alignas(LINE) uint8_t program[KNITOUT_PROGRAM_MOST];
     size_t length;
     unsigned records;
     uint8_t log[KNITOUT_LOG_MOST];

@@ -2,6 +2,8 @@
 #ifndef BENCH_WORK_H
 #define BENCH_WORK_H
 
+#include "kinds.h"
+
 /* What a call through an entry that does nothing costs is taken off the other two. */
 enum version { NOTHING, LIBRARY, PLAIN, VERSIONS };
 
