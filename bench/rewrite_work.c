@@ -121,7 +121,14 @@ static int neighbours_differ(void)
     return 0;
 }
 
-/* Each case's first swap alone, since a swap made twice does not show; and every swap of the mixed program. */
+/* Logs cut short after a swap and before one, and one of another kind. */
+static int torn_differs(void)
+{
+    static const uint8_t torn[] = { SWAP + 1, 0, 2 };
+    return log_differs(in->log, SWAP_SIZE + 1) || log_differs(in->log, SWAP_SIZE - 1) || log_differs(torn, sizeof torn);
+}
+
+/* Each case's first swap alone, since a swap made twice does not show; every swap of the mixed program; torn logs. */
 static int checks(void)
 {
     for (int i = 0; i < inputs(); i++) {
@@ -129,7 +136,8 @@ static int checks(void)
         prepare(LIBRARY);
         prepare(PLAIN);
         if (swap_case->swaps > 1 && log_differs(in->log, SWAP_SIZE)) return 1;
-        if (swap_case->log == FOUND && swap_case->swaps && neighbours_differ()) return 1;
+        if (swap_case->log != FOUND || swap_case->swaps == 0) continue;
+        if (neighbours_differ() || torn_differs()) return 1;
     }
     return 0;
 }

@@ -8,7 +8,11 @@
 
 typedef uint64_t (*run_function)(const uint8_t *program, size_t length);
 
+/* Altered programs; a bit for each number that a run of one may give: 0 and 3 to 11. */
+enum { ALTERED = 1000, NUMBERS = 0xff9 };
+
 static const struct program *program;
+static unsigned seen;
 static uint64_t answers[VERSIONS];
 
 static uint64_t run_nothing(const uint8_t *bytes, size_t length)
@@ -48,16 +52,73 @@ static int differs(void)
     return 1;
 }
 
-/* Both versions on every front part of a mixed program. */
-static int checks(void)
+/* Both versions on some bytes. */
+static int versions_differ(const uint8_t *bytes, size_t length)
 {
-    program = find_program("mixed-4096");
-    for (size_t length = 0; length <= program->length; length++) {
-        if (knitout_run(program->bytes, length) == plain_run(program->bytes, length)) continue;
-        fprintf(stderr, "bench: run: the versions differ on the first %zu bytes of %s\n", length, program->name);
-        return 1;
+    uint64_t library = knitout_run(bytes, length), plain = plain_run(bytes, length);
+    seen |= 1u << KNITOUT_NUMBER(plain);
+    if (library == plain) return 0;
+    fprintf(stderr, "bench: run of an altered program: library %" PRIx64 ", plain C %" PRIx64 "\n", library, plain);
+    return 1;
+}
+
+/* With one byte altered. */
+static int altered_differs(uint8_t *bytes, size_t length, size_t at, uint8_t value)
+{
+    uint8_t before = bytes[at];
+    bytes[at] = value;
+    int differ = versions_differ(bytes, length);
+    bytes[at] = before;
+    return differ;
+}
+
+/* Every front part. */
+static int fronts_differ(const struct program *p)
+{
+    for (size_t length = 0; length <= p->length; length++)
+        if (versions_differ(p->bytes, length)) return 1;
+    return 0;
+}
+
+/* Any byte altered. */
+static int bytes_differ(uint8_t *bytes, size_t length)
+{
+    uint32_t seed = 1;
+    for (int i = 0; i < ALTERED; i++) {
+        size_t at = choose_below(&seed, (unsigned)length);
+        if (altered_differs(bytes, length, at, (uint8_t)choose_below(&seed, 256))) return 1;
+        if (altered_differs(bytes, length, at, (uint8_t)(bytes[at] + 1))) return 1;
     }
     return 0;
+}
+
+/* A tuck in place of each record with a carrier: full hooks, long floats. */
+static int tucks_differ(uint8_t *bytes, size_t length)
+{
+    for (size_t at = 0; at < length; at += record_size[bytes[at]])
+        if (bytes[at] >= MISS && altered_differs(bytes, length, at, TUCK)) return 1;
+    return 0;
+}
+
+/* Ten in, a tuck, then misses, which leave the tuck's needle behind. */
+static int floats_differ(void)
+{
+    static struct program misses;
+    misses = *find_program("miss");
+    misses.bytes[KNITOUT_CARRIERS * record_size[IN]] = TUCK;
+    return tucks_differ(misses.bytes, 2000);
+}
+
+/* Altered programs; every number of the run must come up. */
+static int checks(void)
+{
+    static struct program mixed;
+    mixed = *find_program("mixed");
+    if (fronts_differ(find_program("mixed-4096")) || floats_differ()) return 1;
+    if (bytes_differ(mixed.bytes, mixed.length) || tucks_differ(mixed.bytes, mixed.length)) return 1;
+    if (seen == NUMBERS) return 0;
+    fprintf(stderr, "bench: altered programs came to the numbers %x only\n", seen);
+    return 1;
 }
 
 const struct group run_group = { "run", inputs, build, prepare, call, differs, checks };
