@@ -11,8 +11,10 @@ enum { GENERATED = 24, GENERATED_LENGTH = 2048, ALTERED = 4, ENTRIES = 12, PAINT
 /* Where the padding byte of a state is. */
 enum { PADDING = offsetof(struct knitout_state, loops) + KNITOUT_HOOKS };
 
-/* Values put into each byte of a state, in and out of ranges. */
-static const uint8_t values[] = { 1, 2, 3, 8, 9, 127, 128, 247, 248, 250, 255 };
+/* Values put into each byte of a state, and into slots, beds and needles, in and out of ranges. */
+static const uint8_t byte_values[] = { 0, 1, 2, 3, 8, 9, 127, 128, 247, 248, 249, 250, 255 };
+static const uint16_t word_values[] = { 0, 1, 2, 249, 250, 256, 257, 258, 259, 512, 65527, 65528, 65535 };
+enum { BYTES = sizeof byte_values, WORDS = sizeof word_values / sizeof word_values[0] };
 
 /* How often each number was given. */
 static unsigned seen[KNITOUT_BAD_STATE + 1];
@@ -110,22 +112,35 @@ static int generate(uint32_t seed, struct knitout_state *state)
     return program_differs(&program, seed, state);
 }
 
-/* A state with one byte altered, by a step and by a list of ten. */
-static int altered_state_differs(const struct knitout_state *state, size_t at, uint8_t value)
+/* A state with one value altered, by a step and by a list of ten. */
+static int altered_state_differs(const struct knitout_state *state, size_t at, const void *value, size_t size)
 {
     static const uint8_t record[] = { RACK, 3 };
     struct knitout_state altered = *state, after;
-    memcpy((uint8_t *)&altered + at, &value, 1);
+    memcpy((uint8_t *)&altered + at, value, size);
     return step_differs(&altered, record, sizeof record, &after) || list_differs(&altered, KNITOUT_CARRIERS);
+}
+
+static int altered_bytes_differ(const struct knitout_state *state)
+{
+    for (size_t i = 0; i < sizeof *state * BYTES; i++)
+        if (i / BYTES != PADDING && altered_state_differs(state, i / BYTES, &byte_values[i % BYTES], 1)) return 1;
+    return 0;
+}
+
+/* Four words a carrier: active and side, slot, bed, needle. */
+static int altered_words_differ(const struct knitout_state *state)
+{
+    for (size_t i = 0; i < KNITOUT_CARRIERS * 4 * WORDS; i++) {
+        size_t at = offsetof(struct knitout_state, carriers) + i / WORDS * 2;
+        if (altered_state_differs(state, at, &word_values[i % WORDS], 2)) return 1;
+    }
+    return 0;
 }
 
 static int altered_states_differ(const struct knitout_state *state)
 {
-    for (size_t i = 0; i < sizeof *state * sizeof values; i++) {
-        size_t at = i / sizeof values;
-        if (at != PADDING && altered_state_differs(state, at, values[i % sizeof values])) return 1;
-    }
-    return 0;
+    return altered_bytes_differ(state) || altered_words_differ(state);
 }
 
 /* Was a number never given that the service may give? */

@@ -100,13 +100,13 @@ static int tucks_differ(uint8_t *bytes, size_t length)
     return 0;
 }
 
-/* Ten in, a tuck, then misses, which leave the tuck's needle behind. */
-static int floats_differ(void)
+/* Ten in, then misses right and left over 25 columns, but one a tuck, whose needle is left behind. */
+static int floats_differ(size_t tuck)
 {
     static struct program misses;
     misses = *find_program("miss");
-    misses.bytes[KNITOUT_CARRIERS * record_size[IN]] = TUCK;
-    return tucks_differ(misses.bytes, 2000);
+    misses.bytes[(KNITOUT_CARRIERS + tuck) * record_size[MISS]] = TUCK;
+    return tucks_differ(misses.bytes, 4000);
 }
 
 /* Altered programs; every number of the run must come up. */
@@ -114,7 +114,7 @@ static int checks(void)
 {
     static struct program mixed;
     mixed = *find_program("mixed");
-    if (fronts_differ(find_program("mixed-4096")) || floats_differ()) return 1;
+    if (fronts_differ(find_program("mixed-4096")) || floats_differ(0) || floats_differ(24)) return 1;
     if (bytes_differ(mixed.bytes, mixed.length) || tucks_differ(mixed.bytes, mixed.length)) return 1;
     if (seen == NUMBERS) return 0;
     fprintf(stderr, "bench: altered programs came to the numbers %x only\n", seen);
