@@ -221,9 +221,8 @@ const struct swap_input *build_swaps(const struct swap_case *c)
 {
     memset(&input, 0, sizeof input);
     build_program_of(c);
-    if (c->swaps == 0) build_positions(c);
-    else if (c->log == FOUND) build_found(c->swaps);
-    else if (c->log == FORTH_AND_BACK) build_forth_and_back(c->swaps);
+    if (c->log == FOUND) build_found(c->swaps);
+    else if (c->log == FORTH_AND_BACK && c->swaps > 0) build_forth_and_back(c->swaps);
     else build_positions(c);
     input.answer = packed((int)c->number, 0);
     if (input.records != c->records || input.log_length != c->swaps * (size_t)SWAP_SIZE) abort();
