@@ -9,9 +9,6 @@
 #include <time.h>
 #include <valgrind/callgrind.h>
 
-/* What the stack of a counted call is aligned to. */
-enum { PAGE = 4096 };
-
 /* Short work is called often enough for the clock. */
 enum { TIMED_RECORDS = 20000 };
 
@@ -44,7 +41,7 @@ static int list(const struct group *g, int i, const struct about *about)
     return g->differs();
 }
 
-/* Counts one call. The stack is aligned, so that copies on it cost the same whatever the environment holds. */
+/* Counts one call, on an aligned stack. */
 static void count_call(const struct group *g, enum version v)
 {
     _Alignas(PAGE) volatile char top = 0;
@@ -106,20 +103,20 @@ static int take_time(const struct group *g, int i, const struct about *about)
     return g->differs();
 }
 
-static int treat(const struct group *g, treatment treatment)
+static int treat(const struct group *g, treatment chosen)
 {
     for (int i = 0; i < g->inputs(); i++) {
         struct about about;
         g->build(i, &about);
-        if (treatment(g, i, &about)) return 1;
+        if (chosen(g, i, &about)) return 1;
     }
     return 0;
 }
 
-static int treat_all(treatment treatment)
+static int treat_all(treatment chosen)
 {
     for (int i = 0; i < GROUPS; i++)
-        if (treat(groups[i], treatment)) return 1;
+        if (treat(groups[i], chosen)) return 1;
     return 0;
 }
 

@@ -6,8 +6,9 @@
 
 enum { RACK = 1, DROP, XFER, IN, OUT, MISS, TUCK, KNIT, SPLIT, KIND_LIMIT };
 
-/* What is lent is aligned to this, since the C library copies by alignment. */
-enum { LINE = 64 };
+/* The C library copies by alignment: what is lent is aligned to a line, a state and the stack of a counted call to a
+   page, so that counts repeat in any environment. */
+enum { LINE = 64, PAGE = 4096 };
 
 /* A record's direction. */
 enum { LEFT, RIGHT };

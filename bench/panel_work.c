@@ -14,7 +14,7 @@ enum { ENTRIES = 12, PAINT = 0xa5 };
 
 /* What is lent to a version, and what it answers: all numbers together, all lengths added. */
 struct lent {
-    _Alignas(LINE) struct knitout_state state;
+    _Alignas(PAGE) struct knitout_state state;
     _Alignas(LINE) struct knitout_carrier list[ENTRIES];
     unsigned numbers;
     size_t served;
