@@ -62,9 +62,10 @@ static int contents_differ(const char *entry, const char *name)
 
 static void prepare(enum version v, const struct knitout_state *state)
 {
-    memset(&lent[v], 0, sizeof lent[v]);
-    memset(lent[v].list, PAINT, sizeof lent[v].list);
     lent[v].state = *state;
+    memset(lent[v].list, PAINT, sizeof lent[v].list);
+    lent[v].numbers = 0;
+    lent[v].served = 0;
 }
 
 static int step_inputs(void) { return STEP_INPUTS; }
