@@ -1,57 +1,68 @@
-/* Runs one program through the library or through plain C, after checking that both give the same answers. */
+/* Lists, counts and times the measured work through the library and plain C, and checks that both do the same. */
 #define _POSIX_C_SOURCE 200809L
 
-#include "banthewig.h"
-#include "plain.h"
-#include "programs.h"
+#include "work.h"
 
-#include <inttypes.h>
 #include <stdio.h>
 #include <stdlib.h>
 #include <string.h>
 #include <time.h>
+#include <valgrind/callgrind.h>
 
-typedef uint64_t (*run_function)(const uint8_t *program, size_t length);
+/* Short work is called often enough for the clock. */
+enum { TIMED_RECORDS = 20000 };
+
+/* One thing done with an input that has been built. */
+typedef int (*treatment)(const struct group *g, int i, const struct about *about);
+
+static const char *const version_names[VERSIONS] = { "nothing", "library", "plain" };
+static unsigned long repetitions;
+
+const struct group *const groups[GROUPS] = { &run_group, &rewrite_group, &step_group, &carriers_group };
 
 static int usage(void)
 {
-    fputs("usage: bench list\n"
-          "       bench count library|plain PROGRAM CALLS\n"
-          "       bench time library|plain PROGRAM REPETITIONS\n", stderr);
+    fputs("usage: bench check\n"
+          "       bench list\n"
+          "       bench count (under callgrind: one dump each, named by entry, input and version)\n"
+          "       bench time REPETITIONS\n"
+          "       bench stack\n", stderr);
     return 2;
 }
 
-/* Both versions must give the answer that the program was built for. */
-static int answers_differ(const struct program *p)
+/* Says what an input is, after both versions have done it. */
+static int list(const struct group *g, int i, const struct about *about)
 {
-    uint64_t library = knitout_run(p->bytes, p->length);
-    uint64_t plain = plain_run(p->bytes, p->length);
-    if (library == p->answer && plain == p->answer) return 0;
-    fprintf(stderr, "bench: %s: library %" PRIx64 ", plain C %" PRIx64 ", expected %" PRIx64 "\n",
-            p->name, library, plain, p->answer);
-    return 1;
-}
-
-/* One line a program: name, records, number, place, then the records of each kind. */
-static int list(const struct program *programs)
-{
-    for (int i = 0; i < PROGRAMS; i++) {
-        const struct program *p = &programs[i];
-        printf("%s %u %u %u", p->name, p->records, (unsigned)(p->answer >> 16),
-               (unsigned)(p->answer & 65535));
-        for (int kind = 1; kind < KIND_LIMIT; kind++)
-            if (p->of_kind[kind]) printf(" %s=%u", kind_name(kind), p->of_kind[kind]);
-        putchar('\n');
+    for (int v = LIBRARY; v <= PLAIN; v++) {
+        g->prepare(v);
+        g->call(v);
     }
-    return 0;
+    printf("%s %d %s\n", g->entry, i, about->text);
+    return g->differs();
 }
 
-/* Runs the program the given number of times; 1 if an answer is not the expected one. */
-static int call(run_function run, const struct program *p, unsigned long calls)
+/* Counts one call, on an aligned stack. */
+static void count_call(const struct group *g, enum version v)
 {
-    for (; calls > 0; calls--)
-        if (run(p->bytes, p->length) != p->answer) return 1;
-    return 0;
+    _Alignas(PAGE) volatile char top = 0;
+    (void)top;
+    CALLGRIND_TOGGLE_COLLECT;
+    g->call(v);
+    CALLGRIND_TOGGLE_COLLECT;
+}
+
+/* Counts one call of each version; the figures are in callgrind's dumps. */
+static int count(const struct group *g, int i, const struct about *about)
+{
+    char name[64];
+    (void)about;
+    for (int v = NOTHING; v < VERSIONS; v++) {
+        g->prepare(v);
+        count_call(g, v);
+        snprintf(name, sizeof name, "%s %d %s", g->entry, i, version_names[v]);
+        CALLGRIND_DUMP_STATS_AT(name);
+    }
+    return g->differs();
 }
 
 static double nanoseconds(void)
@@ -61,44 +72,71 @@ static double nanoseconds(void)
     return (double)t.tv_sec * 1e9 + (double)t.tv_nsec;
 }
 
-/* Prints the best time a record; short programs are called often enough for the clock. */
-static int best_time(run_function run, const struct program *p, unsigned long repetitions)
+/* The time of some calls, with what comes before each. */
+static double time_of(const struct group *g, enum version v, unsigned calls)
 {
-    unsigned long calls = 1 + 20000 / p->records;
-    double best = 1e18;
-    for (; repetitions > 0; repetitions--) {
-        double start = nanoseconds();
-        if (call(run, p, calls)) return 1;
-        double spent = nanoseconds() - start;
+    double start = nanoseconds();
+    for (unsigned i = 0; i < calls; i++) {
+        g->prepare(v);
+        g->call(v);
+    }
+    return nanoseconds() - start;
+}
+
+static double best_time(const struct group *g, enum version v, unsigned calls)
+{
+    double best = time_of(g, v, calls);
+    for (unsigned long i = 1; i < repetitions; i++) {
+        double spent = time_of(g, v, calls);
         if (spent < best) best = spent;
     }
-    printf("%.1f\n", best / (double)calls / p->records);
+    return best / calls;
+}
+
+/* Prints the best time a call of each version. */
+static int take_time(const struct group *g, int i, const struct about *about)
+{
+    if (!about->timed) return 0;
+    unsigned calls = 1 + TIMED_RECORDS / about->records;
+    for (int v = NOTHING; v < VERSIONS; v++)
+        printf("%s %d %s %.1f\n", g->entry, i, version_names[v], best_time(g, v, calls));
+    return g->differs();
+}
+
+static int treat(const struct group *g, treatment chosen)
+{
+    for (int i = 0; i < g->inputs(); i++) {
+        struct about about;
+        g->build(i, &about);
+        if (chosen(g, i, &about)) return 1;
+    }
     return 0;
 }
 
-static int count(run_function run, const struct program *p, unsigned long calls)
+static int treat_all(treatment chosen)
 {
-    if (call(run, p, calls)) return 1;
-    printf("records %u number %u place %u\n", p->records, (unsigned)(p->answer >> 16),
-           (unsigned)(p->answer & 65535));
+    for (int i = 0; i < GROUPS; i++)
+        if (treat(groups[i], chosen)) return 1;
+    return 0;
+}
+
+/* The inputs that are not measured. */
+static int check_all(void)
+{
+    for (int i = 0; i < GROUPS; i++)
+        if (groups[i]->checks()) return 1;
     return 0;
 }
 
 int main(int argc, char **argv)
 {
-    const struct program *programs = build_programs(), *program = NULL;
-    for (int i = 0; i < PROGRAMS; i++)
-        if (answers_differ(&programs[i])) return 1;
-    if (argc == 2 && strcmp(argv[1], "list") == 0) return list(programs);
-    if (argc != 5) return usage();
-    run_function run = NULL;
-    if (strcmp(argv[2], "library") == 0) run = knitout_run;
-    if (strcmp(argv[2], "plain") == 0) run = plain_run;
-    for (int i = 0; i < PROGRAMS; i++)
-        if (strcmp(argv[3], programs[i].name) == 0) program = &programs[i];
-    if (!run || !program) return usage();
-    unsigned long times = strtoul(argv[4], NULL, 10);
-    if (strcmp(argv[1], "count") == 0) return count(run, program, times);
-    if (strcmp(argv[1], "time") == 0) return best_time(run, program, times);
+    const char *command = argc > 1 ? argv[1] : "";
+    if (argc == 3) repetitions = strtoul(argv[2], NULL, 10);
+    if (argc == 3 && strcmp(command, "time") == 0) return treat_all(take_time);
+    if (argc != 2) return usage();
+    if (strcmp(command, "check") == 0) return check_all();
+    if (strcmp(command, "list") == 0) return treat_all(list);
+    if (strcmp(command, "count") == 0) return treat_all(count);
+    if (strcmp(command, "stack") == 0) return print_stacks();
     return usage();
 }

@@ -1,19 +1,9 @@
 /* The run in plain C, written for speed: one state changed in place, one switch on the kind. */
 #include "plain.h"
 
+#include "kinds.h"
+
 #include <string.h>
-
-enum { RACK = 1, DROP, XFER, IN, OUT, MISS, TUCK, KNIT, SPLIT };
-
-enum {
-    DONE = 0, TOO_LONG = 1, UNKNOWN_KIND = 3, CUT_SHORT, FIELD_RANGE, ALREADY_IN,
-    NOT_IN, WRONG_SLOT, FLOAT_TOO_LONG, NOT_OPPOSITE, HOOK_FULL
-};
-
-enum {
-    PROGRAM_LIMIT = 32768, NEEDLES = 250, CARRIERS = 10,
-    RACKING_LIMIT = 8, LOOP_LIMIT = 8, FLOAT_LIMIT = 20
-};
 
 /* Outside the slots -8 to 258 and the hooks 0 to 511. */
 enum { INACTIVE = -32768, UNATTACHED = -1 };
@@ -28,7 +18,7 @@ struct carrier {
 struct state {
     int shift[2];   /* from needle to column: 0 on the front bed, the racking on the back */
     uint8_t loops[512];
-    struct carrier carriers[CARRIERS];
+    struct carrier carriers[KNITOUT_CARRIERS];
 };
 
 /* The fields of a record with a carrier, in range. */
@@ -48,35 +38,35 @@ static inline int exit_slot(const struct stitch *t) { return t->column + t->righ
 static inline int rack(struct state *s, const uint8_t *p)
 {
     int racking = (int8_t)p[1];
-    if (racking < -RACKING_LIMIT || racking > RACKING_LIMIT) return FIELD_RANGE;
+    if (racking < KNITOUT_RACKING_LEAST || racking > KNITOUT_RACKING_MOST) return KNITOUT_FIELD_RANGE;
     s->shift[1] = racking;
-    return DONE;
+    return KNITOUT_DONE;
 }
 
 static inline int drop(struct state *s, const uint8_t *p)
 {
-    if (p[1] > 1 || p[2] >= NEEDLES) return FIELD_RANGE;
+    if (p[1] > 1 || p[2] >= KNITOUT_NEEDLES) return KNITOUT_FIELD_RANGE;
     s->loops[p[1] << 8 | p[2]] = 0;
-    return DONE;
+    return KNITOUT_DONE;
 }
 
 /* Moves loops and attachments between two hooks, if there is room. */
 static inline int move(struct state *s, int from, int to)
 {
     int loops = s->loops[from] + s->loops[to];
-    if (loops > LOOP_LIMIT) return HOOK_FULL;
+    if (loops > KNITOUT_LOOPS_MOST) return KNITOUT_HOOK_FULL;
     s->loops[to] = (uint8_t)loops;
     s->loops[from] = 0;
-    for (int i = 0; i < CARRIERS; i++)
+    for (int i = 0; i < KNITOUT_CARRIERS; i++)
         if (s->carriers[i].hook == (int16_t)from) s->carriers[i].hook = (int16_t)to;
-    return DONE;
+    return KNITOUT_DONE;
 }
 
 static inline int xfer(struct state *s, const uint8_t *p)
 {
-    if (p[1] > 1 || p[2] >= NEEDLES || p[3] >= NEEDLES) return FIELD_RANGE;
+    if (p[1] > 1 || p[2] >= KNITOUT_NEEDLES || p[3] >= KNITOUT_NEEDLES) return KNITOUT_FIELD_RANGE;
     int bed = p[1], other = bed ^ 1;
-    if (p[2] + s->shift[bed] != p[3] + s->shift[other]) return NOT_OPPOSITE;
+    if (p[2] + s->shift[bed] != p[3] + s->shift[other]) return KNITOUT_NOT_OPPOSITE;
     return move(s, bed << 8 | p[2], other << 8 | p[3]);
 }
 
@@ -84,19 +74,19 @@ static inline int xfer(struct state *s, const uint8_t *p)
 static inline int read_stitch(struct state *s, const uint8_t *p, struct stitch *t)
 {
     unsigned carrier = p[4] - 1u;
-    if ((p[1] | p[2]) > 1 || p[3] >= NEEDLES || carrier >= CARRIERS) return FIELD_RANGE;
+    if ((p[1] | p[2]) > 1 || p[3] >= KNITOUT_NEEDLES || carrier >= KNITOUT_CARRIERS) return KNITOUT_FIELD_RANGE;
     t->right = p[1];
     t->hook = p[2] << 8 | p[3];
     t->column = p[3] + s->shift[p[2]];
     t->carrier = &s->carriers[carrier];
-    return DONE;
+    return KNITOUT_DONE;
 }
 
 /* Is the carrier parked at this slot? */
 static inline int parked(const struct carrier *c, int slot)
 {
-    if (c->slot != slot) return c->slot == INACTIVE ? NOT_IN : WRONG_SLOT;
-    return DONE;
+    if (c->slot != slot) return c->slot == INACTIVE ? KNITOUT_NOT_IN : KNITOUT_WRONG_SLOT;
+    return KNITOUT_DONE;
 }
 
 static inline int in(struct state *s, const uint8_t *p)
@@ -104,9 +94,9 @@ static inline int in(struct state *s, const uint8_t *p)
     struct stitch t;
     int number = read_stitch(s, p, &t);
     if (number) return number;
-    if (t.carrier->slot != INACTIVE) return ALREADY_IN;
+    if (t.carrier->slot != INACTIVE) return KNITOUT_ALREADY_IN;
     t.carrier->slot = entry_slot(&t);
-    return DONE;
+    return KNITOUT_DONE;
 }
 
 static inline int out(struct state *s, const uint8_t *p)
@@ -119,7 +109,7 @@ static inline int out(struct state *s, const uint8_t *p)
     t.carrier->slot = INACTIVE;
     t.carrier->hook = UNATTACHED;
     t.carrier->side = 0;
-    return DONE;
+    return KNITOUT_DONE;
 }
 
 static inline int miss(struct state *s, const uint8_t *p)
@@ -130,7 +120,7 @@ static inline int miss(struct state *s, const uint8_t *p)
     number = parked(t.carrier, entry_slot(&t));
     if (number) return number;
     t.carrier->slot = exit_slot(&t);
-    return DONE;
+    return KNITOUT_DONE;
 }
 
 /* What tuck, knit and split ask of the carrier: parked at the entry, no long float. */
@@ -139,10 +129,10 @@ static inline int reaches(const struct state *s, const struct stitch *t)
     int number = parked(t->carrier, entry_slot(t));
     if (number) return number;
     int hook = t->carrier->hook;
-    if (hook == UNATTACHED) return DONE;
+    if (hook == UNATTACHED) return KNITOUT_DONE;
     int distance = column_of(s, hook) - t->column;
-    if (distance < -FLOAT_LIMIT || distance > FLOAT_LIMIT) return FLOAT_TOO_LONG;
-    return DONE;
+    if (distance < -KNITOUT_FLOAT_MOST || distance > KNITOUT_FLOAT_MOST) return KNITOUT_FLOAT_TOO_LONG;
+    return KNITOUT_DONE;
 }
 
 static inline void attach(const struct stitch *t)
@@ -159,10 +149,10 @@ static inline int tuck(struct state *s, const uint8_t *p)
     if (number) return number;
     number = reaches(s, &t);
     if (number) return number;
-    if (s->loops[t.hook] >= LOOP_LIMIT) return HOOK_FULL;
+    if (s->loops[t.hook] >= KNITOUT_LOOPS_MOST) return KNITOUT_HOOK_FULL;
     s->loops[t.hook]++;
     attach(&t);
-    return DONE;
+    return KNITOUT_DONE;
 }
 
 static inline int knit(struct state *s, const uint8_t *p)
@@ -174,7 +164,7 @@ static inline int knit(struct state *s, const uint8_t *p)
     if (number) return number;
     s->loops[t.hook] = 1;
     attach(&t);
-    return DONE;
+    return KNITOUT_DONE;
 }
 
 static inline int split(struct state *s, const uint8_t *p)
@@ -182,22 +172,22 @@ static inline int split(struct state *s, const uint8_t *p)
     struct stitch t;
     int number = read_stitch(s, p, &t);
     if (number) return number;
-    if (p[5] >= NEEDLES) return FIELD_RANGE;
+    if (p[5] >= KNITOUT_NEEDLES) return KNITOUT_FIELD_RANGE;
     number = reaches(s, &t);
     if (number) return number;
     int other = p[2] ^ 1;
-    if (t.column != p[5] + s->shift[other]) return NOT_OPPOSITE;
+    if (t.column != p[5] + s->shift[other]) return KNITOUT_NOT_OPPOSITE;
     number = move(s, t.hook, other << 8 | p[5]);
     if (number) return number;
     s->loops[t.hook] = 1;
     attach(&t);
-    return DONE;
+    return KNITOUT_DONE;
 }
 
 /* One record; its size goes to *size if its bytes are there. */
 static inline int step(struct state *s, const uint8_t *p, ptrdiff_t left, int *size)
 {
-#define NEED(n) do { if (left < (n)) return CUT_SHORT; *size = (n); } while (0)
+#define NEED(n) do { if (left < (n)) return KNITOUT_CUT_SHORT; *size = (n); } while (0)
     switch (p[0]) {
     case RACK: NEED(2); return rack(s, p);
     case DROP: NEED(3); return drop(s, p);
@@ -208,7 +198,7 @@ static inline int step(struct state *s, const uint8_t *p, ptrdiff_t left, int *s
     case TUCK: NEED(5); return tuck(s, p);
     case KNIT: NEED(5); return knit(s, p);
     case SPLIT: NEED(6); return split(s, p);
-    default: return UNKNOWN_KIND;
+    default: return KNITOUT_UNKNOWN_KIND;
     }
 #undef NEED
 }
@@ -216,7 +206,7 @@ static inline int step(struct state *s, const uint8_t *p, ptrdiff_t left, int *s
 static void empty(struct state *s)
 {
     memset(s, 0, sizeof *s);
-    for (int i = 0; i < CARRIERS; i++) {
+    for (int i = 0; i < KNITOUT_CARRIERS; i++) {
         s->carriers[i].slot = INACTIVE;
         s->carriers[i].hook = UNATTACHED;
     }
@@ -224,15 +214,15 @@ static void empty(struct state *s)
 
 uint64_t plain_run(const uint8_t *program, size_t length)
 {
-    if (length > PROGRAM_LIMIT) return (uint64_t)TOO_LONG << 16;
+    if (length > KNITOUT_PROGRAM_MOST) return packed(KNITOUT_TOO_LONG, 0);
     struct state s;
     empty(&s);
     const uint8_t *p = program, *end = program + length;
     while (p < end) {
         int size = 0;
         int number = step(&s, p, end - p, &size);
-        if (number) return (uint64_t)number << 16 | (uint64_t)(p - program);
+        if (number) return packed(number, (size_t)(p - program));
         p += size;
     }
-    return DONE;
+    return KNITOUT_DONE;
 }

@@ -1,19 +1,16 @@
 /* The rewriter in plain C, written for speed: one run, one copy, one pass for starts and rackings, swaps in place. */
 #include "plain_rewrite.h"
 
+#include "kinds.h"
 #include "plain.h"
 
 #include <string.h>
-
-enum { RACK = 1, DROP, XFER, IN, OUT, MISS, TUCK, KNIT, SPLIT };
-enum { DONE = 0, TOO_LONG = 1, NO_ROOM = 2, NO_PAIR = 12, TIED = 13, TORN_LOG = 14 };
-enum { PROGRAM_LIMIT = 32768, LOG_LIMIT = 32768, SWAP = 0x40, SWAP_SIZE = 3 };
 
 /* Layers: the beds', and between them the carriers' by their numbers. */
 enum { FRONT_LAYER = 0, BACK_LAYER = 11 };
 
 /* The racking is kept of every 64th record. */
-enum { STRIDE = 64, MARKS = PROGRAM_LIMIT / 2 / STRIDE };
+enum { STRIDE = 64, MARKS = KNITOUT_PROGRAM_MOST / 2 / STRIDE };
 
 /* The copy of the program, its records' starts and the rackings kept. The run has checked every field. */
 struct copy {
@@ -22,10 +19,6 @@ struct copy {
     size_t count;
     int8_t marks[MARKS];
 };
-
-static const uint8_t sizes[] = { 0, 2, 3, 4, 5, 5, 5, 5, 5, 6 };
-
-static inline uint64_t packed(int number, size_t place) { return (uint64_t)number << 16 | place; }
 
 /* Of kinds 4 to 9: these cover half a column to each side, too. */
 static inline int has_carrier(const uint8_t *p) { return p[0] >= IN; }
@@ -132,26 +125,26 @@ static inline void put(uint8_t *p, size_t size, struct held h)
 /* Swaps records i and i + 1, or gives 12 or 13. */
 static inline int swap(struct copy *c, size_t i)
 {
-    if (i + 1 >= c->count) return NO_PAIR;
+    if (i + 1 >= c->count) return KNITOUT_NO_PAIR;
     uint8_t *x = c->bytes + c->starts[i], *y = c->bytes + c->starts[i + 1];
-    if (tied(c, i, x, y)) return TIED;
-    size_t first = sizes[x[0]], second = sizes[y[0]];
+    if (tied(c, i, x, y)) return KNITOUT_TIED;
+    size_t first = record_size[x[0]], second = record_size[y[0]];
     struct held a = hold(x, first), b = hold(y, second);
     put(x, second, b);
     put(x + second, first, a);
     c->starts[i + 1] = (uint16_t)(c->starts[i] + second);
-    return DONE;
+    return KNITOUT_DONE;
 }
 
 /* Makes the swaps of a log up to the first that is refused. */
 static uint64_t replay(struct copy *c, const uint8_t *log, size_t length)
 {
     for (size_t at = 0; at < length; at += SWAP_SIZE) {
-        if (length - at < SWAP_SIZE || log[at] != SWAP) return packed(TORN_LOG, at);
+        if (length - at < SWAP_SIZE || log[at] != SWAP) return packed(KNITOUT_TORN_LOG, at);
         int number = swap(c, (size_t)log[at + 1] << 8 | log[at + 2]);
         if (number) return packed(number, at);
     }
-    return DONE;
+    return KNITOUT_DONE;
 }
 
 /* Writes the starts and keeps the racking at every 64th record. */
@@ -164,7 +157,7 @@ static void find_starts(struct copy *c, size_t length)
         if (n % STRIDE == 0) c->marks[n / STRIDE] = racking;
         if (p[0] == RACK) racking = (int8_t)p[1];
         c->starts[n] = (uint16_t)at;
-        at += sizes[p[0]];
+        at += record_size[p[0]];
     }
     c->count = n;
 }
@@ -172,8 +165,8 @@ static void find_starts(struct copy *c, size_t length)
 uint64_t plain_rewrite(const uint8_t *program, size_t length, const uint8_t *log, size_t log_length,
                        uint8_t *output, size_t output_length, uint16_t *work, size_t work_count)
 {
-    if (length > PROGRAM_LIMIT || log_length > LOG_LIMIT) return packed(TOO_LONG, 0);
-    if (output_length < length || work_count < length / 2) return packed(NO_ROOM, 0);
+    if (length > KNITOUT_PROGRAM_MOST || log_length > KNITOUT_LOG_MOST) return packed(KNITOUT_TOO_LONG, 0);
+    if (output_length < length || work_count < length / 2) return packed(KNITOUT_NO_ROOM, 0);
     uint64_t answer = plain_run(program, length);
     if (answer) return answer;
     struct copy c; /* its marks are written as they are needed */

@@ -4,16 +4,11 @@
 #include <stdlib.h>
 #include <string.h>
 
-enum { RACK = 1, DROP, XFER, IN, OUT, MISS, TUCK, KNIT, SPLIT };
-enum { FRONT, BACK };
-enum { LEFT, RIGHT };
-enum { NEEDLES = 250, CARRIERS = 10, LOOP_LIMIT = 8, FLOAT_LIMIT = 20 };
-
-/* A program of one kind is about this long; the others fill PROGRAM_LIMIT. */
+/* A program of one kind is about this long. */
 enum { KIND_LENGTH = 32000 };
 
 /* In the sweeps each carrier works columns of its own. */
-enum { WIDTH = NEEDLES / CARRIERS };
+enum { WIDTH = KNITOUT_NEEDLES / KNITOUT_CARRIERS };
 
 struct carrier {
     int active, slot, attached, bed, needle;
@@ -24,8 +19,8 @@ struct builder {
     struct program *program;
     size_t limit;
     int racking;
-    int loops[2][NEEDLES];
-    struct carrier carriers[CARRIERS + 1]; /* from 1 */
+    int loops[2][KNITOUT_NEEDLES];
+    struct carrier carriers[KNITOUT_CARRIERS + 1]; /* from 1 */
     uint32_t seed;
 };
 
@@ -35,9 +30,9 @@ static const char *const names[KIND_LIMIT] = {
 
 const char *kind_name(int kind) { return names[kind]; }
 
-static struct builder begin(struct program *program, const char *name, size_t limit)
+static struct builder begin(struct program *program, const char *name, size_t limit, uint32_t seed)
 {
-    struct builder b = { .program = program, .limit = limit, .seed = 1 };
+    struct builder b = { .program = program, .limit = limit, .seed = seed };
     memset(program, 0, sizeof *program);
     program->name = name;
     return b;
@@ -47,19 +42,20 @@ static size_t room(const struct builder *b) { return b->limit - b->program->leng
 
 static int column_of(const struct builder *b, int bed, int needle)
 {
-    return bed == BACK ? needle + b->racking : needle;
+    return bed == KNITOUT_BACK ? needle + b->racking : needle;
 }
 
 static int needle_at(const struct builder *b, int bed, int column)
 {
-    return bed == BACK ? column - b->racking : column;
+    return bed == KNITOUT_BACK ? column - b->racking : column;
 }
 
 /* Appends a record that the run comes to. */
-static void append(struct builder *b, const uint8_t *record, size_t size)
+static void append(struct builder *b, const uint8_t *record)
 {
     struct program *p = b->program;
-    if (size > PROGRAM_LIMIT - p->length) abort();
+    size_t size = record_size[record[0]];
+    if (size > KNITOUT_PROGRAM_MOST - p->length) abort();
     memcpy(p->bytes + p->length, record, size);
     p->length += size;
     p->records++;
@@ -68,13 +64,13 @@ static void append(struct builder *b, const uint8_t *record, size_t size)
 
 static void rack(struct builder *b, int racking)
 {
-    append(b, (uint8_t[]){ RACK, (uint8_t)racking }, 2);
+    append(b, (uint8_t[]){ RACK, (uint8_t)racking });
     b->racking = racking;
 }
 
 static void drop(struct builder *b, int bed, int needle)
 {
-    append(b, (uint8_t[]){ DROP, (uint8_t)bed, (uint8_t)needle }, 3);
+    append(b, (uint8_t[]){ DROP, (uint8_t)bed, (uint8_t)needle });
     b->loops[bed][needle] = 0;
 }
 
@@ -83,7 +79,7 @@ static void move(struct builder *b, int bed, int needle, int other)
 {
     b->loops[!bed][other] += b->loops[bed][needle];
     b->loops[bed][needle] = 0;
-    for (int k = 1; k <= CARRIERS; k++) {
+    for (int k = 1; k <= KNITOUT_CARRIERS; k++) {
         struct carrier *c = &b->carriers[k];
         if (!c->attached || c->bed != bed || c->needle != needle) continue;
         c->bed = !bed;
@@ -100,7 +96,7 @@ static int opposite(const struct builder *b, int bed, int needle)
 static void xfer(struct builder *b, int bed, int needle)
 {
     int other = opposite(b, bed, needle);
-    append(b, (uint8_t[]){ XFER, (uint8_t)bed, (uint8_t)needle, (uint8_t)other }, 4);
+    append(b, (uint8_t[]){ XFER, (uint8_t)bed, (uint8_t)needle, (uint8_t)other });
     move(b, bed, needle, other);
 }
 
@@ -110,7 +106,7 @@ static void stitch(struct builder *b, int kind, int direction, int bed, int need
     struct carrier *c = &b->carriers[k];
     int other = opposite(b, bed, needle), column = column_of(b, bed, needle);
     append(b, (uint8_t[]){ (uint8_t)kind, (uint8_t)direction, (uint8_t)bed, (uint8_t)needle,
-                           (uint8_t)k, (uint8_t)other }, kind == SPLIT ? 6 : 5);
+                           (uint8_t)k, (uint8_t)other });
     if (kind == SPLIT) move(b, bed, needle, other);
     if (kind == TUCK) b->loops[bed][needle]++;
     if (kind == KNIT || kind == SPLIT) b->loops[bed][needle] = 1;
@@ -129,28 +125,28 @@ static void build_rack(struct builder *b)
 /* All drop, through the 500 hooks. */
 static void build_drop(struct builder *b)
 {
-    for (int i = 0; room(b) >= 3; i++) drop(b, i / NEEDLES % 2, i % NEEDLES);
+    for (int i = 0; room(b) >= 3; i++) drop(b, i / KNITOUT_NEEDLES % 2, i % KNITOUT_NEEDLES);
 }
 
 /* Ten carriers tuck once; then all front needles go to the back bed and return, in turn:
    one xfer in 25 moves a loop and an attachment. */
 static void build_xfer(struct builder *b)
 {
-    for (int k = 1; k <= CARRIERS; k++) {
-        stitch(b, IN, RIGHT, FRONT, WIDTH * (k - 1), k);
-        stitch(b, TUCK, RIGHT, FRONT, WIDTH * (k - 1), k);
+    for (int k = 1; k <= KNITOUT_CARRIERS; k++) {
+        stitch(b, IN, RIGHT, KNITOUT_FRONT, WIDTH * (k - 1), k);
+        stitch(b, TUCK, RIGHT, KNITOUT_FRONT, WIDTH * (k - 1), k);
     }
-    for (int i = 0; room(b) >= 4; i++) xfer(b, i / NEEDLES % 2, i % NEEDLES);
+    for (int i = 0; room(b) >= 4; i++) xfer(b, i / KNITOUT_NEEDLES % 2, i % KNITOUT_NEEDLES);
 }
 
 /* Ten carriers come in and go out again: half in, half out. */
 static void build_in_out(struct builder *b)
 {
-    for (int i = 0; room(b) >= 2 * 5 * CARRIERS; i++) {
-        for (int k = 1; k <= CARRIERS; k++)
-            stitch(b, IN, i % 2, k % 2, (i + WIDTH * k) % NEEDLES, k);
-        for (int k = 1; k <= CARRIERS; k++)
-            stitch(b, OUT, 1 - i % 2, k % 2, (i + WIDTH * k) % NEEDLES, k);
+    for (int i = 0; room(b) >= 2 * 5 * KNITOUT_CARRIERS; i++) {
+        for (int k = 1; k <= KNITOUT_CARRIERS; k++)
+            stitch(b, IN, i % 2, k % 2, (i + WIDTH * k) % KNITOUT_NEEDLES, k);
+        for (int k = 1; k <= KNITOUT_CARRIERS; k++)
+            stitch(b, OUT, 1 - i % 2, k % 2, (i + WIDTH * k) % KNITOUT_NEEDLES, k);
     }
 }
 
@@ -158,8 +154,8 @@ static void build_in_out(struct builder *b)
 static void sweep_stitch(struct builder *b, int kind, int direction, int bed, int needle, int k)
 {
     int here = b->loops[bed][needle], there = b->loops[!bed][needle];
-    if (kind == TUCK && here == LOOP_LIMIT) drop(b, bed, needle);
-    if (kind == SPLIT && here + there > LOOP_LIMIT) drop(b, here > there ? bed : !bed, needle);
+    if (kind == TUCK && here == KNITOUT_LOOPS_MOST) drop(b, bed, needle);
+    if (kind == SPLIT && here + there > KNITOUT_LOOPS_MOST) drop(b, here > there ? bed : !bed, needle);
     stitch(b, kind, direction, bed, needle, k);
 }
 
@@ -168,21 +164,22 @@ static void sweep_stitch(struct builder *b, int kind, int direction, int bed, in
    one drop for every eight of them. */
 static void build_sweep(struct builder *b, int kind)
 {
-    for (int k = 1; k <= CARRIERS; k++) stitch(b, IN, RIGHT, FRONT, WIDTH * (k - 1), k);
+    for (int k = 1; k <= KNITOUT_CARRIERS; k++) stitch(b, IN, RIGHT, KNITOUT_FRONT, WIDTH * (k - 1), k);
     for (int i = 0; room(b) >= 3 + 6; i++) {
-        int step = i % WIDTH, k = i / WIDTH % CARRIERS + 1, pass = i / NEEDLES;
+        int step = i % WIDTH, k = i / WIDTH % KNITOUT_CARRIERS + 1, pass = i / KNITOUT_NEEDLES;
         int direction = pass % 2 == 0 ? RIGHT : LEFT, bed = pass / 8 % 2;
         int needle = WIDTH * (k - 1) + (direction == RIGHT ? step : WIDTH - 1 - step);
         sweep_stitch(b, kind, direction, bed, needle, k);
     }
 }
 
-/* Below n, the same sequence for every program. */
-static int choose(struct builder *b, int n)
+unsigned choose_below(uint32_t *seed, unsigned n)
 {
-    b->seed = b->seed * 1664525u + 1013904223u;
-    return (int)((b->seed >> 16) % (uint32_t)n);
+    *seed = *seed * 1664525u + 1013904223u;
+    return (*seed >> 16) % n;
 }
+
+static int choose(struct builder *b, int n) { return (int)choose_below(&b->seed, (unsigned)n); }
 
 /* A column at which both beds have a needle at every racking. */
 static int choose_column(struct builder *b) { return 10 + choose(b, 230); }
@@ -190,7 +187,7 @@ static int choose_column(struct builder *b) { return 10 + choose(b, 230); }
 /* The column of a carrier's attachment if both beds have a needle there, else any. */
 static int choose_worked(struct builder *b)
 {
-    const struct carrier *c = &b->carriers[1 + choose(b, CARRIERS)];
+    const struct carrier *c = &b->carriers[1 + choose(b, KNITOUT_CARRIERS)];
     int column = column_of(b, c->bed, c->needle);
     if (c->attached && column >= 10 && column < 240) return column;
     return choose_column(b);
@@ -201,7 +198,7 @@ static void mixed_hook(struct builder *b, int kind)
 {
     int bed = choose(b, 2), needle = needle_at(b, bed, choose_worked(b));
     int loops = b->loops[bed][needle] + b->loops[!bed][opposite(b, bed, needle)];
-    if (kind == XFER && loops <= LOOP_LIMIT) xfer(b, bed, needle);
+    if (kind == XFER && loops <= KNITOUT_LOOPS_MOST) xfer(b, bed, needle);
     else drop(b, bed, needle);
 }
 
@@ -212,9 +209,9 @@ static int allowed(const struct builder *b, int kind, int bed, int needle, int k
     int distance = column_of(b, c->bed, c->needle) - column_of(b, bed, needle);
     int loops = b->loops[bed][needle];
     if (kind == MISS) return MISS;
-    if (c->attached && abs(distance) > FLOAT_LIMIT) return MISS;
-    if (kind == TUCK && loops == LOOP_LIMIT) return KNIT;
-    if (kind == SPLIT && loops + b->loops[!bed][opposite(b, bed, needle)] > LOOP_LIMIT)
+    if (c->attached && abs(distance) > KNITOUT_FLOAT_MOST) return MISS;
+    if (kind == TUCK && loops == KNITOUT_LOOPS_MOST) return KNIT;
+    if (kind == SPLIT && loops + b->loops[!bed][opposite(b, bed, needle)] > KNITOUT_LOOPS_MOST)
         return KNIT;
     return kind;
 }
@@ -223,7 +220,7 @@ static int allowed(const struct builder *b, int kind, int bed, int needle, int k
    rightwards with an even carrier, leftwards with an odd one, and now and then turns. */
 static void mixed_stitch(struct builder *b, int kind)
 {
-    int k = 1 + choose(b, CARRIERS), bed = choose(b, 2);
+    int k = 1 + choose(b, KNITOUT_CARRIERS), bed = choose(b, 2);
     int direction = choose(b, 4) > 0 ? k % 2 == 0 : k % 2;
     const struct carrier *c = &b->carriers[k];
     if (!c->active) {
@@ -255,19 +252,20 @@ static void build_mixed(struct builder *b)
         else mixed_stitch(b, KNIT);
     }
     while (room(b) > 3) rack(b, choose(b, 17) - 8);
-    if (room(b) == 3) drop(b, FRONT, 0);
+    if (room(b) == 3) drop(b, KNITOUT_FRONT, 0);
     else rack(b, 0);
+    if (room(b) != 0) abort();
 }
 
 /* A knit with an inactive carrier, then the mixed program: not in, at 0. */
 static void build_refused_first(struct builder *b)
 {
     struct program *p = b->program;
-    append(b, (uint8_t[]){ KNIT, RIGHT, FRONT, 10, 1 }, 5);
+    append(b, (uint8_t[]){ KNIT, RIGHT, KNITOUT_FRONT, 10, 1 });
     build_mixed(b);
     memset(p->of_kind, 0, sizeof p->of_kind);
     p->of_kind[KNIT] = p->records = 1;
-    p->answer = (uint64_t)7 << 16;
+    p->answer = packed(KNITOUT_NOT_IN, 0);
 }
 
 /* The mixed program, then drop f.250: a field out of range, at the last record. */
@@ -276,8 +274,8 @@ static void build_refused_last(struct builder *b)
     struct program *p = b->program;
     b->limit -= 3;
     build_mixed(b);
-    p->answer = (uint64_t)5 << 16 | p->length;
-    append(b, (uint8_t[]){ DROP, FRONT, NEEDLES }, 3);
+    p->answer = packed(KNITOUT_FIELD_RANGE, p->length);
+    append(b, (uint8_t[]){ DROP, KNITOUT_FRONT, KNITOUT_NEEDLES });
 }
 
 static void build_miss(struct builder *b) { build_sweep(b, MISS); }
@@ -298,17 +296,33 @@ static const struct {
     { "tuck", KIND_LENGTH, build_tuck },
     { "knit", KIND_LENGTH, build_knit },
     { "split", KIND_LENGTH, build_split },
-    { "mixed", PROGRAM_LIMIT, build_mixed },
-    { "refused-first", PROGRAM_LIMIT, build_refused_first },
-    { "refused-last", PROGRAM_LIMIT, build_refused_last },
+    { "mixed-2048", 2048, build_mixed },
+    { "mixed-4096", 4096, build_mixed },
+    { "mixed-8192", 8192, build_mixed },
+    { "mixed-16384", 16384, build_mixed },
+    { "mixed", KNITOUT_PROGRAM_MOST, build_mixed },
+    { "refused-first", KNITOUT_PROGRAM_MOST, build_refused_first },
+    { "refused-last", KNITOUT_PROGRAM_MOST, build_refused_last },
 };
 
-const struct program *build_programs(void)
+void build_generated(struct program *program, size_t length, uint32_t seed)
+{
+    struct builder b = begin(program, "generated", length, seed);
+    build_mixed(&b);
+}
+
+const struct program *build_program(int i)
 {
     static struct program programs[PROGRAMS];
-    for (int i = 0; i < PROGRAMS; i++) {
-        struct builder b = begin(&programs[i], parts[i].name, parts[i].limit);
-        parts[i].build(&b);
-    }
-    return programs;
+    if (programs[i].name) return &programs[i];
+    struct builder b = begin(&programs[i], parts[i].name, parts[i].limit, 1);
+    parts[i].build(&b);
+    return &programs[i];
+}
+
+const struct program *find_program(const char *name)
+{
+    for (int i = 0; i < PROGRAMS; i++)
+        if (strcmp(parts[i].name, name) == 0) return build_program(i);
+    abort();
 }

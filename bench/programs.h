@@ -2,22 +2,28 @@
 #ifndef BENCH_PROGRAMS_H
 #define BENCH_PROGRAMS_H
 
-#include <stddef.h>
-#include <stdint.h>
+#include "kinds.h"
 
-enum { PROGRAM_LIMIT = 32768, KIND_LIMIT = 10, PROGRAMS = 11 };
+enum { PROGRAMS = 15 };
 
 struct program {
     const char *name;
-    uint8_t bytes[PROGRAM_LIMIT];
+    _Alignas(LINE) uint8_t bytes[KNITOUT_PROGRAM_MOST];
     size_t length;
     unsigned records;             /* that a run comes to, a refused one included */
     unsigned of_kind[KIND_LIMIT]; /* the same, by kind; entry 0 is not used */
-    uint64_t answer;              /* what a run gives: number * 65536 + place */
+    uint64_t answer;              /* what a run gives */
 };
 
-/* Builds all programs, the same ones on every call. */
-const struct program *build_programs(void);
+/* A program by its place or by its name, the same one on every call. */
+const struct program *build_program(int i);
+const struct program *find_program(const char *name);
+
+/* A valid program of all kinds, of exactly this length, which is 8 or more. */
+void build_generated(struct program *program, size_t length, uint32_t seed);
+
+/* A number below n, the same sequence from one seed. */
+unsigned choose_below(uint32_t *seed, unsigned n);
 
 /* The name of a kind 1 to 9. */
 const char *kind_name(int kind);

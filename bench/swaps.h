@@ -1,32 +1,35 @@
-/* The programs and logs on which swaps are measured. */
+/* The programs and logs on which the rewriter is measured. */
 #ifndef BENCH_SWAPS_H
 #define BENCH_SWAPS_H
 
-#include <stddef.h>
-#include <stdint.h>
+#include "kinds.h"
 
-enum { SWAP_BYTES_LIMIT = 32768, SWAP_CASES = 36 };
+/* How a log's positions go; `bench/swaps.c` says more. */
+enum log_kind { AT, SPREAD, ENDS, FOUND, FORTH_AND_BACK };
 
 /* What a case is named by: `bench/swaps.c` says what each program holds. */
 struct swap_case {
+    const char *table; /* that it is printed in */
     const char *program;
     unsigned records;
-    unsigned position; /* that every swap of the log has; not used by the mixed program */
+    enum log_kind log;
+    unsigned position; /* of the two drops, and of every swap AT it */
     unsigned swaps;    /* records of the log */
     unsigned number;   /* of the answer: 0 if every swap is accepted */
 };
 
 /* A case built. */
 struct swap_input {
-    uint8_t program[SWAP_BYTES_LIMIT];
+    _Alignas(LINE) uint8_t program[KNITOUT_PROGRAM_MOST];
     size_t length;
     unsigned records;
-    uint8_t log[SWAP_BYTES_LIMIT];
+    uint8_t log[KNITOUT_LOG_MOST];
     size_t log_length;
-    uint64_t answer; /* number * 65536 + place */
+    uint64_t answer;
 };
 
-extern const struct swap_case swap_cases[SWAP_CASES];
+/* All cases. Before a case with swaps stands the last one with its program and an empty log. */
+const struct swap_case *list_swaps(int *cases);
 
 /* Builds a case, the same one on every call. */
 const struct swap_input *build_swaps(const struct swap_case *c);

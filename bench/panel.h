@@ -1,0 +1,43 @@
+/* The states, records and lists on which the panel's services are measured. */
+#ifndef BENCH_PANEL_H
+#define BENCH_PANEL_H
+
+#include "programs.h"
+
+enum { STEP_INPUTS = 13, LIST_INPUTS = 4 };
+
+/* A program of 32,768 bytes has no more records. */
+enum { PLACES_LIMIT = KNITOUT_PROGRAM_MOST / 2 };
+
+/* Steps of the mixed program or of one record from a state. */
+struct step_input {
+    const char *name;
+    struct knitout_state state;
+    const uint8_t *bytes;
+    size_t length;
+    unsigned steps;
+    uint16_t places[PLACES_LIMIT]; /* of each step's record */
+    unsigned number;
+    size_t served;                 /* the lengths of all answers together */
+};
+
+struct list_input {
+    const char *name;
+    struct knitout_state state;
+    size_t count;
+    unsigned number;
+    size_t served;
+};
+
+/* An input by its place, the same one on every call. */
+const struct step_input *build_step(int i);
+const struct list_input *build_list(int i);
+
+/* Are all values the same? The padding byte is left out. */
+int states_agree(const struct knitout_state *a, const struct knitout_state *b);
+
+/* Both versions on generated inputs (bench/panel_checks.c): 1 if they differ, with a message. */
+int generated_steps_differ(void);
+int generated_lists_differ(void);
+
+#endif

@@ -1,0 +1,175 @@
+/* Checks that the library's panel services and plain C's agree on generated states, records and lists. */
+#include "panel.h"
+
+#include "plain_panel.h"
+
+#include <stdio.h>
+#include <string.h>
+
+enum { GENERATED = 24, GENERATED_LENGTH = 2048, ALTERED = 4, ENTRIES = 12, PAINT = 0x5a };
+
+/* Where the padding byte of a state is. */
+enum { PADDING = offsetof(struct knitout_state, loops) + KNITOUT_HOOKS };
+
+/* Values put into each byte of a state, and into slots, beds and needles, in and out of ranges. */
+static const uint8_t byte_values[] = { 0, 1, 2, 3, 8, 9, 127, 128, 247, 248, 249, 250, 255 };
+static const uint16_t word_values[] = { 0, 1, 2, 249, 250, 256, 257, 258, 259, 512, 65527, 65528, 65535 };
+enum { BYTES = sizeof byte_values, WORDS = sizeof word_values / sizeof word_values[0] };
+
+/* How often each number was given. */
+static unsigned seen[KNITOUT_BAD_STATE + 1];
+
+static int differ(const char *what, struct knitout_served library, struct knitout_served plain)
+{
+    fprintf(stderr, "bench: generated %s: library gives %u and %zu, plain C %u and %zu, or the contents differ\n", what,
+            library.number, library.length, plain.number, plain.length);
+    return 1;
+}
+
+/* One step by both versions; the state after it goes to *after, which may be the state itself. */
+static int step_differs(const struct knitout_state *state, const uint8_t *bytes, size_t length,
+                        struct knitout_state *after)
+{
+    struct knitout_state before = *state, other = *state;
+    *after = *state;
+    struct knitout_served library = knitout_step(&other, bytes, length), plain = plain_step(after, bytes, length);
+    int agree = library.number == plain.number && library.length == plain.length && states_agree(&other, after);
+    if (plain.number && !states_agree(&before, after)) agree = 0;
+    if (!agree) return differ("step", library, plain);
+    seen[plain.number]++;
+    return 0;
+}
+
+/* One list by both versions; entries that are not lent must keep their contents, too. */
+static int list_differs(const struct knitout_state *state, size_t count)
+{
+    struct knitout_carrier of_library[ENTRIES], of_plain[ENTRIES];
+    memset(of_library, PAINT, sizeof of_library);
+    memset(of_plain, PAINT, sizeof of_plain);
+    struct knitout_served library = knitout_carriers(state, of_library, count);
+    struct knitout_served plain = plain_carriers(state, of_plain, count);
+    int agree = library.number == plain.number && library.length == plain.length
+        && memcmp(of_library, of_plain, sizeof of_plain) == 0;
+    if (!agree) return differ("list", library, plain);
+    seen[plain.number]++;
+    return 0;
+}
+
+static int all_counts_differ(const struct knitout_state *state)
+{
+    for (size_t count = 0; count <= ENTRIES; count++)
+        if (list_differs(state, count)) return 1;
+    return 0;
+}
+
+/* The record's hook with other loops and its carrier attached elsewhere: full hooks, long floats. */
+static int stray_differs(const struct knitout_state *state, const uint8_t *bytes, size_t size, uint32_t *seed)
+{
+    struct knitout_state stray = *state, after;
+    const uint8_t *at = bytes + 1 + (bytes[0] >= IN);
+    if (bytes[0] != RACK) stray.loops[KNITOUT_HOOK(at[0], at[1])] = (uint8_t)choose_below(seed, KNITOUT_LOOPS_MOST + 1);
+    if (step_differs(&stray, bytes, size, &after)) return 1;
+    if (bytes[0] < IN) return 0;
+    struct knitout_carrier *c = &stray.carriers[bytes[4] - 1];
+    if (c->side != KNITOUT_UNATTACHED) c->needle = (uint16_t)choose_below(seed, KNITOUT_NEEDLES);
+    return step_differs(&stray, bytes, size, &after);
+}
+
+/* Records like the next one, with one byte altered and now and then cut short. */
+static int altered_differ(const struct knitout_state *state, const uint8_t *bytes, size_t size, uint32_t *seed)
+{
+    for (int i = 0; i < ALTERED; i++) {
+        uint8_t record[KNITOUT_RECORD_MOST] = { 0 };
+        struct knitout_state after;
+        memcpy(record, bytes, size);
+        uint8_t *at = &record[choose_below(seed, (unsigned)size)];
+        *at = (uint8_t)(choose_below(seed, 2) ? *at + 1u : choose_below(seed, 256));
+        size_t length = choose_below(seed, 16) ? sizeof record : choose_below(seed, 6);
+        if (step_differs(state, record, length, &after)) return 1;
+    }
+    return 0;
+}
+
+/* Steps through a program, with altered records in each state; leaves the final state. */
+static int program_differs(const struct program *p, uint32_t seed, struct knitout_state *state)
+{
+    *state = (struct knitout_state){ 0 };
+    for (size_t at = 0; at < p->length;) {
+        size_t size = record_size[p->bytes[at]];
+        if (altered_differ(state, p->bytes + at, size, &seed)) return 1;
+        if (stray_differs(state, p->bytes + at, size, &seed)) return 1;
+        if (step_differs(state, p->bytes + at, p->length - at, state)) return 1;
+        at += size;
+    }
+    return 0;
+}
+
+/* The final state of a generated program; 1 if the versions differ on the way. */
+static int generate(uint32_t seed, struct knitout_state *state)
+{
+    static struct program program;
+    build_generated(&program, GENERATED_LENGTH, seed);
+    return program_differs(&program, seed, state);
+}
+
+/* A state with one value altered, by a step and by a list of ten. */
+static int altered_state_differs(const struct knitout_state *state, size_t at, const void *value, size_t size)
+{
+    static const uint8_t record[] = { RACK, 3 };
+    struct knitout_state altered = *state, after;
+    memcpy((uint8_t *)&altered + at, value, size);
+    return step_differs(&altered, record, sizeof record, &after) || list_differs(&altered, KNITOUT_CARRIERS);
+}
+
+static int altered_bytes_differ(const struct knitout_state *state)
+{
+    for (size_t i = 0; i < sizeof *state * BYTES; i++)
+        if (i / BYTES != PADDING && altered_state_differs(state, i / BYTES, &byte_values[i % BYTES], 1)) return 1;
+    return 0;
+}
+
+/* Four words a carrier: active and side, slot, bed, needle. */
+static int altered_words_differ(const struct knitout_state *state)
+{
+    for (size_t i = 0; i < KNITOUT_CARRIERS * 4 * WORDS; i++) {
+        size_t at = offsetof(struct knitout_state, carriers) + i / WORDS * 2;
+        if (altered_state_differs(state, at, &word_values[i % WORDS], 2)) return 1;
+    }
+    return 0;
+}
+
+static int altered_states_differ(const struct knitout_state *state)
+{
+    return altered_bytes_differ(state) || altered_words_differ(state);
+}
+
+/* Was a number never given that the service may give? */
+static int not_seen(const char *what, unsigned first, unsigned last)
+{
+    for (unsigned number = first; number <= last; number++) {
+        if (seen[number]) continue;
+        fprintf(stderr, "bench: generated %s: number %u was never given\n", what, number);
+        return 1;
+    }
+    return 0;
+}
+
+int generated_steps_differ(void)
+{
+    memset(seen, 0, sizeof seen);
+    for (uint32_t seed = 1; seed <= GENERATED; seed++) {
+        struct knitout_state state;
+        if (generate(seed, &state)) return 1;
+    }
+    return not_seen("step", KNITOUT_DONE, KNITOUT_DONE) || not_seen("step", KNITOUT_UNKNOWN_KIND, KNITOUT_HOOK_FULL);
+}
+
+int generated_lists_differ(void)
+{
+    memset(seen, 0, sizeof seen);
+    for (uint32_t seed = 1; seed <= GENERATED; seed++) {
+        struct knitout_state state;
+        if (generate(seed, &state) || all_counts_differ(&state) || altered_states_differ(&state)) return 1;
+    }
+    return not_seen("list", KNITOUT_NO_ROOM, KNITOUT_NO_ROOM) || not_seen("list", KNITOUT_BAD_STATE, KNITOUT_BAD_STATE);
+}

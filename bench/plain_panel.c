@@ -1,0 +1,229 @@
+/* The panel's services in plain C, written for speed: the lent state is looked at and changed in place. */
+#include "plain_panel.h"
+
+#include "kinds.h"
+
+#include <string.h>
+
+/* The fields of a record with a carrier, in range. */
+struct stitch {
+    int right, bed, needle, column;
+    struct knitout_carrier *carrier;
+};
+
+static inline uint8_t greater(uint8_t a, uint8_t b) { return a > b ? a : b; }
+
+/* Four windows of 128 hooks, which overlap by a few, cover the 500: a loop without a rest, fit for vectors. */
+static inline int loops_in_range(const uint8_t *loops)
+{
+    enum { WINDOW = 128, APART = (KNITOUT_HOOKS - WINDOW) / 3 };
+    uint8_t most = 0;
+    for (int i = 0; i < WINDOW; i++) {
+        uint8_t front = greater(loops[i], loops[i + APART]);
+        uint8_t back = greater(loops[i + 2 * APART], loops[i + 3 * APART]);
+        most = greater(most, greater(front, back));
+    }
+    return most <= KNITOUT_LOOPS_MOST;
+}
+
+/* Is every value in its range, and 0 where it has no meaning? */
+static inline int carrier_in_range(const struct knitout_carrier *c)
+{
+    static const struct knitout_carrier inactive;
+    if (c->active != 1) return memcmp(c, &inactive, sizeof *c) == 0;
+    unsigned slot = (unsigned)(c->slot - KNITOUT_SLOT_LEAST);
+    if (slot > KNITOUT_SLOT_MOST - KNITOUT_SLOT_LEAST) return 0;
+    if (c->side != KNITOUT_LEFT && c->side != KNITOUT_RIGHT) return (c->side | c->bed | c->needle) == 0;
+    return c->bed <= KNITOUT_BACK && c->needle < KNITOUT_NEEDLES;
+}
+
+static inline int carriers_in_range(const struct knitout_carrier *carriers)
+{
+    for (int i = 0; i < KNITOUT_CARRIERS; i++)
+        if (!carrier_in_range(&carriers[i])) return 0;
+    return 1;
+}
+
+static inline int racking_in_range(int racking)
+{
+    return KNITOUT_RACKING_LEAST <= racking && racking <= KNITOUT_RACKING_MOST;
+}
+
+static inline int in_range(const struct knitout_state *s)
+{
+    return racking_in_range(s->racking) && carriers_in_range(s->carriers) && loops_in_range(s->loops);
+}
+
+static inline int column_of(const struct knitout_state *s, int bed, int needle) { return needle + (s->racking & -bed); }
+
+static inline int entry_slot(const struct stitch *t) { return t->column + (t->right ^ 1); }
+static inline int exit_slot(const struct stitch *t) { return t->column + t->right; }
+
+static inline int rack(struct knitout_state *s, const uint8_t *p)
+{
+    int racking = (int8_t)p[1];
+    if (!racking_in_range(racking)) return KNITOUT_FIELD_RANGE;
+    s->racking = (int8_t)racking;
+    return KNITOUT_DONE;
+}
+
+static inline int drop(struct knitout_state *s, const uint8_t *p)
+{
+    if (p[1] > KNITOUT_BACK || p[2] >= KNITOUT_NEEDLES) return KNITOUT_FIELD_RANGE;
+    s->loops[KNITOUT_HOOK(p[1], p[2])] = 0;
+    return KNITOUT_DONE;
+}
+
+/* Moves loops and attachments to a needle of the other bed, if there is room. */
+static inline int move(struct knitout_state *s, int bed, int needle, int other)
+{
+    uint8_t *from = &s->loops[KNITOUT_HOOK(bed, needle)], *to = &s->loops[KNITOUT_HOOK(bed ^ 1, other)];
+    int loops = *from + *to;
+    if (loops > KNITOUT_LOOPS_MOST) return KNITOUT_HOOK_FULL;
+    *to = (uint8_t)loops;
+    *from = 0;
+    for (struct knitout_carrier *c = s->carriers; c < s->carriers + KNITOUT_CARRIERS; c++) {
+        if (c->needle != needle || c->bed != bed || c->side == KNITOUT_UNATTACHED) continue;
+        c->bed = (uint16_t)(bed ^ 1);
+        c->needle = (uint16_t)other;
+    }
+    return KNITOUT_DONE;
+}
+
+static inline int xfer(struct knitout_state *s, const uint8_t *p)
+{
+    int bed = p[1], needle = p[2], other = p[3];
+    if (bed > KNITOUT_BACK || needle >= KNITOUT_NEEDLES || other >= KNITOUT_NEEDLES) return KNITOUT_FIELD_RANGE;
+    if (column_of(s, bed, needle) != column_of(s, bed ^ 1, other)) return KNITOUT_NOT_OPPOSITE;
+    return move(s, bed, needle, other);
+}
+
+/* Reads direction, bed, needle and carrier. */
+static inline int read_stitch(struct knitout_state *s, const uint8_t *p, struct stitch *t)
+{
+    unsigned carrier = p[4] - 1u;
+    if ((p[1] | p[2]) > 1 || p[3] >= KNITOUT_NEEDLES || carrier >= KNITOUT_CARRIERS) return KNITOUT_FIELD_RANGE;
+    t->right = p[1];
+    t->bed = p[2];
+    t->needle = p[3];
+    t->column = column_of(s, t->bed, t->needle);
+    t->carrier = &s->carriers[carrier];
+    return KNITOUT_DONE;
+}
+
+/* Is the carrier parked at this slot? */
+static inline int parked(const struct knitout_carrier *c, int slot)
+{
+    if (!c->active) return KNITOUT_NOT_IN;
+    return c->slot == slot ? KNITOUT_DONE : KNITOUT_WRONG_SLOT;
+}
+
+static inline int in(const struct stitch *t)
+{
+    if (t->carrier->active) return KNITOUT_ALREADY_IN;
+    t->carrier->active = 1;
+    t->carrier->slot = (int16_t)entry_slot(t);
+    return KNITOUT_DONE;
+}
+
+static inline int out(const struct stitch *t)
+{
+    int number = parked(t->carrier, exit_slot(t));
+    if (number == KNITOUT_DONE) *t->carrier = (struct knitout_carrier){ 0 };
+    return number;
+}
+
+static inline int miss(const struct stitch *t)
+{
+    int number = parked(t->carrier, entry_slot(t));
+    if (number == KNITOUT_DONE) t->carrier->slot = (int16_t)exit_slot(t);
+    return number;
+}
+
+/* What tuck, knit and split ask of the carrier: parked at the entry, no long float. */
+static inline int reaches(const struct knitout_state *s, const struct stitch *t)
+{
+    const struct knitout_carrier *c = t->carrier;
+    int number = parked(c, entry_slot(t));
+    if (number || c->side == KNITOUT_UNATTACHED) return number;
+    int distance = column_of(s, c->bed, c->needle) - t->column;
+    if (distance < -KNITOUT_FLOAT_MOST || distance > KNITOUT_FLOAT_MOST) return KNITOUT_FLOAT_TOO_LONG;
+    return KNITOUT_DONE;
+}
+
+/* The hook holds so many loops, the carrier is attached to it. */
+static inline int attach(struct knitout_state *s, const struct stitch *t, int loops)
+{
+    s->loops[KNITOUT_HOOK(t->bed, t->needle)] = (uint8_t)loops;
+    t->carrier->side = (uint8_t)(KNITOUT_LEFT + t->right);
+    t->carrier->slot = (int16_t)exit_slot(t);
+    t->carrier->bed = (uint16_t)t->bed;
+    t->carrier->needle = (uint16_t)t->needle;
+    return KNITOUT_DONE;
+}
+
+static inline int tuck(struct knitout_state *s, const struct stitch *t)
+{
+    int number = reaches(s, t), loops = s->loops[KNITOUT_HOOK(t->bed, t->needle)];
+    if (number) return number;
+    if (loops >= KNITOUT_LOOPS_MOST) return KNITOUT_HOOK_FULL;
+    return attach(s, t, loops + 1);
+}
+
+static inline int knit(struct knitout_state *s, const struct stitch *t)
+{
+    int number = reaches(s, t);
+    return number ? number : attach(s, t, 1);
+}
+
+static inline int split(struct knitout_state *s, const struct stitch *t, int other)
+{
+    if (other >= KNITOUT_NEEDLES) return KNITOUT_FIELD_RANGE;
+    int number = reaches(s, t);
+    if (number) return number;
+    if (t->column != column_of(s, t->bed ^ 1, other)) return KNITOUT_NOT_OPPOSITE;
+    number = move(s, t->bed, t->needle, other);
+    return number ? number : attach(s, t, 1);
+}
+
+/* One record of a known kind, whose bytes are there. */
+static inline int step(struct knitout_state *s, const uint8_t *p)
+{
+    if (p[0] == RACK) return rack(s, p);
+    if (p[0] == DROP) return drop(s, p);
+    if (p[0] == XFER) return xfer(s, p);
+    struct stitch t;
+    int number = read_stitch(s, p, &t);
+    if (number) return number;
+    switch (p[0]) {
+    case IN: return in(&t);
+    case OUT: return out(&t);
+    case MISS: return miss(&t);
+    case TUCK: return tuck(s, &t);
+    case KNIT: return knit(s, &t);
+    default: return split(s, &t, p[5]);
+    }
+}
+
+static inline struct knitout_served served(int number, size_t length)
+{
+    return (struct knitout_served){ (uint8_t)number, number ? 0 : length };
+}
+
+struct knitout_served plain_step(struct knitout_state *state, const uint8_t *bytes, size_t length)
+{
+    if (!in_range(state)) return served(KNITOUT_BAD_STATE, 0);
+    if (length == 0) return served(KNITOUT_CUT_SHORT, 0);
+    if (bytes[0] < RACK || bytes[0] > SPLIT) return served(KNITOUT_UNKNOWN_KIND, 0);
+    size_t size = record_size[bytes[0]];
+    if (length < size) return served(KNITOUT_CUT_SHORT, 0);
+    return served(step(state, bytes), size);
+}
+
+struct knitout_served plain_carriers(const struct knitout_state *state, struct knitout_carrier *list, size_t count)
+{
+    if (!in_range(state)) return served(KNITOUT_BAD_STATE, 0);
+    if (count < KNITOUT_CARRIERS) return served(KNITOUT_NO_ROOM, 0);
+    memcpy(list, state->carriers, sizeof state->carriers);
+    return served(KNITOUT_DONE, KNITOUT_CARRIERS);
+}

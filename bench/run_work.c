@@ -1,0 +1,124 @@
+/* The run as measured work: all programs through the library and through plain C. */
+#include "plain.h"
+#include "programs.h"
+#include "work.h"
+
+#include <inttypes.h>
+#include <stdio.h>
+
+typedef uint64_t (*run_function)(const uint8_t *program, size_t length);
+
+/* Altered programs; a bit for each number that a run of one may give: 0 and 3 to 11. */
+enum { ALTERED = 1000, NUMBERS = 0xff9 };
+
+static const struct program *program;
+static unsigned seen;
+static uint64_t answers[VERSIONS];
+
+static uint64_t run_nothing(const uint8_t *bytes, size_t length)
+{
+    (void)bytes, (void)length;
+    return 0;
+}
+
+static const run_function versions[VERSIONS] = { run_nothing, knitout_run, plain_run };
+
+static int inputs(void) { return PROGRAMS; }
+
+/* Name, bytes, records, number, place, then the records of each kind. */
+static void build(int i, struct about *about)
+{
+    program = build_program(i);
+    about->records = program->records;
+    about->timed = 1;
+    char *at = about->text, *end = at + sizeof about->text;
+    at += snprintf(at, (size_t)(end - at), "%s %zu %u %u %u", program->name, program->length, program->records,
+                   KNITOUT_NUMBER(program->answer), KNITOUT_PLACE(program->answer));
+    for (int kind = 1; kind < KIND_LIMIT; kind++)
+        if (program->of_kind[kind])
+            at += snprintf(at, (size_t)(end - at), " %s=%u", kind_name(kind), program->of_kind[kind]);
+}
+
+static void prepare(enum version v) { answers[v] = UINT64_MAX; }
+
+static void call(enum version v) { answers[v] = versions[v](program->bytes, program->length); }
+
+/* Both versions must give the answer that the program was built for. */
+static int differs(void)
+{
+    if (answers[LIBRARY] == program->answer && answers[PLAIN] == program->answer) return 0;
+    fprintf(stderr, "bench: run %s: library %" PRIx64 ", plain C %" PRIx64 ", expected %" PRIx64 "\n", program->name,
+            answers[LIBRARY], answers[PLAIN], program->answer);
+    return 1;
+}
+
+/* Both versions on some bytes. */
+static int versions_differ(const uint8_t *bytes, size_t length)
+{
+    uint64_t library = knitout_run(bytes, length), plain = plain_run(bytes, length);
+    seen |= 1u << KNITOUT_NUMBER(plain);
+    if (library == plain) return 0;
+    fprintf(stderr, "bench: run of an altered program: library %" PRIx64 ", plain C %" PRIx64 "\n", library, plain);
+    return 1;
+}
+
+/* With one byte altered. */
+static int altered_differs(uint8_t *bytes, size_t length, size_t at, uint8_t value)
+{
+    uint8_t before = bytes[at];
+    bytes[at] = value;
+    int differ = versions_differ(bytes, length);
+    bytes[at] = before;
+    return differ;
+}
+
+/* Every front part. */
+static int fronts_differ(const struct program *p)
+{
+    for (size_t length = 0; length <= p->length; length++)
+        if (versions_differ(p->bytes, length)) return 1;
+    return 0;
+}
+
+/* Any byte altered. */
+static int bytes_differ(uint8_t *bytes, size_t length)
+{
+    uint32_t seed = 1;
+    for (int i = 0; i < ALTERED; i++) {
+        size_t at = choose_below(&seed, (unsigned)length);
+        if (altered_differs(bytes, length, at, (uint8_t)choose_below(&seed, 256))) return 1;
+        if (altered_differs(bytes, length, at, (uint8_t)(bytes[at] + 1))) return 1;
+    }
+    return 0;
+}
+
+/* A tuck in place of each record with a carrier: full hooks, long floats. */
+static int tucks_differ(uint8_t *bytes, size_t length)
+{
+    for (size_t at = 0; at < length; at += record_size[bytes[at]])
+        if (bytes[at] >= MISS && altered_differs(bytes, length, at, TUCK)) return 1;
+    return 0;
+}
+
+/* Ten in, then misses right and left over 25 columns, but one a tuck, whose needle is left behind. */
+static int floats_differ(size_t tuck)
+{
+    static struct program misses;
+    misses = *find_program("miss");
+    misses.bytes[(KNITOUT_CARRIERS + tuck) * record_size[MISS]] = TUCK;
+    return tucks_differ(misses.bytes, 4000);
+}
+
+/* Altered programs; every number of the run must come up. */
+static int checks(void)
+{
+    static struct program mixed;
+    mixed = *find_program("mixed");
+    if (fronts_differ(find_program("mixed-4096")) || floats_differ(0) || floats_differ(24)) return 1;
+    if (bytes_differ(mixed.bytes, mixed.length) || tucks_differ(mixed.bytes, mixed.length)) return 1;
+    if (seen == NUMBERS) return 0;
+    fprintf(stderr, "bench: altered programs came to the numbers %x only\n", seen);
+    return 1;
+}
+
+const struct group run_group = { "run", inputs, build, prepare, call, differs, checks };
