@@ -42,8 +42,11 @@ $(OUT)/host: examples/host/host.c include/banthewig.h $(LIB)
 header:
 	CC="$(CC)" CXX="$(CXX)" tools/header
 
-# The C examples on every sample against what they must print.
-example: $(OUT)/knitrun $(OUT)/knitswap $(OUT)/host header
+# README's program is examples/first.c (blank lines aside); the C examples on every sample against what they must print.
+example: $(OUT)/first $(OUT)/knitrun $(OUT)/knitswap $(OUT)/host header
+	awk '/^## / { on = /first C program/ } on && sub(/^    /, "") && !/^cc /' README.md >$(OUT)/readme.c
+	grep . examples/first.c | diff - $(OUT)/readme.c
+	$(OUT)/first | diff examples/first.out -
 	for f in examples/*.prg examples/none.prg; do $(OUT)/knitrun $$f; done >$(OUT)/knitrun.out
 	diff examples/knitrun.out $(OUT)/knitrun.out
 	for f in examples/none.log examples/*.log; do $(OUT)/knitswap examples/p.prg $$f; done >$(OUT)/knitswap.out
