@@ -139,6 +139,16 @@ static void build_xfer(struct builder *b)
     for (int i = 0; room(b) >= 4; i++) xfer(b, i / KNITOUT_NEEDLES % 2, i % KNITOUT_NEEDLES);
 }
 
+/* The dearest transfers: ten carriers are attached at one needle, and each xfer moves all of them across and back. */
+static void build_xfer_moved(struct builder *b)
+{
+    for (int k = 1; k <= KNITOUT_CARRIERS; k++) {
+        stitch(b, IN, RIGHT, KNITOUT_FRONT, 0, k);
+        stitch(b, KNIT, RIGHT, KNITOUT_FRONT, 0, k);
+    }
+    for (int i = 0; room(b) >= 4; i++) xfer(b, i % 2, 0);
+}
+
 /* Ten carriers come in and go out again: half in, half out. */
 static void build_in_out(struct builder *b)
 {
@@ -291,6 +301,7 @@ static const struct {
     { "rack", KIND_LENGTH, build_rack },
     { "drop", KIND_LENGTH, build_drop },
     { "xfer", KIND_LENGTH, build_xfer },
+    { "xfer-moved", KIND_LENGTH, build_xfer_moved },
     { "in-out", KIND_LENGTH, build_in_out },
     { "miss", KIND_LENGTH, build_miss },
     { "tuck", KIND_LENGTH, build_tuck },

@@ -4,7 +4,7 @@
 
 #include "kinds.h"
 
-enum { PROGRAMS = 15 };
+enum { PROGRAMS = 16 };
 
 struct program {
     const char *name;
