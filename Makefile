@@ -1,5 +1,6 @@
 # The commands: run, test, bench, and the parts that the gate is made of.
 LIB = target/staticlib/libbanthewig.a
+SOURCES := crates.txt $(shell find crates -name '*.rt' -o -name '*.antt')
 OUT = target/extra
 CFLAGS = -std=c11 -O2 -Wall -Wextra -Werror -pedantic -Iinclude
 
@@ -16,12 +17,13 @@ test:
 bench: archive
 	sh bench/run
 
-# Proves the entries over the proved crates and writes the archive.
+# Proves the entries over the proved crates and writes the archive. (Touched, since rt may find nothing to write anew.)
 archive:
 	@mkdir -p $(OUT)
 	@rt staticlib banthewig >$(OUT)/staticlib.log 2>&1 || { cat $(OUT)/staticlib.log; exit 1; }
+	@touch $(LIB)
 
-$(LIB):
+$(LIB): $(SOURCES)
 	$(MAKE) archive
 
 # The library against the Rust model.

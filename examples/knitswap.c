@@ -1,4 +1,5 @@
-/* Makes a log's swaps in a program and prints the answer and the program's bytes: knitswap PROGRAM LOG. */
+/* Makes a log's swaps in a program and prints the answer and the program's bytes: knitswap PROGRAM LOG. A file that can't
+   be read counts as empty, as in document 01's listing. */
 #include "banthewig.h"
 
 #include <stdio.h>
@@ -33,7 +34,7 @@ int main(int count, char **names)
     unsigned number = KNITOUT_NUMBER(answer);
 
     printf("%s: %u %u", names[2], number, KNITOUT_PLACE(answer));
-    if (number == KNITOUT_DONE || number >= KNITOUT_NO_PAIR)
+    if (number == KNITOUT_DONE || number >= KNITOUT_NO_PAIR) /* 1 to 11 write nothing */
         for (size_t i = 0; i < length; i++)
             printf("%s%02x", i == 0 ? " " : "", output[i]);
     putchar('\n');

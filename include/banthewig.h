@@ -1,8 +1,8 @@
 /* The C interface of Banthewig: the run of a knitout program on the machine model, the swaps of its records, and the
    panel's services on one machine state. Nothing here needs an allocator, a file or a thread; no call keeps a pointer.
-   A pointer whose length or count is 0 is not read and may be null; a state's may not. What is lent for writing may
-   overlap nothing else that is lent, and nothing else may read or write it during the call. States, lists and work
-   areas are aligned as C aligns them. For C11 and C++11, and later ones. docs/CALLS.md says more. */
+   A pointer whose length or count is 0 is not read and may be null; a state's is never null. What is lent for writing
+   overlaps nothing else that is lent, and nothing else touches it during the call. States, lists and work areas lie at
+   even addresses, bytes anywhere. For C11 and C++11, and later ones. docs/CALLS.md says more. */
 #ifndef BANTHEWIG_H
 #define BANTHEWIG_H
 
@@ -19,13 +19,13 @@ enum knitout_number {
     KNITOUT_TOO_LONG = 1,        /* program or log over its limit */
     KNITOUT_NO_ROOM = 2,         /* output shorter than the program, fewer work entries than half its bytes, or a carrier
                                     list under ten */
-    KNITOUT_UNKNOWN_KIND = 3,    /* a byte that is no kind */
+    KNITOUT_UNKNOWN_KIND = 3,    /* a kind byte that is not 1 to 9 */
     KNITOUT_CUT_SHORT = 4,       /* no byte, or fewer than the kind needs */
     KNITOUT_FIELD_RANGE = 5,     /* a field outside its range */
     KNITOUT_ALREADY_IN = 6,      /* in for an active carrier */
-    KNITOUT_NOT_IN = 7,          /* any other use of an inactive one */
+    KNITOUT_NOT_IN = 7,          /* out, miss, tuck, knit or split with an inactive one */
     KNITOUT_WRONG_SLOT = 8,      /* carrier parked at the wrong slot */
-    KNITOUT_FLOAT_TOO_LONG = 9,  /* over 20 columns */
+    KNITOUT_FLOAT_TOO_LONG = 9,  /* tuck, knit or split over 20 columns from the attachment */
     KNITOUT_NOT_OPPOSITE = 10,   /* the two needles' columns differ */
     KNITOUT_HOOK_FULL = 11,      /* over 8 loops on a hook */
     KNITOUT_NO_PAIR = 12,        /* position + 1 is not a record */
@@ -81,13 +81,14 @@ struct knitout_served {
 /* The hook of a needle among a state's loops. */
 #define KNITOUT_HOOK(bed, needle) ((bed) * KNITOUT_NEEDLES + (needle))
 
-/* Runs a program from the empty state: number times 65,536 plus place. The place is the start of the refused
-   record (3 to 11), else 0. Reads program[0] to program[length - 1] at most and writes nothing. */
+/* Runs a program from the empty state: number times 65,536 plus place. The place is the refused record's start, its kind
+   byte (3 to 11), else 0. Reads program[0] to program[length - 1] at most and writes nothing. */
 uint64_t knitout_run(const uint8_t *program, size_t length);
 
 /* Runs a program and makes a log's swaps in a copy of it: number times 65,536 plus place. The place is the start of
    the refused record in the program (3 to 11) or in the log (12 to 14), else 0. Lengths are in bytes, work_count in
-   entries; the output needs program_length bytes, work program_length / 2 entries, and no two areas may overlap.
+   entries; the output needs program_length bytes, work program_length / 2 entries. Output and work overlap nothing else
+   that is lent; program and log are only read and may share bytes.
    0 writes the program as the swaps made it to the front of the output, and the start of each of its records to the
    front of work; 12 to 14 the same, as the swaps before the refused one made it; 1 to 11 write nothing. Output past
    the program's length and work past the last record's start keep their contents. */
@@ -100,12 +101,13 @@ uint64_t knitout_rewrite(const uint8_t *program, size_t program_length, const ui
 
 /* Makes the step of the first record of bytes[0] to bytes[length - 1] on the lent state; what follows the record is not
    looked at, and a length of 0 gives 4. 0: the state is the one after the record, and the answer's length the record's.
-   15 (looked at first) and 3 to 11: length 0, and every field of the state has its old value. The state is stored to
-   in either case, so that its memory must be writable. */
+   15 (looked at first) and 3 to 11: length 0, and every field of the state has its old value. The whole state is stored
+   in either case, so its memory must be writable. */
 struct knitout_served knitout_step(struct knitout_state *state, const uint8_t *bytes, size_t length);
 
 /* Lists the carriers of a state. 0 writes carriers 1 to 10 to list[0] to list[9] and gives length 10; entries from list[10]
-   on keep their contents. 15 (looked at first) and 2 (count under ten) give length 0 and write nothing. */
+   on keep their contents. 15 (looked at first) and 2 (count under ten) give length 0 and write nothing. The list may not
+   be the state's own carriers. */
 struct knitout_served knitout_carriers(const struct knitout_state *state, struct knitout_carrier *list, size_t count);
 
 /* The layout that the library is built with (x86-64); crates/banthewig/proofs/Crossing.antt proves the same of it. */

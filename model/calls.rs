@@ -1,11 +1,11 @@
 //! One rewriter call through the C entry, compared with the model in every byte and entry.
 
 use crate::draft::Random;
-use crate::lend::{Lent, MARGIN};
-use crate::machine::{Answer, DONE};
+use crate::lend::{behind, Lent};
+use crate::machine::DONE;
 use crate::rewrite::{NO_PAIR, TORN_LOG};
 use crate::swap_coverage::{SwapCoverage, LOANS};
-use crate::{fail, show};
+use crate::{fail, show, show_answer};
 
 extern "C" {
     fn knitout_rewrite(
@@ -45,10 +45,6 @@ pub struct Rewriter {
     lent: [Lent; 4],
 }
 
-fn packed(answer: &Answer) -> u64 {
-    u64::from(answer.number) * 65_536 + answer.place as u64
-}
-
 fn entries(bytes: &[u8]) -> Vec<u16> {
     let pairs = bytes.chunks_exact(2);
     pairs.map(|b| u16::from_ne_bytes([b[0], b[1]])).collect()
@@ -73,10 +69,7 @@ impl Rewriter {
 
     /// Lends bytes before a guard page or before marks; none are often lent as a null pointer.
     fn lend(&mut self, loan: usize, bytes: &[u8]) -> *mut u8 {
-        let behind = match self.random.below(2) {
-            0 => 0,
-            _ => 2 + 2 * self.random.below(MARGIN / 2),
-        };
+        let behind = behind(&mut self.random);
         let behind = behind - usize::from(behind > 0 && loan < 3 && self.random.percent(50));
         let null = bytes.is_empty() && self.random.percent(50);
         let guarded = behind == 0 && !bytes.is_empty();
@@ -132,7 +125,7 @@ impl Rewriter {
             .coverage
             .rewrite(call.program, call.log, &mut output, &mut work);
         let expected = Left {
-            answer: packed(&answer),
+            answer: answer.packed(),
             output,
             work,
         };
@@ -173,8 +166,7 @@ impl Rewriter {
 fn differ(call: &Call, expected: &Left, given: &Left, from: &str, what: &str) -> ! {
     println!("rewriter, {from}: {what}");
     for (name, left) in [("model", expected), ("library", given)] {
-        let (number, place) = (left.answer / 65_536, left.answer % 65_536);
-        println!("{name}: number {number} place {place}");
+        show_answer(name, left.answer);
         show("output", &left.output);
     }
     let (program, log) = (call.program.len(), call.log.len());

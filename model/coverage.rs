@@ -292,31 +292,16 @@ impl Coverage {
         let own = record
             .carrier_move()
             .is_some_and(|m| attached_to(state, m.carrier, first));
-        self.note(
-            if split {
-                Event::SplitEmpty
-            } else {
-                Event::XferEmpty
-            },
-            from == 0,
-        );
-        self.note(
-            if split {
-                Event::SplitToFull
-            } else {
-                Event::XferToFull
-            },
-            to_full,
-        );
-        self.note(
-            if split {
-                Event::SplitMovesSeveral
-            } else {
-                Event::XferMovesSeveral
-            },
-            several,
-        );
-        self.note(Event::SplitMovesOwn, own);
+        if split {
+            self.note(Event::SplitEmpty, from == 0);
+            self.note(Event::SplitToFull, to_full);
+            self.note(Event::SplitMovesSeveral, several);
+            self.note(Event::SplitMovesOwn, own);
+        } else {
+            self.note(Event::XferEmpty, from == 0);
+            self.note(Event::XferToFull, to_full);
+            self.note(Event::XferMovesSeveral, several);
+        }
     }
 
     fn refused_record(&mut self, state: &State, record: &Record, kind: usize, number: u8) {
@@ -335,14 +320,8 @@ impl Coverage {
         let loops = state.loops(first) + state.loops(second);
         if number == HOOK_FULL {
             let split = record.forms_loop();
-            self.note(
-                if split {
-                    Event::SplitNine
-                } else {
-                    Event::XferNine
-                },
-                loops == 9,
-            );
+            self.note(Event::SplitNine, split && loops == 9);
+            self.note(Event::XferNine, !split && loops == 9);
             self.note(Event::XferSixteen, !split && loops == 16);
         }
     }

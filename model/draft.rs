@@ -37,6 +37,12 @@ impl Random {
         values[self.below(values.len())]
     }
 
+    pub fn shuffle<T>(&mut self, values: &mut [T]) {
+        for place in (1..values.len()).rev() {
+            values.swap(place, self.below(place + 1));
+        }
+    }
+
     pub fn byte(&mut self) -> u8 {
         self.next() as u8
     }
@@ -68,6 +74,14 @@ impl Random {
             1 => 0,
             _ => self.between(10, 255) as u8,
         }
+    }
+}
+
+/// Up to seven bytes more, many of them kinds.
+pub fn add_bytes(random: &mut Random, bytes: &mut Vec<u8>) {
+    for _ in 0..random.below(8) {
+        let byte = random.byte();
+        bytes.push(if random.percent(50) { byte % 12 } else { byte });
     }
 }
 

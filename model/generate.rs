@@ -479,9 +479,7 @@ fn every_hook(random: &mut Random, check: Check) {
         .flat_map(|&bed| (0..NEEDLES).map(move |number| Needle { bed, number }))
         .collect();
     for round in 0..2 {
-        for place in (1..needles.len()).rev() {
-            needles.swap(place, random.below(place + 1));
-        }
+        random.shuffle(&mut needles);
         for &needle in &needles {
             let loops = draft.state.loops(needle);
             let more = if round == 0 {
@@ -608,14 +606,7 @@ fn unknown_kinds(random: &mut Random, check: Check) {
         whole_program(random)
     };
     program.push(random.unknown_kind());
-    for _ in 0..random.below(8) {
-        let follows = random.byte();
-        program.push(if random.percent(50) {
-            follows % 12
-        } else {
-            follows
-        });
-    }
+    add_bytes(random, &mut program);
     check(&program);
 }
 

@@ -1,5 +1,6 @@
 //! Memory lent to the library: marks stand around it, and it may end at a page without access.
 
+use crate::draft::Random;
 use crate::fail;
 use std::ffi::{c_int, c_void};
 use std::ops::Range;
@@ -26,8 +27,16 @@ const PAGE: usize = 65_536;
 const READABLE: usize = 3 * PAGE;
 
 /// The most bytes between what is lent and the guard page, and the bytes marked on each side.
-pub const MARGIN: usize = 64;
+const MARGIN: usize = 64;
 const MARK: u8 = 0x5c;
+
+/// Bytes between what is lent and the guard page: none, or an even number of marks.
+pub fn behind(random: &mut Random) -> usize {
+    match random.below(2) {
+        0 => 0,
+        _ => 2 + 2 * random.below(MARGIN / 2),
+    }
+}
 
 /// Readable bytes before a page without access; a part of them is lent.
 pub struct Lent {

@@ -99,9 +99,28 @@ pub struct Answer {
 }
 
 impl Answer {
+    /// A refusal before the program is looked at.
+    pub fn not_run(number: u8) -> Answer {
+        Answer {
+            number,
+            place: 0,
+            state: State::empty(),
+        }
+    }
+
     pub fn complete(&self) -> bool {
         self.state == State::empty()
     }
+
+    /// The answer as the C entries give it.
+    pub fn packed(&self) -> u64 {
+        packed(self.number, self.place)
+    }
+}
+
+/// Number and place in one word.
+pub fn packed(number: u8, place: usize) -> u64 {
+    u64::from(number) * 65_536 + place as u64
 }
 
 // Columns and slots.
@@ -486,11 +505,7 @@ pub fn run_records(program: &[u8], mut watch: impl FnMut(&State, &[u8], u8)) -> 
 
 pub fn run_watched(program: &[u8], watch: impl FnMut(&State, &[u8], u8)) -> Answer {
     if program.len() > PROGRAM_LIMIT {
-        return Answer {
-            number: TOO_LONG,
-            place: 0,
-            state: State::empty(),
-        };
+        return Answer::not_run(TOO_LONG);
     }
     run_records(program, watch)
 }

@@ -60,17 +60,23 @@ fn hex(bytes: &[u8]) -> String {
 fn show(name: &str, bytes: &[u8]) {
     const SHOWN: usize = 600;
     if bytes.len() > SHOWN {
-        println!("first bytes: {}", hex(&bytes[..SHOWN / 2]));
-        println!("last bytes:  {}", hex(&bytes[bytes.len() - SHOWN / 2..]));
+        let (first, last) = (&bytes[..SHOWN / 2], &bytes[bytes.len() - SHOWN / 2..]);
+        println!("{name}, first bytes: {}", hex(first));
+        println!("{name}, last bytes:  {}", hex(last));
     } else {
         println!("{name}: {}", hex(bytes));
     }
 }
 
+/// Prints number and place of a packed answer.
+fn show_answer(name: &str, packed: u64) {
+    let (number, place) = (packed / 65_536, packed % 65_536);
+    println!("{name}: number {number} place {place}");
+}
+
 fn report_difference(program: &[u8], expected: u64, given: u64, from: &str) -> ! {
-    let answer = |packed: u64| format!("number {} place {}", packed / 65_536, packed % 65_536);
-    println!("model:   {}", answer(expected));
-    println!("library: {}", answer(given));
+    show_answer("model", expected);
+    show_answer("library", given);
     println!("length {}, {from}", program.len());
     show("program", program);
     fail("the library differs from the model")
@@ -93,7 +99,7 @@ struct Comparison {
 impl Comparison {
     fn compare(&mut self, program: &[u8], from: &str) {
         let answer = self.coverage.run(program);
-        let expected = u64::from(answer.number) * 65_536 + answer.place as u64;
+        let expected = answer.packed();
         let given = library_run(program);
         if given != expected {
             report_difference(program, expected, given, from);

@@ -1,7 +1,7 @@
 //! One panel call through its C entry, compared with the model in every field and entry.
 
 use crate::draft::Random;
-use crate::lend::{Lent, MARGIN};
+use crate::lend::{behind, Lent};
 use crate::machine::*;
 use crate::panel::{list_carriers, step_first};
 use crate::panel_coverage::{Event, PanelCoverage, Source};
@@ -47,17 +47,9 @@ impl Panel {
         }
     }
 
-    /// Bytes between what is lent and the guard page: none, or an even number of marks.
-    fn behind(&mut self) -> usize {
-        match self.random.below(2) {
-            0 => 0,
-            _ => 2 + 2 * self.random.below(MARGIN / 2),
-        }
-    }
-
     /// Lends a state, with anything in its padding.
     pub fn lend_state(&mut self, state: &RawState) {
-        let (padding, behind) = (self.random.byte(), self.behind());
+        let (padding, behind) = (self.random.byte(), behind(&mut self.random));
         self.state.lend(&state.bytes(padding), behind);
         self.coverage.note(Event::StateGuarded, behind == 0);
         self.coverage.note(Event::StateMarked, behind > 0);
@@ -96,7 +88,7 @@ impl Panel {
         bytes: &[u8],
         from: &str,
     ) -> Served {
-        let behind = self.behind();
+        let behind = behind(&mut self.random);
         let odd = usize::from(behind > 0 && self.random.percent(50));
         let lent = self.bytes.lend(bytes, behind - odd);
         let null = bytes.is_empty() && self.random.percent(50);
@@ -169,7 +161,7 @@ impl Panel {
     pub fn list(&mut self, source: Source, state: &RawState, count: usize, from: &str) {
         let mut contents = vec![0; count * CARRIER_BYTES];
         contents.fill_with(|| self.random.byte());
-        let behind = self.behind();
+        let behind = behind(&mut self.random);
         let lent = self.list.lend(&contents, behind);
         let null = count == 0 && self.random.percent(50);
         let at = if null { std::ptr::null_mut() } else { lent };

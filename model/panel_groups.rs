@@ -1,6 +1,6 @@
 //! The groups of panel calls: programs record by record, foul and random states, carrier lists.
 
-use crate::draft::{Draft, Random};
+use crate::draft::{add_bytes, Draft, Random};
 use crate::generate::{self, add_racks_and_drops};
 use crate::machine::*;
 use crate::panel_calls::Panel;
@@ -10,21 +10,8 @@ use crate::panel_states::*;
 use crate::raw_state::*;
 use crate::{fail, library_run, report_difference};
 
-/// Rounds of the generator's groups; in each, one program in so many over `LONG` bytes is stepped.
-const PROGRAM_ROUNDS: usize = 4;
-const LONG: usize = 32_000;
-const LONG_EVERY: usize = 4;
-
 /// Sweeps over every value of every field.
 const SWEEPS: usize = 40;
-
-/// So many changes in turn are made to one state.
-const BASE_EVERY: usize = 20;
-
-const RANDOM_STATES: usize = 40_000;
-const SEVERAL_STATES: usize = 20_000;
-const LISTED_STATES: usize = 4_000;
-const WIDE_CALLS: usize = 200;
 
 pub fn compare(panel: &mut Panel, seed: u64) {
     let mut random = Random::new(seed.rotate_left(32));
@@ -45,6 +32,11 @@ fn any_count(random: &mut Random) -> usize {
 }
 
 // Programs, record by record.
+
+/// Rounds of the generator's groups; in each, one program in so many of `LONG` bytes or more is stepped.
+const PROGRAM_ROUNDS: usize = 4;
+const LONG: usize = 32_000;
+const LONG_EVERY: usize = 4;
 
 fn programs(random: &mut Random, panel: &mut Panel) {
     let mut own = Random::new(random.below(usize::MAX) as u64);
@@ -96,9 +88,9 @@ fn step_all(random: &mut Random, panel: &mut Panel, program: &[u8], from: &str) 
         .coverage
         .note(Event::OverLimit, over && number == DONE);
     let expected = if over {
-        u64::from(TOO_LONG) * 65_536
+        packed(TOO_LONG, 0)
     } else {
-        u64::from(number) * 65_536 + place as u64
+        packed(number, place)
     };
     let given = library_run(program);
     if given != expected {
@@ -157,6 +149,8 @@ fn step_refused(
     true
 }
 
+const WIDE_CALLS: usize = 200;
+
 /// Slices at whose lengths a narrower number would wrap, and the lists like them.
 fn wide_slices(random: &mut Random, panel: &mut Panel) {
     for _ in 0..WIDE_CALLS {
@@ -175,6 +169,9 @@ fn wide_slices(random: &mut Random, panel: &mut Panel) {
 }
 
 // Every value of every field.
+
+/// So many changes in turn are made to one state.
+const BASE_EVERY: usize = 20;
 
 /// Each change made alone to a state in range, then a step and a list.
 fn sweep(random: &mut Random, panel: &mut Panel) {
@@ -233,17 +230,22 @@ fn made(
 
 // Random states, several values changed, random bytes.
 
+const RANDOM_STATES: usize = 10_000;
+const STEPS_EACH: usize = 4;
+
 /// States in range, each stepped a few times.
 fn random_states(random: &mut Random, panel: &mut Panel) {
-    for _ in 0..RANDOM_STATES / 4 {
+    for _ in 0..RANDOM_STATES {
         let mut state = random_state(random);
         panel.lend_state(&state);
-        for _ in 0..4 {
+        for _ in 0..STEPS_EACH {
             let bytes = any_bytes(random, &state.state());
             panel.step(Source::Made, &mut state, &bytes, "random states");
         }
     }
 }
+
+const SEVERAL_STATES: usize = 20_000;
 
 fn several_values(random: &mut Random, panel: &mut Panel) {
     for _ in 0..SEVERAL_STATES {
@@ -268,6 +270,8 @@ fn several_values(random: &mut Random, panel: &mut Panel) {
 }
 
 // Lists.
+
+const LISTED_STATES: usize = 4_000;
 
 /// Every length of list, for states that are reached, random, or foul by one value.
 fn lists(random: &mut Random, panel: &mut Panel) {

@@ -66,14 +66,6 @@ pub fn unknown(random: &mut Random) -> Vec<u8> {
     bytes
 }
 
-/// Up to seven bytes more, many of them kinds.
-pub fn add_bytes(random: &mut Random, bytes: &mut Vec<u8>) {
-    for _ in 0..random.below(8) {
-        let byte = random.byte();
-        bytes.push(if random.percent(50) { byte % 12 } else { byte });
-    }
-}
-
 /// Bytes for a step on a state in range: whole records, broken ones, none.
 pub fn any_bytes(random: &mut Random, state: &State) -> Vec<u8> {
     let record = whole(random, state);

@@ -20,6 +20,7 @@ fn piece(name: &'static str, program: Vec<u8>, number: u8, place: usize) -> Piec
     }
 }
 
+/// A record at a front needle with carrier 3.
 fn front(kind: u8, direction: u8, needle: u8) -> [u8; 5] {
     [kind, direction, 0, needle, 3]
 }
@@ -43,6 +44,15 @@ fn float(last: u8) -> Vec<u8> {
     program
 }
 
+/// Piece 9's in and out, and the whole of it.
+fn in_out() -> Vec<u8> {
+    [front(IN, 1, 10), front(OUT, 0, 10)].concat()
+}
+
+fn in_out_in() -> Vec<u8> {
+    [in_out(), front(IN, 1, 50).to_vec()].concat()
+}
+
 /// Piece 8's program P.
 pub fn program_p() -> Vec<u8> {
     vec![
@@ -51,8 +61,6 @@ pub fn program_p() -> Vec<u8> {
 }
 
 pub fn pieces() -> Vec<Piece> {
-    let in_out = [front(IN, 1, 10), front(OUT, 0, 10)].concat();
-    let in_out_in = [front(IN, 1, 10), front(OUT, 0, 10), front(IN, 1, 50)].concat();
     vec![
         piece("1", vec![], DONE, 0),
         piece("2, rack 08", vec![1, 0x08], DONE, 0),
@@ -74,8 +82,8 @@ pub fn pieces() -> Vec<Piece> {
         piece("7, f.30", float(30), DONE, 0),
         piece("7, f.31", float(31), FLOAT_TOO_LONG, 110),
         piece("8, P", program_p(), DONE, 0),
-        piece("9", in_out_in, DONE, 0),
-        piece("9, first two", in_out, DONE, 0),
+        piece("9", in_out_in(), DONE, 0),
+        piece("9, first two", in_out(), DONE, 0),
         piece("12, kind 00", vec![0], UNKNOWN_KIND, 0),
         piece("12, bytes 08 01", vec![8, 1], CUT_SHORT, 0),
     ]
@@ -99,8 +107,7 @@ pub fn states_agree() -> bool {
     listed.carriers[2] = parked(Bed::Front);
     listed.carriers[3] = parked(Bed::Back);
     let p = run(&program_p());
-    let in_out = run(&[front(IN, 1, 10), front(OUT, 0, 10)].concat());
-    p.state == listed && !p.complete() && in_out.complete() && run(&[]).complete()
+    p.state == listed && !p.complete() && run(&in_out()).complete() && run(&[]).complete()
 }
 
 // The rewriter's pieces.
@@ -150,7 +157,7 @@ fn tie_pieces() -> Vec<SwapPiece> {
     let mut five = p.clone();
     five[4] = 5;
     five[14] = 5;
-    let nine = [front(IN, 1, 10), front(OUT, 0, 10), front(IN, 1, 50)].concat();
+    let nine = in_out_in();
     let (apart, opposite) = (tuck_and_xfer(11), tuck_and_xfer(10));
     let swapped = [&apart[..5], &apart[10..], &apart[5..10]].concat();
     let (one, two) = ([SWAP, 0, 1], [SWAP, 0, 2]);

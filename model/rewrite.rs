@@ -191,14 +191,6 @@ impl<'a> Order<'a> {
 
 // The call.
 
-fn nothing_run(number: u8) -> Answer {
-    Answer {
-        number,
-        place: 0,
-        state: State::empty(),
-    }
-}
-
 pub fn rewrite_watched(
     program: &[u8],
     log: &[u8],
@@ -207,10 +199,10 @@ pub fn rewrite_watched(
     watch: impl FnMut(&Order, &[u8], u8),
 ) -> Answer {
     if program.len() > PROGRAM_LIMIT || log.len() > LOG_LIMIT {
-        return nothing_run(TOO_LONG);
+        return Answer::not_run(TOO_LONG);
     }
     if output.len() < program.len() || work.len() < program.len() / 2 {
-        return nothing_run(NO_BENCH);
+        return Answer::not_run(NO_BENCH);
     }
     let answer = run(program);
     if answer.number != DONE {

@@ -108,9 +108,7 @@ pub fn pair(random: &mut Random, racking: i32, places: [(Actor, i32); 2]) -> Opt
 
 fn shuffled_carriers(random: &mut Random) -> Vec<usize> {
     let mut carriers: Vec<usize> = (0..CARRIERS).collect();
-    for place in (1..CARRIERS).rev() {
-        carriers.swap(place, random.below(place + 1));
-    }
+    random.shuffle(&mut carriers);
     carriers
 }
 
