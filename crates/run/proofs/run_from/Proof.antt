@@ -12,7 +12,7 @@ use Rattle.record.proofs.Ranges.{InRange}
 use Rattle.run.specs.Step.{numberAt}
 use Rattle.run.specs.Run.{reached, runFrom}
 use Rattle.run.proofs.Turns.{Turn, ended, turned, refused, in-range, sized, stopped, goes}
-use Rattle.run.proofs.Arms.{Made, nine, carrier-at, transfer-kept, tuck-kept, unmoved, rack-made, drop-made, xfer-stopped, xfer-made, in-stopped, in-made, out-stopped, out-made}
+use Rattle.run.proofs.Arms.{Made, nine, transfer-kept, tuck-kept, unmoved, rack-made, drop-made, xfer-stopped, xfer-made, in-stopped, in-made, out-stopped, out-made}
 use Rattle.run.proofs.Arms.{miss-stopped, miss-made, tuck-unready, tuck-stopped, tuck-done, knit-stopped, knit-made, split-unready, split-stopped, split-made}
 use Rattle.run.proofs.run_from.Statement.{statement}
 use Rattle.run.proofs.run_from.Tie as tie
@@ -63,9 +63,35 @@ module _ (b : tie.Else1 Inv-loop μ-loop) where
   less : length p - (place + d .size) < length p - place
   less = omega (arith, size .0, size .1, b .before .before .before .before .loop-test .taken)
 
-  -- the carrier of a kind that has one
-  ten : {k : ℕ} → x .kind ≡ k → 4 ≤ k → (1 ≤ x .carrier) × (x .carrier ≤ 10)
-  ten e h = carrier-at known (omega (arith, e))
+  -- the carrier of a kind that has one is one of the ten
+  abbrev Carried : Type 0
+  Carried = (1 ≤ x .carrier) × (x .carrier ≤ 10)
+
+  carried : {k : ℕ} → x .kind ≡ k → 4 ≤ k → Carried
+  carried e h = (known .carrier-low (omega (arith, e)), known .carrier-high)
+
+in-carrier : (m : tie.At-match-keys4 Inv-loop μ-loop) → Carried (m .before .before .before .before .before)
+in-carrier m = carried (m .before .before .before .before .before) (m .match .keys4) (omega arith)
+
+out-carrier : (m : tie.At-match-keys5 Inv-loop μ-loop) → Carried (m .before .before .before .before .before)
+out-carrier m = carried (m .before .before .before .before .before) (m .match .keys5) (omega arith)
+
+miss-carrier : (m : tie.At-match-keys6 Inv-loop μ-loop) → Carried (m .before .before .before .before .before)
+miss-carrier m = carried (m .before .before .before .before .before) (m .match .keys6) (omega arith)
+
+tuck-carrier : (m : tie.At-match-keys7 Inv-loop μ-loop) → Carried (m .before .before .before .before .before)
+tuck-carrier m = carried (m .before .before .before .before .before) (m .match .keys7) (omega arith)
+
+knit-carrier : (m : tie.At-match-keys8 Inv-loop μ-loop) → Carried (m .before .before .before .before .before)
+knit-carrier m = carried (m .before .before .before .before .before) (m .match .keys8) (omega arith)
+
+-- the last arm is split's
+split-kind : (m : tie.At-match-rest Inv-loop μ-loop) → x (m .before .before .before .before .before) .kind ≡ 9
+split-kind m = let no = m .match .rest in
+    nine (known (m .before .before .before .before .before)) (no .0 .0 .0 .0 .0 .0 .0 .1) (no .0 .0 .0 .0 .0 .0 .1) (no .0 .0 .0 .0 .0 .1) (no .0 .0 .0 .0 .1) (no .0 .0 .0 .1) (no .0 .0 .1) (no .0 .1) (no .1)
+
+split-carrier : (m : tie.At-match-rest Inv-loop μ-loop) → Carried (m .before .before .before .before .before)
+split-carrier m = carried (m .before .before .before .before .before) (split-kind m) (omega arith)
 
 loop-holds : tie.Need-loop-holds Inv-loop μ-loop
 loop-holds c = (search needs, refl)
@@ -114,13 +140,13 @@ cast-k : tie.Need-cast-k Inv-loop μ-loop
 cast-k c = search needs
 
 sub-k : tie.Need-sub-k Inv-loop μ-loop
-sub-k c = let b = c .before .before .before .before .before .before in let e = c .before .match .keys4 in let w = ten b e (omega arith) in omega (arith, w .0, w .1)
+sub-k c = omega (arith, in-carrier (c .before))
 
 mul-c : tie.Need-mul-c Inv-loop μ-loop
-mul-c c = let b = c .before .before .before .before .before .before in let e = c .before .match .keys4 in let w = ten b e (omega arith) in omega (arith, w .0, w .1)
+mul-c c = omega (arith, in-carrier (c .before))
 
 element-copy-out-c : tie.Need-element-copy-out-c Inv-loop μ-loop
-element-copy-out-c c = let b = c .before .before .before .before .before .before in let e = c .before .match .keys4 in let w = ten b e (omega arith) in omega (arith, w .0, w .1)
+element-copy-out-c c = omega (arith, in-carrier (c .before))
 
 asked-requires : tie.Need-asked-requires Inv-loop μ-loop
 asked-requires c κs = let b = c .before .before .before .before .before .before .before in (omega arith, known b .at-bed)
@@ -136,22 +162,22 @@ enter-requires : tie.Need-enter-requires Inv-loop μ-loop
 enter-requires c κs = known (c .before .before .before .before .before .before .before .before .before) .at-bed
 
 mul-then : tie.Need-mul-then Inv-loop μ-loop
-mul-then c = let b = c .before .before .before .before .before .before .before .before .before .before in let e = c .before .before .before .before .before .match .keys4 in let w = ten b e (omega arith) in omega (arith, w .0, w .1)
+mul-then c = omega (arith, in-carrier (c .before .before .before .before .before))
 
 element-set-from-then : tie.Need-element-set-from-then Inv-loop μ-loop
-element-set-from-then c = let b = c .before .before .before .before .before .before .before .before .before .before in let e = c .before .before .before .before .before .match .keys4 in let w = ten b e (omega arith) in omega (arith, w .0, w .1)
+element-set-from-then c = omega (arith, in-carrier (c .before .before .before .before .before))
 
 cast-k-2 : tie.Need-cast-k-2 Inv-loop μ-loop
 cast-k-2 c = search needs
 
 sub-k-2 : tie.Need-sub-k-2 Inv-loop μ-loop
-sub-k-2 c = let b = c .before .before .before .before .before .before in let e = c .before .match .keys5 in let w = ten b e (omega arith) in omega (arith, w .0, w .1)
+sub-k-2 c = omega (arith, out-carrier (c .before))
 
 mul-c-2 : tie.Need-mul-c-2 Inv-loop μ-loop
-mul-c-2 c = let b = c .before .before .before .before .before .before in let e = c .before .match .keys5 in let w = ten b e (omega arith) in omega (arith, w .0, w .1)
+mul-c-2 c = omega (arith, out-carrier (c .before))
 
 element-copy-out-c-2 : tie.Need-element-copy-out-c-2 Inv-loop μ-loop
-element-copy-out-c-2 c = let b = c .before .before .before .before .before .before in let e = c .before .match .keys5 in let w = ten b e (omega arith) in omega (arith, w .0, w .1)
+element-copy-out-c-2 c = omega (arith, out-carrier (c .before))
 
 asked-requires-2 : tie.Need-asked-requires-2 Inv-loop μ-loop
 asked-requires-2 c κs = let b = c .before .before .before .before .before .before .before in (omega arith, known b .at-bed)
@@ -167,22 +193,22 @@ inactive-requires : tie.Need-inactive-requires Inv-loop μ-loop
 inactive-requires c κs = search needs
 
 mul-then-2 : tie.Need-mul-then-2 Inv-loop μ-loop
-mul-then-2 c = let b = c .before .before .before .before .before .before .before .before .before .before in let e = c .before .before .before .before .before .match .keys5 in let w = ten b e (omega arith) in omega (arith, w .0, w .1)
+mul-then-2 c = omega (arith, out-carrier (c .before .before .before .before .before))
 
 element-set-from-then-2 : tie.Need-element-set-from-then-2 Inv-loop μ-loop
-element-set-from-then-2 c = let b = c .before .before .before .before .before .before .before .before .before .before in let e = c .before .before .before .before .before .match .keys5 in let w = ten b e (omega arith) in omega (arith, w .0, w .1)
+element-set-from-then-2 c = omega (arith, out-carrier (c .before .before .before .before .before))
 
 cast-k-3 : tie.Need-cast-k-3 Inv-loop μ-loop
 cast-k-3 c = search needs
 
 sub-k-3 : tie.Need-sub-k-3 Inv-loop μ-loop
-sub-k-3 c = let b = c .before .before .before .before .before .before in let e = c .before .match .keys6 in let w = ten b e (omega arith) in omega (arith, w .0, w .1)
+sub-k-3 c = omega (arith, miss-carrier (c .before))
 
 mul-c-3 : tie.Need-mul-c-3 Inv-loop μ-loop
-mul-c-3 c = let b = c .before .before .before .before .before .before in let e = c .before .match .keys6 in let w = ten b e (omega arith) in omega (arith, w .0, w .1)
+mul-c-3 c = omega (arith, miss-carrier (c .before))
 
 element-copy-out-c-3 : tie.Need-element-copy-out-c-3 Inv-loop μ-loop
-element-copy-out-c-3 c = let b = c .before .before .before .before .before .before in let e = c .before .match .keys6 in let w = ten b e (omega arith) in omega (arith, w .0, w .1)
+element-copy-out-c-3 c = omega (arith, miss-carrier (c .before))
 
 asked-requires-3 : tie.Need-asked-requires-3 Inv-loop μ-loop
 asked-requires-3 c κs = let b = c .before .before .before .before .before .before .before in (omega arith, known b .at-bed)
@@ -198,22 +224,22 @@ pass-requires : tie.Need-pass-requires Inv-loop μ-loop
 pass-requires c κs = known (c .before .before .before .before .before .before .before .before .before) .at-bed
 
 mul-then-3 : tie.Need-mul-then-3 Inv-loop μ-loop
-mul-then-3 c = let b = c .before .before .before .before .before .before .before .before .before .before in let e = c .before .before .before .before .before .match .keys6 in let w = ten b e (omega arith) in omega (arith, w .0, w .1)
+mul-then-3 c = omega (arith, miss-carrier (c .before .before .before .before .before))
 
 element-set-from-then-3 : tie.Need-element-set-from-then-3 Inv-loop μ-loop
-element-set-from-then-3 c = let b = c .before .before .before .before .before .before .before .before .before .before in let e = c .before .before .before .before .before .match .keys6 in let w = ten b e (omega arith) in omega (arith, w .0, w .1)
+element-set-from-then-3 c = omega (arith, miss-carrier (c .before .before .before .before .before))
 
 cast-k-4 : tie.Need-cast-k-4 Inv-loop μ-loop
 cast-k-4 c = search needs
 
 sub-k-4 : tie.Need-sub-k-4 Inv-loop μ-loop
-sub-k-4 c = let b = c .before .before .before .before .before .before in let e = c .before .match .keys7 in let w = ten b e (omega arith) in omega (arith, w .0, w .1)
+sub-k-4 c = omega (arith, tuck-carrier (c .before))
 
 mul-c-4 : tie.Need-mul-c-4 Inv-loop μ-loop
-mul-c-4 c = let b = c .before .before .before .before .before .before in let e = c .before .match .keys7 in let w = ten b e (omega arith) in omega (arith, w .0, w .1)
+mul-c-4 c = omega (arith, tuck-carrier (c .before))
 
 element-copy-out-c-4 : tie.Need-element-copy-out-c-4 Inv-loop μ-loop
-element-copy-out-c-4 c = let b = c .before .before .before .before .before .before in let e = c .before .match .keys7 in let w = ten b e (omega arith) in omega (arith, w .0, w .1)
+element-copy-out-c-4 c = omega (arith, tuck-carrier (c .before))
 
 asked-requires-4 : tie.Need-asked-requires-4 Inv-loop μ-loop
 asked-requires-4 c κs = let b = c .before .before .before .before .before .before .before in (omega arith, known b .at-bed)
@@ -239,22 +265,22 @@ attach-requires : tie.Need-attach-requires Inv-loop μ-loop
 attach-requires c κs = known (c .before .before .before .before .before .before .before .before .before .before .before .before) .at-bed
 
 mul-then-4 : tie.Need-mul-then-4 Inv-loop μ-loop
-mul-then-4 c = let b = c .before .before .before .before .before .before .before .before .before .before .before .before .before in let e = c .before .before .before .before .before .before .before .before .match .keys7 in let w = ten b e (omega arith) in omega (arith, w .0, w .1)
+mul-then-4 c = omega (arith, tuck-carrier (c .before .before .before .before .before .before .before .before))
 
 element-set-from-then-4 : tie.Need-element-set-from-then-4 Inv-loop μ-loop
-element-set-from-then-4 c = let b = c .before .before .before .before .before .before .before .before .before .before .before .before .before in let e = c .before .before .before .before .before .before .before .before .match .keys7 in let w = ten b e (omega arith) in omega (arith, w .0, w .1)
+element-set-from-then-4 c = omega (arith, tuck-carrier (c .before .before .before .before .before .before .before .before))
 
 cast-k-5 : tie.Need-cast-k-5 Inv-loop μ-loop
 cast-k-5 c = search needs
 
 sub-k-5 : tie.Need-sub-k-5 Inv-loop μ-loop
-sub-k-5 c = let b = c .before .before .before .before .before .before in let e = c .before .match .keys8 in let w = ten b e (omega arith) in omega (arith, w .0, w .1)
+sub-k-5 c = omega (arith, knit-carrier (c .before))
 
 mul-c-5 : tie.Need-mul-c-5 Inv-loop μ-loop
-mul-c-5 c = let b = c .before .before .before .before .before .before in let e = c .before .match .keys8 in let w = ten b e (omega arith) in omega (arith, w .0, w .1)
+mul-c-5 c = omega (arith, knit-carrier (c .before))
 
 element-copy-out-c-5 : tie.Need-element-copy-out-c-5 Inv-loop μ-loop
-element-copy-out-c-5 c = let b = c .before .before .before .before .before .before in let e = c .before .match .keys8 in let w = ten b e (omega arith) in omega (arith, w .0, w .1)
+element-copy-out-c-5 c = omega (arith, knit-carrier (c .before))
 
 asked-requires-5 : tie.Need-asked-requires-5 Inv-loop μ-loop
 asked-requires-5 c κs = let b = c .before .before .before .before .before .before .before in (omega arith, known b .at-bed)
@@ -273,22 +299,22 @@ attach-requires-2 : tie.Need-attach-requires-2 Inv-loop μ-loop
 attach-requires-2 c κs = known (c .before .before .before .before .before .before .before .before .before .before .before) .at-bed
 
 mul-then-5 : tie.Need-mul-then-5 Inv-loop μ-loop
-mul-then-5 c = let b = c .before .before .before .before .before .before .before .before .before .before .before .before in let e = c .before .before .before .before .before .before .before .match .keys8 in let w = ten b e (omega arith) in omega (arith, w .0, w .1)
+mul-then-5 c = omega (arith, knit-carrier (c .before .before .before .before .before .before .before))
 
 element-set-from-then-5 : tie.Need-element-set-from-then-5 Inv-loop μ-loop
-element-set-from-then-5 c = let b = c .before .before .before .before .before .before .before .before .before .before .before .before in let e = c .before .before .before .before .before .before .before .match .keys8 in let w = ten b e (omega arith) in omega (arith, w .0, w .1)
+element-set-from-then-5 c = omega (arith, knit-carrier (c .before .before .before .before .before .before .before))
 
 cast-k-6 : tie.Need-cast-k-6 Inv-loop μ-loop
 cast-k-6 c = search needs
 
 sub-k-6 : tie.Need-sub-k-6 Inv-loop μ-loop
-sub-k-6 c = let b = c .before .before .before .before .before .before .before in let no = c .before .before .match .rest in let e = nine (known b) (no .0 .0 .0 .0 .0 .0 .0 .1) (no .0 .0 .0 .0 .0 .0 .1) (no .0 .0 .0 .0 .0 .1) (no .0 .0 .0 .0 .1) (no .0 .0 .0 .1) (no .0 .0 .1) (no .0 .1) (no .1) in let w = ten b e (omega arith) in omega (arith, w .0, w .1)
+sub-k-6 c = omega (arith, split-carrier (c .before .before))
 
 mul-c-6 : tie.Need-mul-c-6 Inv-loop μ-loop
-mul-c-6 c = let b = c .before .before .before .before .before .before .before in let no = c .before .before .match .rest in let e = nine (known b) (no .0 .0 .0 .0 .0 .0 .0 .1) (no .0 .0 .0 .0 .0 .0 .1) (no .0 .0 .0 .0 .0 .1) (no .0 .0 .0 .0 .1) (no .0 .0 .0 .1) (no .0 .0 .1) (no .0 .1) (no .1) in let w = ten b e (omega arith) in omega (arith, w .0, w .1)
+mul-c-6 c = omega (arith, split-carrier (c .before .before))
 
 element-copy-out-c-6 : tie.Need-element-copy-out-c-6 Inv-loop μ-loop
-element-copy-out-c-6 c = let b = c .before .before .before .before .before .before .before in let no = c .before .before .match .rest in let e = nine (known b) (no .0 .0 .0 .0 .0 .0 .0 .1) (no .0 .0 .0 .0 .0 .0 .1) (no .0 .0 .0 .0 .0 .1) (no .0 .0 .0 .0 .1) (no .0 .0 .0 .1) (no .0 .0 .1) (no .0 .1) (no .1) in let w = ten b e (omega arith) in omega (arith, w .0, w .1)
+element-copy-out-c-6 c = omega (arith, split-carrier (c .before .before))
 
 asked-requires-6 : tie.Need-asked-requires-6 Inv-loop μ-loop
 asked-requires-6 c κs = let b = c .before .before .before .before .before .before .before .before in (omega arith, known b .at-bed)
@@ -297,7 +323,7 @@ stop-requires-9 : tie.Need-stop-requires-9 Inv-loop μ-loop
 stop-requires-9 c κs = search needs
 
 returns-9 : tie.Need-returns-9 Inv-loop μ-loop
-returns-9 c = let b = c .before .before .before .before .before .before .before .before .before .before .before in let no = c .before .before .before .before .before .before .match .rest in let e = nine (known b) (no .0 .0 .0 .0 .0 .0 .0 .1) (no .0 .0 .0 .0 .0 .0 .1) (no .0 .0 .0 .0 .0 .1) (no .0 .0 .0 .0 .1) (no .0 .0 .0 .1) (no .0 .0 .1) (no .0 .1) (no .1) in
+returns-9 c = let b = c .before .before .before .before .before .before .before .before .before .before .before in let e = split-kind (c .before .before .before .before .before .before) in
     c .stop9 .ensures ∙ halt b (split-unready (s b) (x b) e _ (c .before .before .asked6 .ensures) (c .before .if10 .taken)) (c .before .if10 .taken)
 
 transfer-requires-2 : tie.Need-transfer-requires-2 Inv-loop μ-loop
@@ -307,7 +333,7 @@ stop-requires-10 : tie.Need-stop-requires-10 Inv-loop μ-loop
 stop-requires-10 c κs = search needs
 
 returns-10 : tie.Need-returns-10 Inv-loop μ-loop
-returns-10 c = let b = c .before .before .before .before .before .before .before .before .before .before .before .before .before .before in let no = c .before .before .before .before .before .before .before .before .before .match .rest in let e = nine (known b) (no .0 .0 .0 .0 .0 .0 .0 .1) (no .0 .0 .0 .0 .0 .0 .1) (no .0 .0 .0 .0 .0 .1) (no .0 .0 .0 .0 .1) (no .0 .0 .0 .1) (no .0 .0 .1) (no .0 .1) (no .1) in
+returns-10 c = let b = c .before .before .before .before .before .before .before .before .before .before .before .before .before .before in let e = split-kind (c .before .before .before .before .before .before .before .before .before) in
     c .stop10 .ensures ∙ simp (c .before .before .transfer2 .ensures .1, transfer-kept (s b .loops) (x b .at) (x b .to) (s b .racking) 1 _ (c .before .before .transfer2 .ensures .0) (c .before .if11 .taken)) (halt b (split-stopped (s b) (x b) e _ (c .before .before .before .before .before .asked6 .ensures) (c .before .before .before .before .if10 .left) _ (c .before .before .transfer2 .ensures .0)) (c .before .if11 .taken))
 
 attach-requires-3 : tie.Need-attach-requires-3 Inv-loop μ-loop
@@ -320,16 +346,16 @@ attachments-moved-requires-2 : tie.Need-attachments-moved-requires-2 Inv-loop μ
 attachments-moved-requires-2 c κs = search needs
 
 mul-ds : tie.Need-mul-ds Inv-loop μ-loop
-mul-ds c = let b = c .before .before .before .before .before .before .before .before .before .before .before .before .before .before .before .before .before .before in let no = c .before .before .before .before .before .before .before .before .before .before .before .before .before .match .rest in let e = nine (known b) (no .0 .0 .0 .0 .0 .0 .0 .1) (no .0 .0 .0 .0 .0 .0 .1) (no .0 .0 .0 .0 .0 .1) (no .0 .0 .0 .0 .1) (no .0 .0 .0 .1) (no .0 .0 .1) (no .0 .1) (no .1) in let w = ten b e (omega arith) in omega (arith, w .0, w .1)
+mul-ds c = omega (arith, split-carrier (c .before .before .before .before .before .before .before .before .before .before .before .before .before))
 
 array-set-from-ds : tie.Need-array-set-from-ds Inv-loop μ-loop
-array-set-from-ds c = let b = c .before .before .before .before .before .before .before .before .before .before .before .before .before .before .before .before .before .before in let no = c .before .before .before .before .before .before .before .before .before .before .before .before .before .match .rest in let e = nine (known b) (no .0 .0 .0 .0 .0 .0 .0 .1) (no .0 .0 .0 .0 .0 .0 .1) (no .0 .0 .0 .0 .0 .1) (no .0 .0 .0 .0 .1) (no .0 .0 .0 .1) (no .0 .0 .1) (no .0 .1) (no .1) in let w = ten b e (omega arith) in omega (arith, w .0, w .1)
+array-set-from-ds c = omega (arith, split-carrier (c .before .before .before .before .before .before .before .before .before .before .before .before .before))
 
 mul-then-6 : tie.Need-mul-then-6 Inv-loop μ-loop
-mul-then-6 c = let b = c .before .before .before .before .before .before .before .before .before .before .before .before .before .before .before .before .before in let no = c .before .before .before .before .before .before .before .before .before .before .before .before .match .rest in let e = nine (known b) (no .0 .0 .0 .0 .0 .0 .0 .1) (no .0 .0 .0 .0 .0 .0 .1) (no .0 .0 .0 .0 .0 .1) (no .0 .0 .0 .0 .1) (no .0 .0 .0 .1) (no .0 .0 .1) (no .0 .1) (no .1) in let w = ten b e (omega arith) in omega (arith, w .0, w .1)
+mul-then-6 c = omega (arith, split-carrier (c .before .before .before .before .before .before .before .before .before .before .before .before))
 
 element-set-from-then-6 : tie.Need-element-set-from-then-6 Inv-loop μ-loop
-element-set-from-then-6 c = let b = c .before .before .before .before .before .before .before .before .before .before .before .before .before .before .before .before .before in let no = c .before .before .before .before .before .before .before .before .before .before .before .before .match .rest in let e = nine (known b) (no .0 .0 .0 .0 .0 .0 .0 .1) (no .0 .0 .0 .0 .0 .0 .1) (no .0 .0 .0 .0 .0 .1) (no .0 .0 .0 .0 .1) (no .0 .0 .0 .1) (no .0 .0 .1) (no .0 .1) (no .1) in let w = ten b e (omega arith) in omega (arith, w .0, w .1)
+element-set-from-then-6 c = omega (arith, split-carrier (c .before .before .before .before .before .before .before .before .before .before .before .before))
 
 loop-less : tie.Need-loop-less Inv-loop μ-loop
 loop-less c = less (c .before .before .before .before .before .before)
@@ -398,14 +424,14 @@ loop-less-10 : tie.Need-loop-less-10 Inv-loop μ-loop
 loop-less-10 c = less (c .before .before .before .before .before .before .before .before .before .before .before .before .before .before .before .before .before .before)
 
 loop-again-10 : tie.Need-loop-again-10 Inv-loop μ-loop
-loop-again-10 c = let b = c .before .before .before .before .before .before .before .before .before .before .before .before .before .before .before .before .before .before in let no = c .before .before .before .before .before .before .before .before .before .before .before .before .before .match .rest in let e = nine (known b) (no .0 .0 .0 .0 .0 .0 .0 .1) (no .0 .0 .0 .0 .0 .0 .1) (no .0 .0 .0 .0 .0 .1) (no .0 .0 .0 .0 .1) (no .0 .0 .0 .1) (no .0 .0 .1) (no .0 .1) (no .1) in
+loop-again-10 c = let b = c .before .before .before .before .before .before .before .before .before .before .before .before .before .before .before .before .before .before in let e = split-kind (c .before .before .before .before .before .before .before .before .before .before .before .before .before) in
     on b (split-made (s b) (x b) e _ (c .before .before .before .before .before .before .before .before .before .asked6 .ensures) (c .before .before .before .before .before .before .before .before .if10 .left) _ (c .before .before .before .before .before .before .transfer2 .ensures .0) (c .before .before .before .before .before .if11 .left) _ (c .before .before .before .before .attach3 .ensures) _ _ (c .before .before .before .before .before .before .transfer2 .ensures .1) (c .attachments-moved2 .ensures))
 
 loop-less-11 : tie.Need-loop-less-11 Inv-loop μ-loop
 loop-less-11 c = less (c .before .before .before .before .before .before .before .before .before .before .before .before .before .before .before .before .before)
 
 loop-again-11 : tie.Need-loop-again-11 Inv-loop μ-loop
-loop-again-11 c = let b = c .before .before .before .before .before .before .before .before .before .before .before .before .before .before .before .before .before in let no = c .before .before .before .before .before .before .before .before .before .before .before .before .match .rest in let e = nine (known b) (no .0 .0 .0 .0 .0 .0 .0 .1) (no .0 .0 .0 .0 .0 .0 .1) (no .0 .0 .0 .0 .0 .1) (no .0 .0 .0 .0 .1) (no .0 .0 .0 .1) (no .0 .0 .1) (no .0 .1) (no .1) in
+loop-again-11 c = let b = c .before .before .before .before .before .before .before .before .before .before .before .before .before .before .before .before .before in let e = split-kind (c .before .before .before .before .before .before .before .before .before .before .before .before) in
     on b (split-made (s b) (x b) e _ (c .before .before .before .before .before .before .before .before .asked6 .ensures) (c .before .before .before .before .before .before .before .if10 .left) _ (c .before .before .before .before .before .transfer2 .ensures .0) (c .before .before .before .before .if11 .left) _ (c .before .before .before .attach3 .ensures) _ _ (c .before .before .before .before .before .transfer2 .ensures .1) (unmoved (x b .at) (x b .to) (s b .carriers) (sym (c .before .any-beside2 .ensures) ∙ c .if12 .left)))
 
 stop-requires-11 : tie.Need-stop-requires-11 Inv-loop μ-loop
