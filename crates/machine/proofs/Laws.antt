@@ -1,8 +1,8 @@
--- Laws of the machine's definitions: how far columns reach, and the empty state. Assumes nothing.
+-- Laws of the machine's definitions: columns and slots as code reads them back, walks along a list, attachments, the empty state, the most loops. Assumes nothing.
 use borrow.Table.Steps.{cases}
 use Prim.Native.Nat.{ℕ, _+_, _<_, _≤_}
 use mathlib.Core.Path.{_≡_, refl, sym, ap, subst, _∙_}
-use mathlib.Core.Bool.{Bool, true, false, _&&_, not, cond}
+use mathlib.Core.Bool.{Bool, true, false, _&&_, not, cond, and-true, and-false, and-assoc, false≢true}
 use mathlib.Core.List.{List, [], _∷_, map}
 use native.Mathlib.Omega.{arith}
 use lib.IntN.{ℤ, pos, negsuc, _+ℤ_, _-ℤ_}
@@ -23,7 +23,7 @@ use mir.Facts.{toZ-ofZ}
 use Rattle.machine.specs.Geometry.{columnOf, eqZ}
 use Rattle.machine.specs.Machine.{OnBed, sameNeedle, all, attachedAt, movedTo, noLoops, allInactive, inactive, inactiveCarrier, emptyState, completeOf}
 use Rattle.machine.specs.Range.{slotOk}
-use Rattle.machine.proofs.Signed.{and-true, mag-sum, eqZ-true, back, fits, fits-sum, fits-difference, cast-back}
+use Rattle.machine.proofs.Signed.{mag-sum, eqZ-true, back, fits, fits-sum, fits-difference, cast-back}
 
 -- how far a column reaches
 pub column-reach : (n : Needle) (r : Racking) → mag (r .0) < 128 → mag (columnOf n r .0) ≤ n .1 + 129
@@ -34,16 +34,22 @@ column-reach n r k = go (eqb (n .0) 0)
     go true = omega arith
     go false = omega (arith, mag-sum (pos (n .1)) (r .0))
 
--- the slots beside a needle's column, as code reads them back from 32 and from 16 bits
-module _ (n : Needle) (r : Racking) (z : Column) (is : z ≡ columnOf n r) (b : OnBed n) (k : mag (r .0) < 128) where
+-- a column that code got of a needle on a bed
+pub record Got (n : Needle) (r : Racking) (z : Column) : Type 0 where
+  pub is : z ≡ columnOf n r
+  pub on-bed : OnBed n
+  pub racking : mag (r .0) < 128
+
+-- the slots beside it, as code reads them back from 32 and from 16 bits
+module _ {n : Needle} {r : Racking} {z : Column} (g : Got n r z) where
   reach : mag (z .0) < 400
-  reach = subst (λ (y : Column). mag (y .0) < 400) (sym is) (omega (arith, column-reach n r k))
+  reach = subst (λ (y : Column). mag (y .0) < 400) (sym (g .is)) (omega (arith, column-reach n r (g .racking), g .on-bed .number))
 
   pub here-fits : SFits w16 (toZ w32 (ofZ w32 (z .0)))
   here-fits = simp (back w32 (z .0) (omega (arith, reach))) (fits w16 (z .0) (omega (arith, reach)))
 
   pub slot-here : toZ w16 (ofZ w16 (toZ w32 (ofZ w32 (z .0)))) ≡ columnOf n r .0
-  slot-here = cast-back w32 w16 (z .0) (omega (arith, reach)) (omega (arith, reach)) ∙ ap (λ (y : Column). y .0) is
+  slot-here = cast-back w32 w16 (z .0) (omega (arith, reach)) (omega (arith, reach)) ∙ ap (λ (y : Column). y .0) (g .is)
 
   pub next-fits : SFits w32 (toZ w32 (ofZ w32 (z .0)) +ℤ pos 1)
   next-fits = simp (back w32 (z .0) (omega (arith, reach))) (fits-sum w32 (z .0) (pos 1) (omega (arith, reach)))
@@ -55,7 +61,7 @@ module _ (n : Needle) (r : Racking) (z : Column) (is : z ≡ columnOf n r) (b : 
   next-narrow = simp next-is (fits-sum w16 (z .0) (pos 1) (omega (arith, reach)))
 
   pub slot-next : toZ w16 (ofZ w16 (toZ w32 (ofZ w32 (toZ w32 (ofZ w32 (z .0)) +ℤ pos 1)))) ≡ columnOf n r .0 +ℤ pos 1
-  slot-next = toZ-ofZ next-narrow ∙ next-is ∙ ap (λ (y : Column). y .0 +ℤ pos 1) is
+  slot-next = toZ-ofZ next-narrow ∙ next-is ∙ ap (λ (y : Column). y .0 +ℤ pos 1) (g .is)
 
 -- the difference of two columns, each cast to 64 bits, as code reads it back
 abbrev pub wide : ℤ → ℤ
@@ -84,11 +90,7 @@ and-left false b e = e
 
 and-right : (a b : Bool) → (a && b) ≡ true → b ≡ true
 and-right true b e = e
-and-right false b e = absurd (subst (λ (t : Bool). cond t ⊥ ℕ) e 0)
-
-and-false : (t : Bool) → (t && false) ≡ false
-and-false true = refl
-and-false false = refl
+and-right false b e = absurd (false≢true e)
 
 -- a carrier that names no needle of the number
 still : (a b : Needle) (c : Carrier) → not (eqb (c .needle .1) (a .1)) ≡ true → movedTo a b c ≡ c
@@ -166,10 +168,6 @@ larger-leb : (b a v : ℕ) → leb (cond (ltb a v) v a) b ≡ (leb a b && leb v 
 larger-leb b a v =
     cases (ltb a v) (λ t. let h = ltb-true a v t in simp t (cases (leb v b) (λ u. let k = leb-true v b u in simp (u, le-leb a b (omega arith))) (λ u. simp (u, and-false (leb a b)))))
     (λ t. let h = ltb-false a v t in simp t (cases (leb a b) (λ u. let k = leb-true a b u in simp (u, le-leb v b (omega arith))) (λ u. simp u)))
-
-and-assoc : (a b d : Bool) → ((a && b) && d) ≡ (a && (b && d))
-and-assoc true b d = refl
-and-assoc false b d = refl
 
 -- a walk that keeps the largest number so far: one element more
 pub larger-next : (b most v m : ℕ) (rest : Bool) → m ≡ cond (ltb most v) v most → (leb most b && (leb v b && rest)) ≡ (leb m b && rest)

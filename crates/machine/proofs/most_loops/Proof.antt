@@ -3,13 +3,12 @@ use borrow.Author.Needs.{needs}
 use borrow.Author.Tests.{le-leb}
 use native.Mathlib.Omega.{arith}
 use mathlib.Core.Path.{_≡_, sym, ap, _∙_}
-use mathlib.Core.Bool.{Bool, _&&_}
+use mathlib.Core.Bool.{Bool, _&&_, and-true}
 use mathlib.Core.List.{List}
 use Prim.Native.Nat.{ℕ, _-_, _≤_}
 use lib.ListN.{length, drop, getD}
 use lib.Dec.{leb}
 use Rattle.machine.specs.Machine.{all}
-use Rattle.machine.proofs.Signed.{and-true}
 use Rattle.machine.proofs.Laws.{all-next, all-end, larger-next}
 use Rattle.machine.proofs.most_loops.Statement.{statement}
 use Rattle.machine.proofs.most_loops.Tie as tie
