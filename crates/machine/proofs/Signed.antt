@@ -154,23 +154,16 @@ module _ (w : Width) where
   fits-difference a b h = fits (a -ℤ b) (omega (arith, mag-difference a b))
 
   -- equal bits are equal numbers
-  pub eq-bits : (a b : ℤ) → SFits w a → SFits w b → eqb (ofZ w a) (ofZ w b) ≡ eqZ a b
-  eq-bits a b f g = go (eqb (ofZ w a) (ofZ w b)) refl
-    where
-      same : ofZ w a ≡ ofZ w b → a ≡ b
-      same e = sym (toZ-ofZ f) ∙ ap (toZ w) e ∙ toZ-ofZ g
+  module _ (a b : ℤ) (h : mag a < 2 ^ hbits w) (k : mag b < 2 ^ hbits w) where
+    pub is-bits : ofZ w a ≡ ofZ w b → eqZ a b ≡ true
+    is-bits e = eqZ-yes a b (sym (back a h) ∙ ap (toZ w) e ∙ back b k)
 
-      go : (t : Bool) → eqb (ofZ w a) (ofZ w b) ≡ t → t ≡ eqZ a b
-      go true e = sym (eqZ-yes a b (same (eqb-true (ofZ w a) (ofZ w b) e)))
-      go false e = sym (eqZ-no a b (λ q. eqb-false (ofZ w a) (ofZ w b) e (ap (ofZ w) q)))
+    pub not-bits : (ofZ w a ≡ ofZ w b → ⊥) → eqZ a b ≡ false
+    not-bits d = eqZ-no a b (λ e. d (ap (ofZ w) e))
 
-  -- a test of bits is a test of the number
-  pub is-bits : (a b : ℤ) → SFits w a → SFits w b → ofZ w a ≡ ofZ w b → eqZ a b ≡ true
-  is-bits a b f g e = sym (eq-bits a b f g) ∙ eq-eqb _ _ e
+    pub eq-bits : eqb (ofZ w a) (ofZ w b) ≡ eqZ a b
+    eq-bits = cases (eqb (ofZ w a) (ofZ w b)) (λ t. t ∙ sym (is-bits (eqb-true _ _ t))) (λ t. t ∙ sym (not-bits (eqb-false _ _ t)))
 
-  pub not-bits : (a b : ℤ) → SFits w a → SFits w b → (ofZ w a ≡ ofZ w b → ⊥) → eqZ a b ≡ false
-  not-bits a b f g e = sym (eq-bits a b f g) ∙ ne-eqb _ _ e
-
--- a value that was cast to a wider type and read back
+-- a value that was cast to another width and read back
 pub cast-back : (v w : Width) (z : ℤ) → mag z < 2 ^ hbits v → mag z < 2 ^ hbits w → toZ w (ofZ w (toZ v (ofZ v z))) ≡ z
 cast-back v w z h k = ap (λ (y : ℤ). toZ w (ofZ w y)) (back v z h) ∙ back w z k

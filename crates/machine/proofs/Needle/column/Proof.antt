@@ -44,13 +44,13 @@ cast-t6 c = let z = c .before .before .before .before .before .args .r .0 in let
     simp (back w8 z h) (fits w32 z (omega arith))
 
 add-t7 : tie.Need-add-t7
-add-t7 c = fitting (c .before .before .before .before .before .args .self .1) (c .before .before .before .before .before .args .r .0) (search needs) (c .struct-told .given .0 .1)
+add-t7 c = let a = c .before .before .before .before .before .args in fitting (a .self .1) (a .r .0) (search needs) (c .struct-told .given .0 .1)
 
 returns : tie.Need-returns
-returns c = front (c .before .before .before .args .self) (c .before .before .before .args .r) (search needs) (c .if1 .taken)
+returns c = let a = c .before .before .before .args in front (a .self) (a .r) (search needs) (c .if1 .taken)
 
 returns-2 : tie.Need-returns-2
-returns-2 c = rear (c .before .before .before .before .before .args .self) (c .before .before .before .before .before .args .r) (search needs) (c .struct-told .given .0 .1) (c .before .before .if1 .left)
+returns-2 c = let a = c .before .before .before .before .before .args in rear (a .self) (a .r) (search needs) (c .struct-told .given .0 .1) (c .before .before .if1 .left)
 
 pub column-spec : {M : Type 1} → statement M
 column-spec = tie.close (tie.spec cast-n cast-t6 add-t7 returns returns-2)
