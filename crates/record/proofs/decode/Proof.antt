@@ -6,7 +6,6 @@ use mathlib.Core.Path.{_≡_, sym, ap, _∙_}
 use mathlib.Core.List.{List}
 use native.Mathlib.Omega.{arith}
 use Prim.Native.Nat.{ℕ, _≤_, _<_}
-use lib.ListN.{length}
 use lib.Dec.{leb}
 use Rattle.record.specs.Format.{byte, refusedAs, readAt, decodeOf}
 use Rattle.record.proofs.decode.Statement.{statement}
