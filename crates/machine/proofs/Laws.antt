@@ -21,7 +21,7 @@ use mir.Syntax.{w16, w32, w64}
 use mir.Val.{SFits, toZ, ofZ}
 use mir.Facts.{toZ-ofZ}
 use Rattle.machine.specs.Geometry.{columnOf, eqZ}
-use Rattle.machine.specs.Machine.{OnBed, sameNeedle, all, attachedAt, movedTo, noLoops, allInactive, inactive, inactiveCarrier, emptyState, completeOf}
+use Rattle.machine.specs.Machine.{OnBed, sameNeedle, all, attachedAt, movedTo, noLoops, inactive, inactiveCarrier, emptyState, completeOf}
 use Rattle.machine.specs.Range.{slotOk}
 use Rattle.machine.proofs.Signed.{mag-sum, eqZ-true, back, fits, fits-sum, fits-difference, cast-back}
 
@@ -93,15 +93,18 @@ and-right true b e = e
 and-right false b e = absurd (false≢true e)
 
 -- a carrier that names no needle of the number
-still : (a b : Needle) (c : Carrier) → not (eqb (c .needle .1) (a .1)) ≡ true → movedTo a b c ≡ c
+abbrev pub other : Needle → Carrier → Bool
+other n c = not (eqb (c .needle .1) (n .1))
+
+still : (a b : Needle) (c : Carrier) → other a c ≡ true → movedTo a b c ≡ c
 unfolding movedTo attachedAt sameNeedle
 still a b c e = simp (not-true (eqb (c .needle .1) (a .1)) e, and-false (eqb (c .needle .0) (a .0)), and-false (not (eqb (c .side) 0)))
 
 -- where no carrier names it, nothing moves
-pub none-moved : (a b : Needle) (l : List Carrier) → all (λ (c : Carrier). not (eqb (c .needle .1) (a .1))) l ≡ true → map (movedTo a b) l ≡ l
+pub none-moved : (a b : Needle) (l : List Carrier) → all (other a) l ≡ true → map (movedTo a b) l ≡ l
 unfolding all
 none-moved a b [] e = refl
-none-moved a b (c ∷ l) e = cc (still a b c (and-left (not (eqb (c .needle .1) (a .1))) _ e), none-moved a b l (and-right (not (eqb (c .needle .1) (a .1))) _ e))
+none-moved a b (c ∷ l) e = cc (still a b c (and-left (other a c) _ e), none-moved a b l (and-right (other a c) _ e))
 
 all-one : {A : Type 0} (p : A → Bool) (a : A) → ((x : A) → p x ≡ true → x ≡ a) → (l : List A) → all p l ≡ true → l ≡ replicate (length l) a
 unfolding all
@@ -118,10 +121,10 @@ same-fields a b x y z p q r t u = cc
 pub inactive-is : (c : Carrier) → inactiveCarrier c ≡ true → c ≡ inactive
 unfolding inactiveCarrier
 inactive-is c e =
-    let (p, e1) = and-two (eqb (c .active) 0) (eqb (c .side) 0 && (eqZ (c .slot .0) (pos 0) && (eqb (c .needle .0) 0 && eqb (c .needle .1) 0))) e in
-    let (q, e2) = and-two (eqb (c .side) 0) (eqZ (c .slot .0) (pos 0) && (eqb (c .needle .0) 0 && eqb (c .needle .1) 0)) e1 in
-    let (r, e3) = and-two (eqZ (c .slot .0) (pos 0)) (eqb (c .needle .0) 0 && eqb (c .needle .1) 0) e2 in
-    let (t, u) = and-two (eqb (c .needle .0) 0) (eqb (c .needle .1) 0) e3 in
+    let (p, e1) = and-two (eqb (c .active) 0) _ e in
+    let (q, e2) = and-two (eqb (c .side) 0) _ e1 in
+    let (r, e3) = and-two (eqZ (c .slot .0) (pos 0)) _ e2 in
+    let (t, u) = and-two (eqb (c .needle .0) 0) _ e3 in
     same-fields (c .active) (c .side) (c .needle .0) (c .needle .1) (c .slot .0)
     (eqb-true (c .active) 0 p) (eqb-true (c .side) 0 q) (eqZ-true (c .slot .0) (pos 0) r) (eqb-true (c .needle .0) 0 t) (eqb-true (c .needle .1) 0 u)
 
@@ -134,8 +137,8 @@ same-parts z l k p q r = simp (p, q, r)
 pub complete-is-empty : (s : State) → length (s .loops) ≡ 500 → length (s .carriers) ≡ 10 → completeOf s ≡ true → s ≡ emptyState
 unfolding completeOf
 complete-is-empty s hl hc e =
-    let (r, e1) = and-two (eqZ (s .racking .0) (pos 0)) (noLoops (s .loops) && allInactive (s .carriers)) e in
-    let (l, k) = and-two (noLoops (s .loops)) (allInactive (s .carriers)) e1 in
+    let (r, e1) = and-two (eqZ (s .racking .0) (pos 0)) _ e in
+    let (l, k) = and-two (noLoops (s .loops)) _ e1 in
     same-parts (s .racking .0) (s .loops) (s .carriers) (eqZ-true (s .racking .0) (pos 0) r)
     (all-one (λ (n : ℕ). eqb n 0) 0 (λ n h. eqb-true n 0 h) (s .loops) l ∙ ap (λ (n : ℕ). replicate n 0) hl)
     (all-one inactiveCarrier inactive inactive-is (s .carriers) k ∙ ap (λ (n : ℕ). replicate n inactive) hc)

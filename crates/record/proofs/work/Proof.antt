@@ -2,7 +2,7 @@
 use borrow.Author.Needs.{needs}
 use native.Mathlib.Omega.{arith}
 use borrow.Author.Tests.{lt-ltb, le-ltb, not-true, not-false}
-use mathlib.Core.Path.{_≡_}
+use mathlib.Core.Path.{_≡_, _∙_}
 use Prim.Native.Nat.{_≤_}
 use lib.ListN.{length}
 use Rattle.record.specs.Format.{whole, ranged}
@@ -12,7 +12,7 @@ use Rattle.record.proofs.work.Tie as tie
 
 -- the record's length, and that so many bytes are there
 sized : (b : tie.After-size-of) → b .size-of .result ≡ 5
-sized b = work-size _ (b .before .before .pre .0) (b .before .before .pre .1) (b .size-of .ensures)
+sized b = let p = b .before .before .pre in b .size-of .ensures ∙ work-size _ (p .0) (p .1)
 
 long : (b : tie.Else1) → 5 ≤ length (b .before .before .before .args .l .now)
 long b = simp (sized (b .before)) at (b .if1 .left)
