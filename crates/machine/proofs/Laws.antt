@@ -155,10 +155,7 @@ slot-in (negsuc n) = sym (and-true (leb n 7))
 
 -- none: at most 0
 pub none-leb : (n : ℕ) → eqb n 0 ≡ leb n 0
-none-leb n = cases (eqb n 0) (λ e. simp (eqb-true n 0 e)) (λ e. e ∙ sym (lt-leb n 0 (positive n e)))
-  where
-    positive : (n : ℕ) → eqb n 0 ≡ false → 0 < n
-    positive n e = let h = eqb-false n 0 e in omega arith
+none-leb n = cases (eqb n 0) (λ e. simp (eqb-true n 0 e)) (λ e. e ∙ sym (lt-leb n 0 (omega (arith, eqb-false n 0 e))))
 
 -- no loop on any hook: none over 0
 pub none-over : (l : List ℕ) → all (λ (n : ℕ). eqb n 0) l ≡ all (λ (n : ℕ). leb n 0) l

@@ -49,14 +49,8 @@ difference a b = omega (arith, sum a (negℤ b), up-neg b, dn-neg b)
 -- equal numbers
 pub eq-of : (a b : ℤ) → up a + dn b ≡ up b + dn a → a ≡ b
 eq-of (pos a) (pos b) h = ap pos (omega arith)
-eq-of (pos a) (negsuc b) h = absurd (no h)
-  where
-    no : a + suc b ≡ 0 + 0 → ⊥
-    no h = omega arith
-eq-of (negsuc a) (pos b) h = absurd (no h)
-  where
-    no : 0 + 0 ≡ b + suc a → ⊥
-    no h = omega arith
+eq-of (pos a) (negsuc b) h = absurd (omega arith)
+eq-of (negsuc a) (pos b) h = absurd (omega arith)
 eq-of (negsuc a) (negsuc b) h = ap negsuc (omega arith)
 
 pub eqZ-yes : (a b : ℤ) → a ≡ b → eqZ a b ≡ true
