@@ -93,6 +93,7 @@ split-kind m = let no = m .match .rest in
 split-carrier : (m : tie.At-match-rest Inv-loop μ-loop) → Carried (m .before .before .before .before .before)
 split-carrier m = carried (m .before .before .before .before .before) (split-kind m) (omega arith)
 
+-- below, m is where an arm begins and b where its record has been decoded
 loop-holds : tie.Need-loop-holds Inv-loop μ-loop
 loop-holds c = (search needs, refl)
 
@@ -127,8 +128,8 @@ stop-requires-2 : tie.Need-stop-requires-2 Inv-loop μ-loop
 stop-requires-2 c κs = search needs
 
 returns-2 : tie.Need-returns-2 Inv-loop μ-loop
-returns-2 c = let b = c .before .before .before .before .before .before .before .before .before .before in let e = c .before .before .before .before .before .match .keys3 in
-    c .stop2 .ensures ∙ simp (c .before .before .transfer .ensures .1, transfer-kept (s b .loops) (x b .at) (x b .to) (s b .racking) 0 _ (c .before .before .transfer .ensures .0) (c .before .if2 .taken)) (halt b (xfer-stopped (s b) (x b) e _ (c .before .before .transfer .ensures .0)) (c .before .if2 .taken))
+returns-2 c = let m = c .before .before .before .before .before in let b = m .before .before .before .before .before in let e = m .match .keys3 in let told = c .before .before .transfer .ensures in
+    c .stop2 .ensures ∙ simp (told .1, transfer-kept (s b .loops) (x b .at) (x b .to) (s b .racking) 0 _ (told .0) (c .before .if2 .taken)) (halt b (xfer-stopped (s b) (x b) e _ (told .0)) (c .before .if2 .taken))
 
 any-beside-requires : tie.Need-any-beside-requires Inv-loop μ-loop
 any-beside-requires c κs = search needs
@@ -155,7 +156,7 @@ stop-requires-3 : tie.Need-stop-requires-3 Inv-loop μ-loop
 stop-requires-3 c κs = search needs
 
 returns-3 : tie.Need-returns-3 Inv-loop μ-loop
-returns-3 c = let b = c .before .before .before .before .before .before .before .before .before .before in let e = c .before .before .before .before .before .match .keys4 in
+returns-3 c = let m = c .before .before .before .before .before in let b = m .before .before .before .before .before in let e = m .match .keys4 in
     c .stop3 .ensures ∙ halt b (in-stopped (s b) (x b) _ e (c .before .before .asked .ensures)) (c .before .if4 .taken)
 
 enter-requires : tie.Need-enter-requires Inv-loop μ-loop
@@ -186,7 +187,7 @@ stop-requires-4 : tie.Need-stop-requires-4 Inv-loop μ-loop
 stop-requires-4 c κs = search needs
 
 returns-4 : tie.Need-returns-4 Inv-loop μ-loop
-returns-4 c = let b = c .before .before .before .before .before .before .before .before .before .before in let e = c .before .before .before .before .before .match .keys5 in
+returns-4 c = let m = c .before .before .before .before .before in let b = m .before .before .before .before .before in let e = m .match .keys5 in
     c .stop4 .ensures ∙ halt b (out-stopped (s b) (x b) _ e (c .before .before .asked2 .ensures)) (c .before .if5 .taken)
 
 inactive-requires : tie.Need-inactive-requires Inv-loop μ-loop
@@ -217,7 +218,7 @@ stop-requires-5 : tie.Need-stop-requires-5 Inv-loop μ-loop
 stop-requires-5 c κs = search needs
 
 returns-5 : tie.Need-returns-5 Inv-loop μ-loop
-returns-5 c = let b = c .before .before .before .before .before .before .before .before .before .before in let e = c .before .before .before .before .before .match .keys6 in
+returns-5 c = let m = c .before .before .before .before .before in let b = m .before .before .before .before .before in let e = m .match .keys6 in
     c .stop5 .ensures ∙ halt b (miss-stopped (s b) (x b) _ e (c .before .before .asked3 .ensures)) (c .before .if6 .taken)
 
 pass-requires : tie.Need-pass-requires Inv-loop μ-loop
@@ -248,7 +249,7 @@ stop-requires-6 : tie.Need-stop-requires-6 Inv-loop μ-loop
 stop-requires-6 c κs = search needs
 
 returns-6 : tie.Need-returns-6 Inv-loop μ-loop
-returns-6 c = let b = c .before .before .before .before .before .before .before .before .before .before in let e = c .before .before .before .before .before .match .keys7 in
+returns-6 c = let m = c .before .before .before .before .before in let b = m .before .before .before .before .before in let e = m .match .keys7 in
     c .stop6 .ensures ∙ halt b (tuck-unready (s b) (x b) e _ (c .before .before .asked4 .ensures) (c .before .if7 .taken)) (c .before .if7 .taken)
 
 tuck-requires : tie.Need-tuck-requires Inv-loop μ-loop
@@ -258,8 +259,8 @@ stop-requires-7 : tie.Need-stop-requires-7 Inv-loop μ-loop
 stop-requires-7 c κs = search needs
 
 returns-7 : tie.Need-returns-7 Inv-loop μ-loop
-returns-7 c = let b = c .before .before .before .before .before .before .before .before .before .before .before .before .before in let e = c .before .before .before .before .before .before .before .before .match .keys7 in
-    c .stop7 .ensures ∙ simp (c .before .before .tuck .ensures .1, tuck-kept (s b .loops) (x b .at) _ (c .before .before .tuck .ensures .0) (c .before .if8 .taken)) (halt b (tuck-stopped (s b) (x b) e _ (c .before .before .before .before .before .asked4 .ensures) (c .before .before .before .before .if7 .left) _ (c .before .before .tuck .ensures .0)) (c .before .if8 .taken))
+returns-7 c = let m = c .before .before .before .before .before .before .before .before in let b = m .before .before .before .before .before in let e = m .match .keys7 in let told = c .before .before .tuck .ensures in
+    c .stop7 .ensures ∙ simp (told .1, tuck-kept (s b .loops) (x b .at) _ (told .0) (c .before .if8 .taken)) (halt b (tuck-stopped (s b) (x b) e _ (c .before .before .before .before .before .asked4 .ensures) (c .before .before .before .before .if7 .left) _ (told .0)) (c .before .if8 .taken))
 
 attach-requires : tie.Need-attach-requires Inv-loop μ-loop
 attach-requires c κs = known (c .before .before .before .before .before .before .before .before .before .before .before .before) .at-bed
@@ -289,7 +290,7 @@ stop-requires-8 : tie.Need-stop-requires-8 Inv-loop μ-loop
 stop-requires-8 c κs = search needs
 
 returns-8 : tie.Need-returns-8 Inv-loop μ-loop
-returns-8 c = let b = c .before .before .before .before .before .before .before .before .before .before in let e = c .before .before .before .before .before .match .keys8 in
+returns-8 c = let m = c .before .before .before .before .before in let b = m .before .before .before .before .before in let e = m .match .keys8 in
     c .stop8 .ensures ∙ halt b (knit-stopped (s b) (x b) _ e (c .before .before .asked5 .ensures)) (c .before .if9 .taken)
 
 put-requires-2 : tie.Need-put-requires-2 Inv-loop μ-loop
@@ -323,7 +324,7 @@ stop-requires-9 : tie.Need-stop-requires-9 Inv-loop μ-loop
 stop-requires-9 c κs = search needs
 
 returns-9 : tie.Need-returns-9 Inv-loop μ-loop
-returns-9 c = let b = c .before .before .before .before .before .before .before .before .before .before .before in let e = split-kind (c .before .before .before .before .before .before) in
+returns-9 c = let m = c .before .before .before .before .before .before in let b = m .before .before .before .before .before in let e = split-kind m in
     c .stop9 .ensures ∙ halt b (split-unready (s b) (x b) e _ (c .before .before .asked6 .ensures) (c .before .if10 .taken)) (c .before .if10 .taken)
 
 transfer-requires-2 : tie.Need-transfer-requires-2 Inv-loop μ-loop
@@ -333,8 +334,8 @@ stop-requires-10 : tie.Need-stop-requires-10 Inv-loop μ-loop
 stop-requires-10 c κs = search needs
 
 returns-10 : tie.Need-returns-10 Inv-loop μ-loop
-returns-10 c = let b = c .before .before .before .before .before .before .before .before .before .before .before .before .before .before in let e = split-kind (c .before .before .before .before .before .before .before .before .before) in
-    c .stop10 .ensures ∙ simp (c .before .before .transfer2 .ensures .1, transfer-kept (s b .loops) (x b .at) (x b .to) (s b .racking) 1 _ (c .before .before .transfer2 .ensures .0) (c .before .if11 .taken)) (halt b (split-stopped (s b) (x b) e _ (c .before .before .before .before .before .asked6 .ensures) (c .before .before .before .before .if10 .left) _ (c .before .before .transfer2 .ensures .0)) (c .before .if11 .taken))
+returns-10 c = let m = c .before .before .before .before .before .before .before .before .before in let b = m .before .before .before .before .before in let e = split-kind m in let told = c .before .before .transfer2 .ensures in
+    c .stop10 .ensures ∙ simp (told .1, transfer-kept (s b .loops) (x b .at) (x b .to) (s b .racking) 1 _ (told .0) (c .before .if11 .taken)) (halt b (split-stopped (s b) (x b) e _ (c .before .before .before .before .before .asked6 .ensures) (c .before .before .before .before .if10 .left) _ (told .0)) (c .before .if11 .taken))
 
 attach-requires-3 : tie.Need-attach-requires-3 Inv-loop μ-loop
 attach-requires-3 c κs = known (c .before .before .before .before .before .before .before .before .before .before .before .before .before) .at-bed
@@ -361,78 +362,78 @@ loop-less : tie.Need-loop-less Inv-loop μ-loop
 loop-less c = less (c .before .before .before .before .before .before)
 
 loop-again : tie.Need-loop-again Inv-loop μ-loop
-loop-again c = let b = c .before .before .before .before .before .before in let e = c .before .match .keys1 in
+loop-again c = let m = c .before in let b = m .before .before .before .before .before in let e = m .match .keys1 in
     on b (rack-made (s b) (x b) e)
 
 loop-less-2 : tie.Need-loop-less-2 Inv-loop μ-loop
 loop-less-2 c = less (c .before .before .before .before .before .before .before)
 
 loop-again-2 : tie.Need-loop-again-2 Inv-loop μ-loop
-loop-again-2 c = let b = c .before .before .before .before .before .before .before in let e = c .before .before .match .keys2 in
+loop-again-2 c = let m = c .before .before in let b = m .before .before .before .before .before in let e = m .match .keys2 in
     on b (drop-made (s b) (x b) e _ (c .put .ensures))
 
 loop-less-3 : tie.Need-loop-less-3 Inv-loop μ-loop
 loop-less-3 c = less (c .before .before .before .before .before .before .before .before .before .before .before .before .before)
 
 loop-again-3 : tie.Need-loop-again-3 Inv-loop μ-loop
-loop-again-3 c = let b = c .before .before .before .before .before .before .before .before .before .before .before .before .before in let e = c .before .before .before .before .before .before .before .before .match .keys3 in
-    on b (xfer-made (s b) (x b) e _ (c .before .before .before .before .before .transfer .ensures .0) (c .before .before .before .before .if2 .left) _ _ (c .before .before .before .before .before .transfer .ensures .1) (c .attachments-moved .ensures))
+loop-again-3 c = let m = c .before .before .before .before .before .before .before .before in let b = m .before .before .before .before .before in let e = m .match .keys3 in let told = c .before .before .before .before .before .transfer .ensures in
+    on b (xfer-made (s b) (x b) e _ (told .0) (c .before .before .before .before .if2 .left) _ _ (told .1) (c .attachments-moved .ensures))
 
 loop-less-4 : tie.Need-loop-less-4 Inv-loop μ-loop
 loop-less-4 c = less (c .before .before .before .before .before .before .before .before .before .before .before .before)
 
 loop-again-4 : tie.Need-loop-again-4 Inv-loop μ-loop
-loop-again-4 c = let b = c .before .before .before .before .before .before .before .before .before .before .before .before in let e = c .before .before .before .before .before .before .before .match .keys3 in
-    on b (xfer-made (s b) (x b) e _ (c .before .before .before .before .transfer .ensures .0) (c .before .before .before .if2 .left) _ _ (c .before .before .before .before .transfer .ensures .1) (unmoved (x b .at) (x b .to) (s b .carriers) (sym (c .before .any-beside .ensures) ∙ c .if3 .left)))
+loop-again-4 c = let m = c .before .before .before .before .before .before .before in let b = m .before .before .before .before .before in let e = m .match .keys3 in let told = c .before .before .before .before .transfer .ensures in
+    on b (xfer-made (s b) (x b) e _ (told .0) (c .before .before .before .if2 .left) _ _ (told .1) (unmoved (x b .at) (x b .to) (s b .carriers) (sym (c .before .any-beside .ensures) ∙ c .if3 .left)))
 
 loop-less-5 : tie.Need-loop-less-5 Inv-loop μ-loop
 loop-less-5 c = less (c .before .before .before .before .before .before .before .before .before .before)
 
 loop-again-5 : tie.Need-loop-again-5 Inv-loop μ-loop
-loop-again-5 c = let b = c .before .before .before .before .before .before .before .before .before .before in let e = c .before .before .before .before .before .match .keys4 in
+loop-again-5 c = let m = c .before .before .before .before .before in let b = m .before .before .before .before .before in let e = m .match .keys4 in
     on b (in-made (s b) (x b) _ e (c .before .before .asked .ensures) (c .before .if4 .left) _ (c .enter .ensures))
 
 loop-less-6 : tie.Need-loop-less-6 Inv-loop μ-loop
 loop-less-6 c = less (c .before .before .before .before .before .before .before .before .before .before)
 
 loop-again-6 : tie.Need-loop-again-6 Inv-loop μ-loop
-loop-again-6 c = let b = c .before .before .before .before .before .before .before .before .before .before in let e = c .before .before .before .before .before .match .keys5 in
+loop-again-6 c = let m = c .before .before .before .before .before in let b = m .before .before .before .before .before in let e = m .match .keys5 in
     on b (out-made (s b) (x b) _ e (c .before .before .asked2 .ensures) (c .before .if5 .left) _ (c .inactive .ensures))
 
 loop-less-7 : tie.Need-loop-less-7 Inv-loop μ-loop
 loop-less-7 c = less (c .before .before .before .before .before .before .before .before .before .before)
 
 loop-again-7 : tie.Need-loop-again-7 Inv-loop μ-loop
-loop-again-7 c = let b = c .before .before .before .before .before .before .before .before .before .before in let e = c .before .before .before .before .before .match .keys6 in
+loop-again-7 c = let m = c .before .before .before .before .before in let b = m .before .before .before .before .before in let e = m .match .keys6 in
     on b (miss-made (s b) (x b) _ e (c .before .before .asked3 .ensures) (c .before .if6 .left) _ (c .pass .ensures))
 
 loop-less-8 : tie.Need-loop-less-8 Inv-loop μ-loop
 loop-less-8 c = less (c .before .before .before .before .before .before .before .before .before .before .before .before .before)
 
 loop-again-8 : tie.Need-loop-again-8 Inv-loop μ-loop
-loop-again-8 c = let b = c .before .before .before .before .before .before .before .before .before .before .before .before .before in let e = c .before .before .before .before .before .before .before .before .match .keys7 in
-    on b (tuck-done (s b) (x b) e _ (c .before .before .before .before .before .asked4 .ensures) (c .before .before .before .before .if7 .left) _ (c .before .before .tuck .ensures .0) (c .before .if8 .left) _ (c .attach .ensures) _ (c .before .before .tuck .ensures .1))
+loop-again-8 c = let m = c .before .before .before .before .before .before .before .before in let b = m .before .before .before .before .before in let e = m .match .keys7 in let told = c .before .before .tuck .ensures in
+    on b (tuck-done (s b) (x b) e _ (c .before .before .before .before .before .asked4 .ensures) (c .before .before .before .before .if7 .left) _ (told .0) (c .before .if8 .left) _ (c .attach .ensures) _ (told .1))
 
 loop-less-9 : tie.Need-loop-less-9 Inv-loop μ-loop
 loop-less-9 c = less (c .before .before .before .before .before .before .before .before .before .before .before .before)
 
 loop-again-9 : tie.Need-loop-again-9 Inv-loop μ-loop
-loop-again-9 c = let b = c .before .before .before .before .before .before .before .before .before .before .before .before in let e = c .before .before .before .before .before .before .before .match .keys8 in
+loop-again-9 c = let m = c .before .before .before .before .before .before .before in let b = m .before .before .before .before .before in let e = m .match .keys8 in
     on b (knit-made (s b) (x b) _ e (c .before .before .before .before .asked5 .ensures) (c .before .before .before .if9 .left) _ (c .attach2 .ensures) _ (c .before .put2 .ensures))
 
 loop-less-10 : tie.Need-loop-less-10 Inv-loop μ-loop
 loop-less-10 c = less (c .before .before .before .before .before .before .before .before .before .before .before .before .before .before .before .before .before .before)
 
 loop-again-10 : tie.Need-loop-again-10 Inv-loop μ-loop
-loop-again-10 c = let b = c .before .before .before .before .before .before .before .before .before .before .before .before .before .before .before .before .before .before in let e = split-kind (c .before .before .before .before .before .before .before .before .before .before .before .before .before) in
-    on b (split-made (s b) (x b) e _ (c .before .before .before .before .before .before .before .before .before .asked6 .ensures) (c .before .before .before .before .before .before .before .before .if10 .left) _ (c .before .before .before .before .before .before .transfer2 .ensures .0) (c .before .before .before .before .before .if11 .left) _ (c .before .before .before .before .attach3 .ensures) _ _ (c .before .before .before .before .before .before .transfer2 .ensures .1) (c .attachments-moved2 .ensures))
+loop-again-10 c = let m = c .before .before .before .before .before .before .before .before .before .before .before .before .before in let b = m .before .before .before .before .before in let e = split-kind m in let told = c .before .before .before .before .before .before .transfer2 .ensures in
+    on b (split-made (s b) (x b) e _ (c .before .before .before .before .before .before .before .before .before .asked6 .ensures) (c .before .before .before .before .before .before .before .before .if10 .left) _ (told .0) (c .before .before .before .before .before .if11 .left) _ (c .before .before .before .before .attach3 .ensures) _ _ (told .1) (c .attachments-moved2 .ensures))
 
 loop-less-11 : tie.Need-loop-less-11 Inv-loop μ-loop
 loop-less-11 c = less (c .before .before .before .before .before .before .before .before .before .before .before .before .before .before .before .before .before)
 
 loop-again-11 : tie.Need-loop-again-11 Inv-loop μ-loop
-loop-again-11 c = let b = c .before .before .before .before .before .before .before .before .before .before .before .before .before .before .before .before .before in let e = split-kind (c .before .before .before .before .before .before .before .before .before .before .before .before) in
-    on b (split-made (s b) (x b) e _ (c .before .before .before .before .before .before .before .before .asked6 .ensures) (c .before .before .before .before .before .before .before .if10 .left) _ (c .before .before .before .before .before .transfer2 .ensures .0) (c .before .before .before .before .if11 .left) _ (c .before .before .before .attach3 .ensures) _ _ (c .before .before .before .before .before .transfer2 .ensures .1) (unmoved (x b .at) (x b .to) (s b .carriers) (sym (c .before .any-beside2 .ensures) ∙ c .if12 .left)))
+loop-again-11 c = let m = c .before .before .before .before .before .before .before .before .before .before .before .before in let b = m .before .before .before .before .before in let e = split-kind m in let told = c .before .before .before .before .before .transfer2 .ensures in
+    on b (split-made (s b) (x b) e _ (c .before .before .before .before .before .before .before .before .asked6 .ensures) (c .before .before .before .before .before .before .before .if10 .left) _ (told .0) (c .before .before .before .before .if11 .left) _ (c .before .before .before .attach3 .ensures) _ _ (told .1) (unmoved (x b .at) (x b .to) (s b .carriers) (sym (c .before .any-beside2 .ensures) ∙ c .if12 .left)))
 
 stop-requires-11 : tie.Need-stop-requires-11 Inv-loop μ-loop
 stop-requires-11 c κs = search needs
