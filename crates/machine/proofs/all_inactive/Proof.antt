@@ -47,16 +47,5 @@ returns-2 c = sym (c .before .loop .inv .2 ∙ all-end inactiveCarrier (c .befor
 
 pub all-inactive-spec : {M : Type 1} → statement M
 all-inactive-spec =
-    tie.close
-    (tie.spec
-    Inv-loop
-    μ-loop
-    loop-holds
-    mul-c
-    array-copy-out-c
-    is-inactive-requires
-    returns
-    add-k
-    loop-less
-    loop-again
-    returns-2)
+    tie.close (tie.spec
+    Inv-loop μ-loop loop-holds mul-c array-copy-out-c is-inactive-requires returns add-k loop-less loop-again returns-2)

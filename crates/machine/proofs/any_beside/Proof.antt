@@ -45,15 +45,5 @@ returns-2 c = sym (c .before .loop .inv .2 ∙ ap not (all-end (other (c .before
 
 pub any-beside-spec : {M : Type 1} → statement M
 any-beside-spec =
-    tie.close
-    (tie.spec
-    Inv-loop
-    μ-loop
-    loop-holds
-    mul-if1
-    element-copy-out-if1
-    returns
-    add-k
-    loop-less
-    loop-again
-    returns-2)
+    tie.close (tie.spec
+    Inv-loop μ-loop loop-holds mul-if1 element-copy-out-if1 returns add-k loop-less loop-again returns-2)

@@ -48,16 +48,5 @@ returns-2 c = sym (c .before .loop .inv .2 ∙ all-end carrierOk (c .before .bef
 
 pub carriers-in-range-spec : {M : Type 1} → statement M
 carriers-in-range-spec =
-    tie.close
-    (tie.spec
-    Inv-loop
-    μ-loop
-    loop-holds
-    mul-c
-    array-copy-out-c
-    in-range-requires
-    returns
-    add-k
-    loop-less
-    loop-again
-    returns-2)
+    tie.close (tie.spec
+    Inv-loop μ-loop loop-holds mul-c array-copy-out-c in-range-requires returns add-k loop-less loop-again returns-2)

@@ -48,14 +48,5 @@ returns c = let at = c .before in let most = at .loop .most in
 
 pub most-loops-spec : {M : Type 1} → statement M
 most-loops-spec =
-    tie.close
-    (tie.spec
-    Inv-loop
-    μ-loop
-    loop-holds
-    shared-slice-read-larger
-    larger-requires
-    add-i
-    loop-less
-    loop-again
-    returns)
+    tie.close (tie.spec
+    Inv-loop μ-loop loop-holds shared-slice-read-larger larger-requires add-i loop-less loop-again returns)

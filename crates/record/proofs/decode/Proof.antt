@@ -110,28 +110,7 @@ returns-11 c = let b = c .before .before in let no = c .before .match .rest in
 
 pub decode-spec : {M : Type 1} → statement M
 decode-spec =
-    tie.close
-    (tie.spec
-    refused-requires
-    returns
-    byte-requires
-    read-requires
-    read-requires-2
-    read-requires-3
-    read-requires-4
-    read-requires-5
-    read-requires-6
-    read-requires-7
-    read-requires-8
-    read-requires-9
-    refused-requires-2
-    returns-2
-    returns-3
-    returns-4
-    returns-5
-    returns-6
-    returns-7
-    returns-8
-    returns-9
-    returns-10
-    returns-11)
+    tie.close (tie.spec
+    refused-requires returns byte-requires read-requires read-requires-2 read-requires-3 read-requires-4 read-requires-5 read-requires-6
+    read-requires-7 read-requires-8 read-requires-9 refused-requires-2 returns-2 returns-3 returns-4 returns-5 returns-6 returns-7 returns-8
+    returns-9 returns-10 returns-11)

@@ -57,16 +57,6 @@ returns-3 c = let w = c .before in let d = w .before in
 
 pub drop-spec : {M : Type 1} → statement M
 drop-spec =
-    tie.close
-    (tie.spec
-    size-of-requires
-    refused-requires
-    returns
-    byte-requires
-    byte-requires-2
-    needle-ok-requires
-    refused-requires-2
-    returns-2
-    cast-t10
-    cast-t11
+    tie.close (tie.spec
+    size-of-requires refused-requires returns byte-requires byte-requires-2 needle-ok-requires refused-requires-2 returns-2 cast-t10 cast-t11
     returns-3)

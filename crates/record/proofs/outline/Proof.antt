@@ -97,21 +97,6 @@ returns-3 c = c .outlined3 .ensures ∙ carried (c .before .before .before .befo
 
 pub outline-spec : {M : Type 1} → statement M
 outline-spec =
-    tie.close
-    (tie.spec
-    byte-requires
-    outlined-requires
-    returns
-    byte-requires-2
-    byte-requires-3
-    cast-t10
-    cast-t11
-    outlined-requires-2
-    returns-2
-    byte-requires-4
-    byte-requires-5
-    byte-requires-6
-    cast-t13
-    cast-t14
-    outlined-requires-3
-    returns-3)
+    tie.close (tie.spec
+    byte-requires outlined-requires returns byte-requires-2 byte-requires-3 cast-t10 cast-t11 outlined-requires-2 returns-2 byte-requires-4
+    byte-requires-5 byte-requires-6 cast-t13 cast-t14 outlined-requires-3 returns-3)

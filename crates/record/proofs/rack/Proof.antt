@@ -65,14 +65,5 @@ returns-3 c = let n = c .before in let d = n .before in let z = d .signed .resul
 
 pub rack-spec : {M : Type 1} → statement M
 rack-spec =
-    tie.close
-    (tie.spec
-    size-of-requires
-    refused-requires
-    returns
-    byte-requires
-    signed-requires
-    in-range-requires
-    refused-requires-2
-    returns-2
-    returns-3)
+    tie.close (tie.spec
+    size-of-requires refused-requires returns byte-requires signed-requires in-range-requires refused-requires-2 returns-2 returns-3)

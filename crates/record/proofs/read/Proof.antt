@@ -48,15 +48,5 @@ returns-5 c = let s = c .before .before .before .before in
 
 pub read-spec : {M : Type 1} → statement M
 read-spec =
-    tie.close
-    (tie.spec
-    rack-requires
-    drop-requires
-    xfer-requires
-    work-requires
-    split-requires
-    returns
-    returns-2
-    returns-3
-    returns-4
-    returns-5)
+    tie.close (tie.spec
+    rack-requires drop-requires xfer-requires work-requires split-requires returns returns-2 returns-3 returns-4 returns-5)

@@ -95,24 +95,6 @@ returns-4 c = let w = c .before .before in let d = w .before in let l = d .befor
 
 pub split-spec : {M : Type 1} → statement M
 split-spec =
-    tie.close
-    (tie.spec
-    size-of-requires
-    refused-requires
-    returns
-    byte-requires
-    byte-requires-2
-    byte-requires-3
-    byte-requires-4
-    byte-requires-5
-    work-ok-requires
-    refused-requires-2
-    returns-2
-    refused-requires-3
-    returns-3
-    cast-t14
-    cast-t15
-    sub-t16
-    cast-t14-2
-    cast-t15-2
-    returns-4)
+    tie.close (tie.spec
+    size-of-requires refused-requires returns byte-requires byte-requires-2 byte-requires-3 byte-requires-4 byte-requires-5 work-ok-requires
+    refused-requires-2 returns-2 refused-requires-3 returns-3 cast-t14 cast-t15 sub-t16 cast-t14-2 cast-t15-2 returns-4)

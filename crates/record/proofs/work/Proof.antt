@@ -63,18 +63,6 @@ returns-3 c = let w = c .before in let d = w .before in
 
 pub work-spec : {M : Type 1} → statement M
 work-spec =
-    tie.close
-    (tie.spec
-    size-of-requires
-    refused-requires
-    returns
-    byte-requires
-    byte-requires-2
-    byte-requires-3
-    byte-requires-4
-    work-ok-requires
-    refused-requires-2
-    returns-2
-    cast-t13
-    cast-t14
-    returns-3)
+    tie.close (tie.spec
+    size-of-requires refused-requires returns byte-requires byte-requires-2 byte-requires-3 byte-requires-4 work-ok-requires refused-requires-2
+    returns-2 cast-t13 cast-t14 returns-3)

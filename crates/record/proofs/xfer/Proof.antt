@@ -78,22 +78,6 @@ returns-4 c = let w = c .before .before in let d = w .before in
 
 pub xfer-spec : {M : Type 1} → statement M
 xfer-spec =
-    tie.close
-    (tie.spec
-    size-of-requires
-    refused-requires
-    returns
-    byte-requires
-    byte-requires-2
-    byte-requires-3
-    needle-ok-requires
-    refused-requires-2
-    returns-2
-    refused-requires-3
-    returns-3
-    cast-t12
-    cast-t13
-    sub-t14
-    cast-t12-2
-    cast-t13-2
-    returns-4)
+    tie.close (tie.spec
+    size-of-requires refused-requires returns byte-requires byte-requires-2 byte-requires-3 needle-ok-requires refused-requires-2 returns-2
+    refused-requires-3 returns-3 cast-t12 cast-t13 sub-t14 cast-t12-2 cast-t13-2 returns-4)

@@ -80,17 +80,6 @@ returns-7 c = absurd (omega (arith, c .if3 .left, c .before .before .before .pre
 
 pub asked-spec : {M : Type 1} → statement M
 asked-spec =
-    tie.close
-    (tie.spec
-    exit-requires
-    parked-requires
-    entry-requires
-    parked-requires-2
-    ready-requires
-    returns
-    returns-2
-    returns-3
-    returns-4
-    returns-5
-    returns-6
+    tie.close (tie.spec
+    exit-requires parked-requires entry-requires parked-requires-2 ready-requires returns returns-2 returns-3 returns-4 returns-5 returns-6
     returns-7)

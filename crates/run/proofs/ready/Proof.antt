@@ -70,14 +70,5 @@ returns-4 c = let u = c .before .before .before .before .before in let p = u .be
 
 pub ready-spec : {M : Type 1} → statement M
 ready-spec =
-    tie.close
-    (tie.spec
-    entry-requires
-    parked-requires
-    returns
-    returns-2
-    column-requires
-    column-requires-2
-    near-requires
-    returns-3
-    returns-4)
+    tie.close (tie.spec
+    entry-requires parked-requires returns returns-2 column-requires column-requires-2 near-requires returns-3 returns-4)

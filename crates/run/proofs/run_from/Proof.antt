@@ -443,116 +443,16 @@ returns-11 c = c .stop11 .ensures ∙ ended (c .before .before .before .before .
 
 pub run-from-spec : {M : Type 1} → statement M
 run-from-spec =
-    tie.close
-    (tie.spec
-    Inv-loop
-    μ-loop
-    loop-holds
-    sub-decode
-    part-decode-start
-    part-decode-end
-    decode-requires
-    stop-requires
-    returns
-    add-next
-    put-requires
-    transfer-requires
-    stop-requires-2
-    returns-2
-    any-beside-requires
-    attachments-moved-requires
-    cast-k
-    sub-k
-    mul-c
-    element-copy-out-c
-    asked-requires
-    stop-requires-3
-    returns-3
-    enter-requires
-    mul-then
-    element-set-from-then
-    cast-k-2
-    sub-k-2
-    mul-c-2
-    element-copy-out-c-2
-    asked-requires-2
-    stop-requires-4
-    returns-4
-    inactive-requires
-    mul-then-2
-    element-set-from-then-2
-    cast-k-3
-    sub-k-3
-    mul-c-3
-    element-copy-out-c-3
-    asked-requires-3
-    stop-requires-5
-    returns-5
-    pass-requires
-    mul-then-3
-    element-set-from-then-3
-    cast-k-4
-    sub-k-4
-    mul-c-4
-    element-copy-out-c-4
-    asked-requires-4
-    stop-requires-6
-    returns-6
-    tuck-requires
-    stop-requires-7
-    returns-7
-    attach-requires
-    mul-then-4
-    element-set-from-then-4
-    cast-k-5
-    sub-k-5
-    mul-c-5
-    element-copy-out-c-5
-    asked-requires-5
-    stop-requires-8
-    returns-8
-    put-requires-2
-    attach-requires-2
-    mul-then-5
-    element-set-from-then-5
-    cast-k-6
-    sub-k-6
-    mul-c-6
-    element-copy-out-c-6
-    asked-requires-6
-    stop-requires-9
-    returns-9
-    transfer-requires-2
-    stop-requires-10
-    returns-10
-    attach-requires-3
-    any-beside-requires-2
-    attachments-moved-requires-2
-    mul-ds
-    array-set-from-ds
-    mul-then-6
-    element-set-from-then-6
-    loop-less
-    loop-again
-    loop-less-2
-    loop-again-2
-    loop-less-3
-    loop-again-3
-    loop-less-4
-    loop-again-4
-    loop-less-5
-    loop-again-5
-    loop-less-6
-    loop-again-6
-    loop-less-7
-    loop-again-7
-    loop-less-8
-    loop-again-8
-    loop-less-9
-    loop-again-9
-    loop-less-10
-    loop-again-10
-    loop-less-11
-    loop-again-11
-    stop-requires-11
-    returns-11)
+    tie.close (tie.spec
+    Inv-loop μ-loop loop-holds sub-decode part-decode-start part-decode-end decode-requires stop-requires returns add-next put-requires
+    transfer-requires stop-requires-2 returns-2 any-beside-requires attachments-moved-requires cast-k sub-k mul-c element-copy-out-c
+    asked-requires stop-requires-3 returns-3 enter-requires mul-then element-set-from-then cast-k-2 sub-k-2 mul-c-2 element-copy-out-c-2
+    asked-requires-2 stop-requires-4 returns-4 inactive-requires mul-then-2 element-set-from-then-2 cast-k-3 sub-k-3 mul-c-3 element-copy-out-c-3
+    asked-requires-3 stop-requires-5 returns-5 pass-requires mul-then-3 element-set-from-then-3 cast-k-4 sub-k-4 mul-c-4 element-copy-out-c-4
+    asked-requires-4 stop-requires-6 returns-6 tuck-requires stop-requires-7 returns-7 attach-requires mul-then-4 element-set-from-then-4 cast-k-5
+    sub-k-5 mul-c-5 element-copy-out-c-5 asked-requires-5 stop-requires-8 returns-8 put-requires-2 attach-requires-2 mul-then-5
+    element-set-from-then-5 cast-k-6 sub-k-6 mul-c-6 element-copy-out-c-6 asked-requires-6 stop-requires-9 returns-9 transfer-requires-2
+    stop-requires-10 returns-10 attach-requires-3 any-beside-requires-2 attachments-moved-requires-2 mul-ds array-set-from-ds mul-then-6
+    element-set-from-then-6 loop-less loop-again loop-less-2 loop-again-2 loop-less-3 loop-again-3 loop-less-4 loop-again-4 loop-less-5
+    loop-again-5 loop-less-6 loop-again-6 loop-less-7 loop-again-7 loop-less-8 loop-again-8 loop-less-9 loop-again-9 loop-less-10 loop-again-10
+    loop-less-11 loop-again-11 stop-requires-11 returns-11)

@@ -53,18 +53,6 @@ returns-5 c = let r = c .before .before .before in let u = r .before .before in 
 
 pub step-spec : {M : Type 1} → statement M
 step-spec =
-    tie.close
-    (tie.spec
-    kept-requires
-    returns
-    shared-slice-read-size-of
-    size-of-requires
-    kept-requires-2
-    returns-2
-    kept-requires-3
-    returns-3
-    slice-aggregate-run-from
-    run-from-requires
-    kept-requires-4
-    returns-4
-    returns-5)
+    tie.close (tie.spec
+    kept-requires returns shared-slice-read-size-of size-of-requires kept-requires-2 returns-2 kept-requires-3 returns-3 slice-aggregate-run-from
+    run-from-requires kept-requires-4 returns-4 returns-5)

@@ -17,9 +17,9 @@ use Rattle.run.proofs.transfer.Statement.{statement}
 use Rattle.run.proofs.transfer.Tie as tie
 
 module _ (l : List ℕ) (a b : Needle) (r : Racking) (v : ℕ) where
-  crooked : sameColumn (columnOf a r) (columnOf b r) ≡ false → (10 ≡ transferNo l a b r) × (l ≡ transferredLoops l a b r v)
+  not-opposite : sameColumn (columnOf a r) (columnOf b r) ≡ false → (10 ≡ transferNo l a b r) × (l ≡ transferredLoops l a b r v)
   unfolding transferNo transferredLoops
-  crooked e = (simp e, simp e)
+  not-opposite e = (simp e, simp e)
 
   module _ (e : sameColumn (columnOf a r) (columnOf b r) ≡ true) where
     full : 8 < getD l (hookOf a) 0 + getD l (hookOf b) 0 → (11 ≡ transferNo l a b r) × (l ≡ transferredLoops l a b r v)
@@ -47,7 +47,7 @@ equals-requires c κs = search needs
 
 returns : tie.Need-returns
 returns c = let b = c .before in let a = b .before .before .before .args in
-    crooked (a .loops .now) (a .a) (a .b) (a .r) (a .v) (same b ∙ not-true (b .equals .result) (c .if1 .taken))
+    not-opposite (a .loops .now) (a .a) (a .b) (a .r) (a .v) (same b ∙ not-true (b .equals .result) (c .if1 .taken))
 
 hook-requires : tie.Need-hook-requires
 hook-requires c κs = search needs
@@ -95,22 +95,6 @@ returns-3 c = let w = c .before .before .before .before .before .before in let b
 
 pub transfer-spec : {M : Type 1} → statement M
 transfer-spec =
-    tie.close
-    (tie.spec
-    column-requires
-    column-requires-2
-    equals-requires
-    returns
-    hook-requires
-    hook-requires-2
-    element-copy-out-here
-    element-copy-out-there
-    cast-if2
-    wide-requires
-    wide-requires-2
-    add-if2
-    returns-2
-    element-write-loops
-    add-loops
-    element-write-loops-2
-    returns-3)
+    tie.close (tie.spec
+    column-requires column-requires-2 equals-requires returns hook-requires hook-requires-2 element-copy-out-here element-copy-out-there cast-if2
+    wide-requires wide-requires-2 add-if2 returns-2 element-write-loops add-loops element-write-loops-2 returns-3)

@@ -28,11 +28,11 @@ module _ (s : State) where
     last f = simp (e, f)
 
 -- what is known past each test
-unracked : (b : tie.Else1) → eqZ (b .before .before .before .before .args .t1 .racking .0) (pos 0) ≡ true
-unracked b = is-bits w8 (b .before .before .before .before .args .t1 .racking .0) (pos 0) (b .before .struct-told .given .0 .1) (omega arith) (b .if1 .left)
+racking-zero : (b : tie.Else1) → eqZ (b .before .before .before .before .args .t1 .racking .0) (pos 0) ≡ true
+racking-zero b = is-bits w8 (b .before .before .before .before .args .t1 .racking .0) (pos 0) (b .before .struct-told .given .0 .1) (omega arith) (b .if1 .left)
 
-unlooped : (b : tie.Else2) → noLoops (b .before .before .before .before .before .before .before .before .before .args .t1 .loops) ≡ true
-unlooped b = sym (b .before .no-loops .ensures) ∙ not-false (b .before .no-loops .result) (b .if2 .left)
+hooks-empty : (b : tie.Else2) → noLoops (b .before .before .before .before .before .before .before .before .before .args .t1 .loops) ≡ true
+hooks-empty b = sym (b .before .no-loops .ensures) ∙ not-false (b .before .no-loops .result) (b .if2 .left)
 
 returns : tie.Need-returns
 returns c = let s = c .before .before .before .before .args .t1 in
@@ -43,14 +43,14 @@ no-loops-requires c κs = search needs
 
 returns-2 : tie.Need-returns-2
 returns-2 c = let b = c .before .before .before .before .before in
-    looped (b .before .before .before .before .args .t1) (unracked b) (sym (c .before .no-loops .ensures) ∙ not-true (c .before .no-loops .result) (c .if2 .taken))
+    looped (b .before .before .before .before .args .t1) (racking-zero b) (sym (c .before .no-loops .ensures) ∙ not-true (c .before .no-loops .result) (c .if2 .taken))
 
 all-inactive-requires : tie.Need-all-inactive-requires
 all-inactive-requires c κs = search needs
 
 returns-3 : tie.Need-returns-3
 returns-3 c = let b = c .before .before .before .before .before .before .before in
-    c .all-inactive .ensures ∙ last (b .before .before .before .before .args .t1) (unracked b) (unlooped (c .before .before))
+    c .all-inactive .ensures ∙ last (b .before .before .before .before .args .t1) (racking-zero b) (hooks-empty (c .before .before))
 
 pub complete-spec : {M : Type 1} → statement M
 complete-spec =
