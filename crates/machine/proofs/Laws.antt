@@ -1,8 +1,8 @@
--- Laws of the machine's definitions: how far columns reach, and the empty state. Assumes nothing.
+-- Laws of the machine's definitions: columns and slots as code reads them back, walks along a list, attachments, the empty state, the most loops. Assumes nothing.
 use borrow.Table.Steps.{cases}
 use Prim.Native.Nat.{ℕ, _+_, _<_, _≤_}
 use mathlib.Core.Path.{_≡_, refl, sym, ap, subst, _∙_}
-use mathlib.Core.Bool.{Bool, true, false, _&&_, not, cond}
+use mathlib.Core.Bool.{Bool, true, false, _&&_, not, cond, and-true, and-false, and-assoc, false≢true}
 use mathlib.Core.List.{List, [], _∷_, map}
 use native.Mathlib.Omega.{arith}
 use lib.IntN.{ℤ, pos, negsuc, _+ℤ_, _-ℤ_}
@@ -21,9 +21,9 @@ use mir.Syntax.{w16, w32, w64}
 use mir.Val.{SFits, toZ, ofZ}
 use mir.Facts.{toZ-ofZ}
 use Rattle.machine.specs.Geometry.{columnOf, eqZ}
-use Rattle.machine.specs.Machine.{OnBed, sameNeedle, all, attachedAt, movedTo, noLoops, allInactive, inactive, inactiveCarrier, emptyState, completeOf}
+use Rattle.machine.specs.Machine.{OnBed, sameNeedle, all, attachedAt, movedTo, noLoops, inactive, inactiveCarrier, emptyState, completeOf}
 use Rattle.machine.specs.Range.{slotOk}
-use Rattle.machine.proofs.Signed.{and-true, mag-sum, eqZ-true, back, fits, fits-sum, fits-difference, cast-back}
+use Rattle.machine.proofs.Signed.{mag-sum, eqZ-true, back, fits, fits-sum, fits-difference, cast-back}
 
 -- how far a column reaches
 pub column-reach : (n : Needle) (r : Racking) → mag (r .0) < 128 → mag (columnOf n r .0) ≤ n .1 + 129
@@ -34,16 +34,22 @@ column-reach n r k = go (eqb (n .0) 0)
     go true = omega arith
     go false = omega (arith, mag-sum (pos (n .1)) (r .0))
 
--- the slots beside a needle's column, as code reads them back from 32 and from 16 bits
-module _ (n : Needle) (r : Racking) (z : Column) (is : z ≡ columnOf n r) (b : OnBed n) (k : mag (r .0) < 128) where
+-- a column that code got of a needle on a bed
+pub record Got (n : Needle) (r : Racking) (z : Column) : Type 0 where
+  pub is : z ≡ columnOf n r
+  pub on-bed : OnBed n
+  pub racking : mag (r .0) < 128
+
+-- the slots beside it, as code reads them back from 32 and from 16 bits
+module _ {n : Needle} {r : Racking} {z : Column} (g : Got n r z) where
   reach : mag (z .0) < 400
-  reach = subst (λ (y : Column). mag (y .0) < 400) (sym is) (omega (arith, column-reach n r k))
+  reach = subst (λ (y : Column). mag (y .0) < 400) (sym (g .is)) (omega (arith, column-reach n r (g .racking), g .on-bed .number))
 
   pub here-fits : SFits w16 (toZ w32 (ofZ w32 (z .0)))
   here-fits = simp (back w32 (z .0) (omega (arith, reach))) (fits w16 (z .0) (omega (arith, reach)))
 
   pub slot-here : toZ w16 (ofZ w16 (toZ w32 (ofZ w32 (z .0)))) ≡ columnOf n r .0
-  slot-here = cast-back w32 w16 (z .0) (omega (arith, reach)) (omega (arith, reach)) ∙ ap (λ (y : Column). y .0) is
+  slot-here = cast-back w32 w16 (z .0) (omega (arith, reach)) (omega (arith, reach)) ∙ ap (λ (y : Column). y .0) (g .is)
 
   pub next-fits : SFits w32 (toZ w32 (ofZ w32 (z .0)) +ℤ pos 1)
   next-fits = simp (back w32 (z .0) (omega (arith, reach))) (fits-sum w32 (z .0) (pos 1) (omega (arith, reach)))
@@ -55,7 +61,7 @@ module _ (n : Needle) (r : Racking) (z : Column) (is : z ≡ columnOf n r) (b : 
   next-narrow = simp next-is (fits-sum w16 (z .0) (pos 1) (omega (arith, reach)))
 
   pub slot-next : toZ w16 (ofZ w16 (toZ w32 (ofZ w32 (toZ w32 (ofZ w32 (z .0)) +ℤ pos 1)))) ≡ columnOf n r .0 +ℤ pos 1
-  slot-next = toZ-ofZ next-narrow ∙ next-is ∙ ap (λ (y : Column). y .0 +ℤ pos 1) is
+  slot-next = toZ-ofZ next-narrow ∙ next-is ∙ ap (λ (y : Column). y .0 +ℤ pos 1) (g .is)
 
 -- the difference of two columns, each cast to 64 bits, as code reads it back
 abbrev pub wide : ℤ → ℤ
@@ -84,22 +90,21 @@ and-left false b e = e
 
 and-right : (a b : Bool) → (a && b) ≡ true → b ≡ true
 and-right true b e = e
-and-right false b e = absurd (subst (λ (t : Bool). cond t ⊥ ℕ) e 0)
-
-and-false : (t : Bool) → (t && false) ≡ false
-and-false true = refl
-and-false false = refl
+and-right false b e = absurd (false≢true e)
 
 -- a carrier that names no needle of the number
-still : (a b : Needle) (c : Carrier) → not (eqb (c .needle .1) (a .1)) ≡ true → movedTo a b c ≡ c
+abbrev pub other : Needle → Carrier → Bool
+other n c = not (eqb (c .needle .1) (n .1))
+
+still : (a b : Needle) (c : Carrier) → other a c ≡ true → movedTo a b c ≡ c
 unfolding movedTo attachedAt sameNeedle
 still a b c e = simp (not-true (eqb (c .needle .1) (a .1)) e, and-false (eqb (c .needle .0) (a .0)), and-false (not (eqb (c .side) 0)))
 
 -- where no carrier names it, nothing moves
-pub none-moved : (a b : Needle) (l : List Carrier) → all (λ (c : Carrier). not (eqb (c .needle .1) (a .1))) l ≡ true → map (movedTo a b) l ≡ l
+pub none-moved : (a b : Needle) (l : List Carrier) → all (other a) l ≡ true → map (movedTo a b) l ≡ l
 unfolding all
 none-moved a b [] e = refl
-none-moved a b (c ∷ l) e = cc (still a b c (and-left (not (eqb (c .needle .1) (a .1))) _ e), none-moved a b l (and-right (not (eqb (c .needle .1) (a .1))) _ e))
+none-moved a b (c ∷ l) e = cc (still a b c (and-left (other a c) _ e), none-moved a b l (and-right (other a c) _ e))
 
 all-one : {A : Type 0} (p : A → Bool) (a : A) → ((x : A) → p x ≡ true → x ≡ a) → (l : List A) → all p l ≡ true → l ≡ replicate (length l) a
 unfolding all
@@ -116,10 +121,10 @@ same-fields a b x y z p q r t u = cc
 pub inactive-is : (c : Carrier) → inactiveCarrier c ≡ true → c ≡ inactive
 unfolding inactiveCarrier
 inactive-is c e =
-    let (p, e1) = and-two (eqb (c .active) 0) (eqb (c .side) 0 && (eqZ (c .slot .0) (pos 0) && (eqb (c .needle .0) 0 && eqb (c .needle .1) 0))) e in
-    let (q, e2) = and-two (eqb (c .side) 0) (eqZ (c .slot .0) (pos 0) && (eqb (c .needle .0) 0 && eqb (c .needle .1) 0)) e1 in
-    let (r, e3) = and-two (eqZ (c .slot .0) (pos 0)) (eqb (c .needle .0) 0 && eqb (c .needle .1) 0) e2 in
-    let (t, u) = and-two (eqb (c .needle .0) 0) (eqb (c .needle .1) 0) e3 in
+    let (p, e1) = and-two (eqb (c .active) 0) _ e in
+    let (q, e2) = and-two (eqb (c .side) 0) _ e1 in
+    let (r, e3) = and-two (eqZ (c .slot .0) (pos 0)) _ e2 in
+    let (t, u) = and-two (eqb (c .needle .0) 0) _ e3 in
     same-fields (c .active) (c .side) (c .needle .0) (c .needle .1) (c .slot .0)
     (eqb-true (c .active) 0 p) (eqb-true (c .side) 0 q) (eqZ-true (c .slot .0) (pos 0) r) (eqb-true (c .needle .0) 0 t) (eqb-true (c .needle .1) 0 u)
 
@@ -132,8 +137,8 @@ same-parts z l k p q r = simp (p, q, r)
 pub complete-is-empty : (s : State) → length (s .loops) ≡ 500 → length (s .carriers) ≡ 10 → completeOf s ≡ true → s ≡ emptyState
 unfolding completeOf
 complete-is-empty s hl hc e =
-    let (r, e1) = and-two (eqZ (s .racking .0) (pos 0)) (noLoops (s .loops) && allInactive (s .carriers)) e in
-    let (l, k) = and-two (noLoops (s .loops)) (allInactive (s .carriers)) e1 in
+    let (r, e1) = and-two (eqZ (s .racking .0) (pos 0)) _ e in
+    let (l, k) = and-two (noLoops (s .loops)) _ e1 in
     same-parts (s .racking .0) (s .loops) (s .carriers) (eqZ-true (s .racking .0) (pos 0) r)
     (all-one (λ (n : ℕ). eqb n 0) 0 (λ n h. eqb-true n 0 h) (s .loops) l ∙ ap (λ (n : ℕ). replicate n 0) hl)
     (all-one inactiveCarrier inactive inactive-is (s .carriers) k ∙ ap (λ (n : ℕ). replicate n inactive) hc)
@@ -150,10 +155,7 @@ slot-in (negsuc n) = sym (and-true (leb n 7))
 
 -- none: at most 0
 pub none-leb : (n : ℕ) → eqb n 0 ≡ leb n 0
-none-leb n = cases (eqb n 0) (λ e. simp (eqb-true n 0 e)) (λ e. e ∙ sym (lt-leb n 0 (positive n e)))
-  where
-    positive : (n : ℕ) → eqb n 0 ≡ false → 0 < n
-    positive n e = let h = eqb-false n 0 e in omega arith
+none-leb n = cases (eqb n 0) (λ e. simp (eqb-true n 0 e)) (λ e. e ∙ sym (lt-leb n 0 (omega (arith, eqb-false n 0 e))))
 
 -- no loop on any hook: none over 0
 pub none-over : (l : List ℕ) → all (λ (n : ℕ). eqb n 0) l ≡ all (λ (n : ℕ). leb n 0) l
@@ -166,10 +168,6 @@ larger-leb : (b a v : ℕ) → leb (cond (ltb a v) v a) b ≡ (leb a b && leb v 
 larger-leb b a v =
     cases (ltb a v) (λ t. let h = ltb-true a v t in simp t (cases (leb v b) (λ u. let k = leb-true v b u in simp (u, le-leb a b (omega arith))) (λ u. simp (u, and-false (leb a b)))))
     (λ t. let h = ltb-false a v t in simp t (cases (leb a b) (λ u. let k = leb-true a b u in simp (u, le-leb v b (omega arith))) (λ u. simp u)))
-
-and-assoc : (a b d : Bool) → ((a && b) && d) ≡ (a && (b && d))
-and-assoc true b d = refl
-and-assoc false b d = refl
 
 -- a walk that keeps the largest number so far: one element more
 pub larger-next : (b most v m : ℕ) (rest : Bool) → m ≡ cond (ltb most v) v most → (leb most b && (leb v b && rest)) ≡ (leb m b && rest)

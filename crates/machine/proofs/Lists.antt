@@ -1,4 +1,4 @@
--- Lists as code leaves them: a list whose first k elements a loop has replaced, and edits at listed places. Assumes nothing.
+-- A list whose first k elements a loop has replaced, each by f of it. Assumes nothing.
 use Prim.Native.Nat.{ℕ, zero, suc, _+_}
 use mathlib.Core.Path.{_≡_, refl, sym, ap, _∙_}
 use mathlib.Core.List.{List, [], _∷_, map}

@@ -1,7 +1,8 @@
 -- Whole numbers for `omega`: z = up z - dn z, two naturals that it reads. Sums, differences and casts, once over the width. Assumes nothing.
+use borrow.Table.Steps.{cases}
 use Prim.Native.Nat.{ℕ, zero, suc, _+_, _-_, _≤_, _<_, _^_}
 use mathlib.Core.Path.{_≡_, refl, sym, ap, subst, _∙_}
-use mathlib.Core.Bool.{Bool, true, false, _&&_, not, cond}
+use mathlib.Core.Bool.{true, false, _&&_, not, and-true, true≢false, false≢true}
 use native.Mathlib.Omega.{arith}
 use lib.IntN.{ℤ, pos, negsuc, _+ℤ_, _-ℤ_, negℤ, subℕ, natAbs}
 use lib.Signed.{leZ, ltZ, mag}
@@ -21,18 +22,10 @@ dn (pos n) = 0
 dn (negsuc n) = suc n
 
 up-sub : (a b : ℕ) → up (subℕ a b) ≡ a - b
-up-sub a b = go (ltb a b) (λ e. ltb-true a b e) (λ e. ltb-false a b e)
-  where
-    go : (t : Bool) → (t ≡ true → a < b) → (t ≡ false → b ≤ a) → up (cond t (negsuc (b - suc a)) (pos (a - b))) ≡ a - b
-    go true f g = let h : a < b = f refl in omega arith
-    go false f g = refl
+up-sub a b = cases (ltb a b) (λ t. let h = ltb-true a b t in simp t (omega arith)) (λ t. simp t)
 
 dn-sub : (a b : ℕ) → dn (subℕ a b) ≡ b - a
-dn-sub a b = go (ltb a b) (λ e. ltb-true a b e) (λ e. ltb-false a b e)
-  where
-    go : (t : Bool) → (t ≡ true → a < b) → (t ≡ false → b ≤ a) → dn (cond t (negsuc (b - suc a)) (pos (a - b))) ≡ b - a
-    go true f g = let h : a < b = f refl in omega arith
-    go false f g = let h : b ≤ a = g refl in omega arith
+dn-sub a b = cases (ltb a b) (λ t. let h = ltb-true a b t in simp t (omega arith)) (λ t. let h = ltb-false a b t in simp t (omega arith))
 
 pub sum : (a b : ℤ) → up (a +ℤ b) + (dn a + dn b) ≡ dn (a +ℤ b) + (up a + up b)
 sum (pos a) (pos b) = omega arith
@@ -56,14 +49,8 @@ difference a b = omega (arith, sum a (negℤ b), up-neg b, dn-neg b)
 -- equal numbers
 pub eq-of : (a b : ℤ) → up a + dn b ≡ up b + dn a → a ≡ b
 eq-of (pos a) (pos b) h = ap pos (omega arith)
-eq-of (pos a) (negsuc b) h = absurd (no h)
-  where
-    no : a + suc b ≡ 0 + 0 → ⊥
-    no h = omega arith
-eq-of (negsuc a) (pos b) h = absurd (no h)
-  where
-    no : 0 + 0 ≡ b + suc a → ⊥
-    no h = omega arith
+eq-of (pos a) (negsuc b) h = absurd (omega arith)
+eq-of (negsuc a) (pos b) h = absurd (omega arith)
 eq-of (negsuc a) (negsuc b) h = ap negsuc (omega arith)
 
 pub eqZ-yes : (a b : ℤ) → a ≡ b → eqZ a b ≡ true
@@ -84,33 +71,28 @@ eqZ-no (negsuc a) (negsuc b) h = ne-eqb a b (λ e. h (ap negsuc e))
 pub eqZ-true : (a b : ℤ) → eqZ a b ≡ true → a ≡ b
 unfolding eqZ
 eqZ-true (pos a) (pos b) e = ap pos (eqb-true a b e)
-eqZ-true (pos a) (negsuc b) e = absurd (subst (λ (t : Bool). cond t ⊥ ℕ) e 0)
-eqZ-true (negsuc a) (pos b) e = absurd (subst (λ (t : Bool). cond t ⊥ ℕ) e 0)
+eqZ-true (pos a) (negsuc b) e = absurd (false≢true e)
+eqZ-true (negsuc a) (pos b) e = absurd (false≢true e)
 eqZ-true (negsuc a) (negsuc b) e = ap negsuc (eqb-true a b e)
 
 pub eqZ-false : (a b : ℤ) → eqZ a b ≡ false → a ≡ b → ⊥
-eqZ-false a b e h = subst (λ (t : Bool). cond t ℕ ⊥) (sym (eqZ-yes a b h) ∙ e) 0
+eqZ-false a b e h = true≢false (sym (eqZ-yes a b h) ∙ e)
 
--- a < b is the failure of b ≤ a
-lt-nle : (a b : ℤ) → ltZ a b ≡ not (leZ b a)
-lt-nle (pos a) (pos b) = go (leb b a) (λ e. leb-true b a e) (λ e. leb-false b a e)
-  where
-    go : (t : Bool) → (t ≡ true → b ≤ a) → (t ≡ false → a < b) → ltb a b ≡ not t
-    go true f g = le-ltb a b (f refl)
-    go false f g = lt-ltb a b (g refl)
-lt-nle (pos a) (negsuc b) = refl
-lt-nle (negsuc a) (pos b) = refl
-lt-nle (negsuc a) (negsuc b) = go (leb a b) (λ e. leb-true a b e) (λ e. leb-false a b e)
-  where
-    go : (t : Bool) → (t ≡ true → a ≤ b) → (t ≡ false → b < a) → ltb b a ≡ not t
-    go true f g = le-ltb b a (f refl)
-    go false f g = lt-ltb b a (g refl)
+-- a < b is the failure of b ≤ a, of naturals and of whole numbers
+ltb-not : (a b : ℕ) → ltb a b ≡ not (leb b a)
+ltb-not a b = cases (leb b a) (λ t. le-ltb a b (leb-true b a t) ∙ simp t) (λ t. lt-ltb a b (leb-false b a t) ∙ simp t)
+
+ltZ-not : (a b : ℤ) → ltZ a b ≡ not (leZ b a)
+ltZ-not (pos a) (pos b) = ltb-not a b
+ltZ-not (pos a) (negsuc b) = refl
+ltZ-not (negsuc a) (pos b) = refl
+ltZ-not (negsuc a) (negsuc b) = ltb-not b a
 
 pub ltZ-true : (a b : ℤ) → ltZ a b ≡ true → leZ b a ≡ false
-ltZ-true a b e = not-true (leZ b a) (sym (lt-nle a b) ∙ e)
+ltZ-true a b e = not-true (leZ b a) (sym (ltZ-not a b) ∙ e)
 
 pub ltZ-false : (a b : ℤ) → ltZ a b ≡ false → leZ b a ≡ true
-ltZ-false a b e = not-false (leZ b a) (sym (lt-nle a b) ∙ e)
+ltZ-false a b e = not-false (leZ b a) (sym (ltZ-not a b) ∙ e)
 
 -- from lo to hi, looked at from below
 module _ (lo hi z : ℤ) where
@@ -146,10 +128,6 @@ neg-mag a = go (negℤ a) (up-neg a) (dn-neg a)
 mag-difference : (a b : ℤ) → mag (a -ℤ b) ≤ mag a + mag b + 2
 mag-difference a b = omega (arith, mag-sum a (negℤ b), neg-mag b)
 
-pub and-true : (t : Bool) → (t && true) ≡ t
-and-true true = refl
-and-true false = refl
-
 -- a magnitude of at most k + 1, as two comparisons
 pub abs-in : (k : ℕ) (d : ℤ) → leb (natAbs d) (suc k) ≡ (leZ (negsuc k) d && leZ d (pos (suc k)))
 abs-in k (pos n) = refl
@@ -170,23 +148,16 @@ module _ (w : Width) where
   fits-difference a b h = fits (a -ℤ b) (omega (arith, mag-difference a b))
 
   -- equal bits are equal numbers
-  pub eq-bits : (a b : ℤ) → SFits w a → SFits w b → eqb (ofZ w a) (ofZ w b) ≡ eqZ a b
-  eq-bits a b f g = go (eqb (ofZ w a) (ofZ w b)) refl
-    where
-      same : ofZ w a ≡ ofZ w b → a ≡ b
-      same e = sym (toZ-ofZ f) ∙ ap (toZ w) e ∙ toZ-ofZ g
+  module _ (a b : ℤ) (h : mag a < 2 ^ hbits w) (k : mag b < 2 ^ hbits w) where
+    pub is-bits : ofZ w a ≡ ofZ w b → eqZ a b ≡ true
+    is-bits e = eqZ-yes a b (sym (back a h) ∙ ap (toZ w) e ∙ back b k)
 
-      go : (t : Bool) → eqb (ofZ w a) (ofZ w b) ≡ t → t ≡ eqZ a b
-      go true e = sym (eqZ-yes a b (same (eqb-true (ofZ w a) (ofZ w b) e)))
-      go false e = sym (eqZ-no a b (λ q. eqb-false (ofZ w a) (ofZ w b) e (ap (ofZ w) q)))
+    pub not-bits : (ofZ w a ≡ ofZ w b → ⊥) → eqZ a b ≡ false
+    not-bits d = eqZ-no a b (λ e. d (ap (ofZ w) e))
 
-  -- a test of bits is a test of the number
-  pub is-bits : (a b : ℤ) → SFits w a → SFits w b → ofZ w a ≡ ofZ w b → eqZ a b ≡ true
-  is-bits a b f g e = sym (eq-bits a b f g) ∙ eq-eqb _ _ e
+    pub eq-bits : eqb (ofZ w a) (ofZ w b) ≡ eqZ a b
+    eq-bits = cases (eqb (ofZ w a) (ofZ w b)) (λ t. t ∙ sym (is-bits (eqb-true _ _ t))) (λ t. t ∙ sym (not-bits (eqb-false _ _ t)))
 
-  pub not-bits : (a b : ℤ) → SFits w a → SFits w b → (ofZ w a ≡ ofZ w b → ⊥) → eqZ a b ≡ false
-  not-bits a b f g e = sym (eq-bits a b f g) ∙ ne-eqb _ _ e
-
--- a value that was cast to a wider type and read back
+-- a value that was cast to another width and read back
 pub cast-back : (v w : Width) (z : ℤ) → mag z < 2 ^ hbits v → mag z < 2 ^ hbits w → toZ w (ofZ w (toZ v (ofZ v z))) ≡ z
 cast-back v w z h k = ap (λ (y : ℤ). toZ w (ofZ w y)) (back v z h) ∙ back w z k

@@ -6,7 +6,7 @@ use mathlib.Core.Bool.{true, false}
 use mathlib.Core.List.{List}
 use native.Mathlib.Omega.{arith}
 use lib.Dec.{ltb}
-use lib.ListN.{length}
+use lib.ListN.{length, List·getD-append}
 use borrow.Author.Tests.{ltb-true, ltb-false}
 use Rattle.machine.specs.declared.State.{State}
 use Rattle.machine.specs.Geometry.{eqZ}
@@ -25,8 +25,8 @@ use Rattle.panel.specs.Panel.{panelStep}
 use Rattle.panel.specs.Claims.{FoulExactly, ServiceIsStep, RefusedKeeps, RunNotFoul, ServiceNotFoul, ServedAsRun, ServedOneWay}
 use Rattle.panel.specs.Claims.{ListFoulExactly, ListShortExactly, ListDoneExactly, Listed, ListWrites, ListRefusedKeeps}
 use Rattle.panel.specs.Rows.{RangeRows}
-use Rattle.panel.proofs.Services.{foul-step, fine-step, foul-list, short-list, long-list}
-use Rattle.panel.proofs.Filled.{list-long, list-kept, list-written, long-written, front-written, rest-written}
+use Rattle.panel.proofs.Services.{foul-step, fine-step, foul-list, short-list, long-list, list-number}
+use Rattle.panel.proofs.Filled.{list-long, list-kept, list-written, long-written, rest-written}
 
 -- ---- in range or foul
 fine : {s : State} → StateInRange s → stateOk s ≡ true
@@ -63,9 +63,6 @@ foul-exactly s l = (
   (λ h. either s (λ k. absurd (h k)) (λ e. sym (ap (λ (t : Stepped). t .number) (foul-step s l e)))),
 )
 
-list-number : {a b : Served} → a ≡ b → a .number ≡ b .number
-list-number e = ap (λ (a : Served). a .number) e
-
 pub list-short-exactly : ListShortExactly
 list-short-exactly s n h = (
   (λ e. cases (ltb n 10) (λ t. ltb-true n 10 t) (λ t. absurd (omega (arith, e, list-number (long-list s n (fine h) (ltb-false n 10 t)))))),
@@ -99,9 +96,9 @@ pub list-writes : ListWrites
 list-writes s list ten e =
     let enough : length (s .carriers) ≤ length list = omega (arith, ten, list-long s (length list) e) in
     subst (Listed s list) (list-written s list ten e) (record {
-      long = long-written inactive (s .carriers) list enough;
-      carriers = λ k h j. front-written inactive (s .carriers) _ (k - 1) (omega (arith, ten));
-      later = λ i h. rest-written inactive (s .carriers) list i (omega (arith, ten)) enough;
+      long = long-written (s .carriers) list enough;
+      carriers = λ k h j. List·getD-append (s .carriers) _ inactive (k - 1) (omega (arith, ten));
+      later = λ i h. rest-written inactive (s .carriers) list i (omega (arith, ten));
     })
 
 pub range-rows : RangeRows

@@ -1,20 +1,19 @@
 -- The carrier list as a loop fills it, entry by entry, and as it is defined. Assumes nothing.
-use Prim.Native.Nat.{ℕ, zero, suc, _<_, _≤_}
+use borrow.Table.Steps.{cases}
+use Prim.Native.Nat.{ℕ, zero, suc, _+_, _-_, _<_, _≤_}
 use mathlib.Core.Path.{_≡_, refl, sym, ap, _∙_}
-use mathlib.Core.Bool.{Bool, true, false}
 use mathlib.Core.List.{List, [], _∷_, _++_}
 use native.Mathlib.Omega.{arith}
 use lib.Dec.{ltb}
 use lib.ListN.{length, getD, set, take, drop, length-set}
-use lib.Seq.{take-all}
+use lib.Seq.{take-all, length-front, length-take-le, getD-append-add, getD-drop}
 use borrow.Author.Tests.{eq-eqb, ne-eqb, ltb-true, ltb-false}
 use Rattle.machine.specs.declared.State.{State}
 use Rattle.machine.specs.declared.Carrier.{Carrier}
 use Rattle.machine.specs.Machine.{inactive}
 use Rattle.machine.specs.Range.{stateOk}
-use Rattle.panel.specs.declared.Served.{Served}
 use Rattle.panel.specs.Panel.{listAnswer, carrierList}
-use Rattle.panel.proofs.Services.{foul-list, short-list}
+use Rattle.panel.proofs.Services.{foul-list, short-list, list-number}
 
 -- ---- a list whose first i entries were made those of another, one after the other
 module _ {X : Type 0} (d : X) where
@@ -36,35 +35,23 @@ module _ {X : Type 0} (d : X) where
   filled-is from list zero h k = refl
   filled-is from list (suc i) h k = ap (λ (l : List X). set l i (getD from i d)) (filled-is from list i (omega arith) (omega arith)) ∙ one-more from list i h k
 
-  -- a list that was written over another's front: its length, its front, its rest
+-- a list that was written over another's front: its length, its rest
+module _ {X : Type 0} where
   pub long-written : (from list : List X) → length from ≤ length list → length (from ++ drop (length from) list) ≡ length list
-  long-written [] list k = refl
-  long-written (x ∷ from) [] k = absurd (omega arith)
-  long-written (x ∷ from) (y ∷ list) k = ap suc (long-written from list (omega arith))
+  long-written from list k = length-front list from (length from) (sym (length-take-le (length from) list k))
 
-  pub front-written : (from rest : List X) (i : ℕ) → i < length from → getD (from ++ rest) i d ≡ getD from i d
-  front-written [] rest i h = absurd (omega arith)
-  front-written (x ∷ from) rest zero h = refl
-  front-written (x ∷ from) rest (suc i) h = front-written from rest i (omega arith)
-
-  pub rest-written : (from list : List X) (i : ℕ) → length from ≤ i → length from ≤ length list → getD (from ++ drop (length from) list) i d ≡ getD list i d
-  rest-written [] list i h k = refl
-  rest-written (x ∷ from) [] i h k = absurd (omega arith)
-  rest-written (x ∷ from) (y ∷ list) zero h k = absurd (omega arith)
-  rest-written (x ∷ from) (y ∷ list) (suc i) h k = rest-written from list i (omega arith) (omega arith)
+  pub rest-written : (d : X) (from list : List X) (i : ℕ) → length from ≤ i → getD (from ++ drop (length from) list) i d ≡ getD list i d
+  rest-written d from list i h =
+      let n = length from in
+      let e : i ≡ n + (i - n) = omega arith in
+      ap (λ (j : ℕ). getD (from ++ drop n list) j d) e ∙ getD-append-add from (drop n list) (i - n) d ∙ getD-drop n list (i - n) d ∙ ap (λ (j : ℕ). getD list j d) (sym e)
 
 -- ---- the list of a call that is done, and of one that is refused
 module _ (s : State) where
   pub list-long : (n : ℕ) → listAnswer s n .number ≡ 0 → 10 ≤ n
-  list-long n e = ranged (stateOk s) refl
-    where
-      counted : stateOk s ≡ true → (t : Bool) → ltb n 10 ≡ t → 10 ≤ n
-      counted h true f = absurd (omega (arith, ap (λ (a : Served). a .number) (short-list s n h (ltb-true n 10 f)), e))
-      counted h false f = ltb-false n 10 f
-
-      ranged : (t : Bool) → stateOk s ≡ t → 10 ≤ n
-      ranged true h = counted h (ltb n 10) refl
-      ranged false h = absurd (omega (arith, ap (λ (a : Served). a .number) (foul-list s n h), e))
+  list-long n e =
+      cases (stateOk s) (λ h. cases (ltb n 10) (λ t. absurd (omega (arith, list-number (short-list s n h (ltb-true n 10 t)), e))) (ltb-false n 10))
+      (λ h. absurd (omega (arith, list-number (foul-list s n h), e)))
 
   module _ (list : List Carrier) where
     pub list-written : length (s .carriers) ≡ 10 → listAnswer s (length list) .number ≡ 0 → s .carriers ++ drop (length (s .carriers)) list ≡ carrierList s list

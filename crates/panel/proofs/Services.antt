@@ -1,12 +1,13 @@
--- The services' answers by what was looked at. Assumes nothing.
+-- The services' answers by what was looked at: the state's range, then the count. Assumes nothing.
 use Prim.Native.Nat.{ℕ, _≤_, _<_}
-use mathlib.Core.Path.{_≡_}
+use mathlib.Core.Path.{_≡_, ap}
 use mathlib.Core.Bool.{true, false}
 use mathlib.Core.List.{List}
 use borrow.Author.Tests.{lt-ltb, le-ltb}
 use Rattle.machine.specs.declared.State.{State}
 use Rattle.machine.specs.Range.{stateOk}
 use Rattle.run.specs.Run.{stay, stepOf}
+use Rattle.panel.specs.declared.Served.{Served}
 use Rattle.panel.specs.Panel.{panelStep, listAnswer}
 
 module _ (s : State) (l : List ℕ) where
@@ -31,3 +32,6 @@ module _ (s : State) (n : ℕ) where
     pub long-list : 10 ≤ n → listAnswer s n ≡ record { number = 0; length = 10 }
     unfolding listAnswer
     long-list h = simp (e, le-ltb n 10 h)
+
+pub list-number : {a b : Served} → a ≡ b → a .number ≡ b .number
+list-number e = ap (λ (a : Served). a .number) e

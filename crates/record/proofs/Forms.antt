@@ -1,4 +1,4 @@
--- Decoding against the form of a record: what was decoded is the form at the front of the bytes, and a form decodes to its record. Assumes nothing.
+-- Decoding against the form of a record, the bytes that encode it: what was decoded is the form at the front of the bytes, and a form decodes to its record. Assumes nothing.
 use Prim.Native.Nat.{ℕ, zero, suc, _+_, _-_, _≤_, _<_}
 use mathlib.Core.Path.{_≡_, refl, sym, ap, subst, _∙_}
 use mathlib.Core.Bool.{Bool, true, false, _&&_, cond}
@@ -18,7 +18,7 @@ use Rattle.record.specs.declared.Decoded.{Decoded}
 use Rattle.record.specs.Format.{Encodes, sizeOf, signedOf, rackOk, needleOk, workOk, needle, rackRecord, dropRecord, xferRecord, workRecord, splitRecord}
 use Rattle.record.specs.Format.{byte, refusedAs, ranged, whole, decodeOf}
 use Rattle.record.specs.Names.{needleCount}
-use Rattle.record.proofs.Ranges.{InRange}
+use Rattle.record.proofs.Ranges.{InRange, work-size, work-read}
 use Rattle.record.proofs.Ranges.{needle-bed, needle-number, work-right, work-bed, work-number, work-low, work-high}
 
 -- a choice by a test
@@ -51,8 +51,8 @@ form-decode (Encodes.rack {b = b} h) rest = past (1 ∷ b ∷ []) rest _ _ (omeg
 form-decode (Encodes.drop {bed = bed} {n = n} h i) rest = past (2 ∷ bed ∷ n ∷ []) rest _ _ (omega arith) (needle-in bed n h i)
 form-decode (Encodes.xfer {bed = bed} {n = n} {m = m} h i j) rest = past (3 ∷ bed ∷ n ∷ m ∷ []) rest _ _ (omega arith) (simp (needle-in bed n h i) (le-leb m 249 j))
 form-decode (Encodes.work {kind = kind} {right = right} {bed = bed} {n = n} {k = k} a b c d e f g) rest =
-    simp (ne-eqb kind 1 (λ q. omega arith), ne-eqb kind 2 (λ q. omega arith), ne-eqb kind 3 (λ q. omega arith), le-leb 4 kind a, le-leb kind 8 b)
-    (past (kind ∷ right ∷ bed ∷ n ∷ k ∷ []) rest _ _ (omega arith) (work-in right bed n k c d e f g))
+    let bytes = kind ∷ right ∷ bed ∷ n ∷ k ∷ [] in
+    simp (work-read kind a b (bytes ++ rest)) (past bytes rest _ _ (omega arith) (work-in right bed n k c d e f g))
 form-decode (Encodes.split {right = right} {bed = bed} {n = n} {k = k} {m = m} c d e f g h) rest =
     past (9 ∷ right ∷ bed ∷ n ∷ k ∷ m ∷ []) rest _ _ (omega arith) (simp (work-in right bed n k c d e f g) (le-leb m 249 h))
 
@@ -103,8 +103,7 @@ unfolding sizeOf
 fields-size (Fields.one e) = simp e
 fields-size (Fields.two e) = simp e
 fields-size (Fields.three e) = simp e
-fields-size {l} (Fields.middle a b) =
-    simp (ne-eqb (byte l 0) 1 (λ q. omega arith), ne-eqb (byte l 0) 2 (λ q. omega arith), ne-eqb (byte l 0) 3 (λ q. omega arith), le-leb 4 (byte l 0) a, le-leb (byte l 0) 8 b)
+fields-size {l} (Fields.middle a b) = work-size (byte l 0) a b
 fields-size (Fields.nine e) = simp e
 
 pub fields-positive : {l : List ℕ} {size : ℕ} {ok : Bool} {x : Record} → Fields l size ok x → 0 < size
@@ -120,8 +119,7 @@ unfolding decodeOf
 fields-decode {l} (Fields.one e) h = simp (ne-eqb (length l) 0 (λ q. omega arith), e)
 fields-decode {l} (Fields.two e) h = simp (ne-eqb (length l) 0 (λ q. omega arith), e)
 fields-decode {l} (Fields.three e) h = simp (ne-eqb (length l) 0 (λ q. omega arith), e)
-fields-decode {l} (Fields.middle a b) h =
-    simp (ne-eqb (length l) 0 (λ q. omega arith), ne-eqb (byte l 0) 1 (λ q. omega arith), ne-eqb (byte l 0) 2 (λ q. omega arith), ne-eqb (byte l 0) 3 (λ q. omega arith), le-leb 4 (byte l 0) a, le-leb (byte l 0) 8 b)
+fields-decode {l} (Fields.middle a b) h = simp (ne-eqb (length l) 0 (λ q. omega arith)) (work-read (byte l 0) a b l)
 fields-decode {l} (Fields.nine e) h = simp (ne-eqb (length l) 0 (λ q. omega arith), e)
 
 -- the front of a list has its bytes

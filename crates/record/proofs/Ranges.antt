@@ -1,7 +1,8 @@
 -- What the range tests say, and what holds of every record that bytes encode. Assumes nothing.
 use Prim.Native.Nat.{ℕ, _≤_}
-use mathlib.Core.Path.{_≡_, _∙_}
+use mathlib.Core.Path.{_≡_}
 use mathlib.Core.Bool.{true, _&&_}
+use mathlib.Core.List.{List}
 use native.Mathlib.Omega.{arith}
 use lib.Dec.{leb}
 use borrow.Author.Tests.{leb-true, le-leb, ne-eqb}
@@ -10,7 +11,7 @@ use Rattle.machine.proofs.Ranges.{bed-is}
 use Rattle.machine.specs.Machine.{OnBed, hookOf}
 use Rattle.record.specs.declared.Record.{Record}
 use Rattle.record.specs.Names.{needleCount}
-use Rattle.record.specs.Format.{sizeOf, needleOk, workOk, needle}
+use Rattle.record.specs.Format.{sizeOf, needleOk, workOk, needle, whole, workAt, readAt}
 
 pub needle-bed : (bed n : ℕ) → needleOk bed n ≡ true → bed ≤ 1
 unfolding needleOk
@@ -23,11 +24,11 @@ needle-number bed n e = omega (arith, bed-is (needle bed n) e .number)
 module _ (right bed n k : ℕ) (e : workOk right bed n k ≡ true) where
   pub work-right : right ≤ 1
   unfolding workOk
-  work-right = leb-true right 1 (and-two (leb right 1) (needleOk bed n && (leb 1 k && leb k 10)) e .0)
+  work-right = leb-true right 1 (and-two (leb right 1) _ e .0)
 
   work-rest : (needleOk bed n ≡ true) × ((leb 1 k && leb k 10) ≡ true)
   unfolding workOk
-  work-rest = and-two (needleOk bed n) (leb 1 k && leb k 10) (and-two (leb right 1) (needleOk bed n && (leb 1 k && leb k 10)) e .1)
+  work-rest = and-two (needleOk bed n) _ (and-two (leb right 1) _ e .1)
 
   pub work-bed : bed ≤ 1
   work-bed = needle-bed bed n (work-rest .0)
@@ -36,19 +37,22 @@ module _ (right bed n k : ℕ) (e : workOk right bed n k ≡ true) where
   work-number = needle-number bed n (work-rest .0)
 
   pub work-low : 1 ≤ k
-  work-low = leb-true 1 k (and-two (leb 1 k) (leb k 10) (work-rest .1) .0)
+  work-low = leb-true 1 k (and-two (leb 1 k) _ (work-rest .1) .0)
 
   pub work-high : k ≤ 10
-  work-high = leb-true k 10 (and-two (leb 1 k) (leb k 10) (work-rest .1) .1)
+  work-high = leb-true k 10 (and-two (leb 1 k) _ (work-rest .1) .1)
 
 pub four : (k : ℕ) → 1 ≤ k → (k ≡ 1 → ⊥) → (k ≡ 2 → ⊥) → (k ≡ 3 → ⊥) → 4 ≤ k
 four k h a b d = omega arith
 
--- kinds 4 to 8 have a four-byte body
-pub work-size : (k : ℕ) {n : ℕ} → 4 ≤ k → k ≤ 8 → n ≡ sizeOf k → n ≡ 5
-unfolding sizeOf
-work-size k h j e =
-    e ∙ simp (ne-eqb k 1 (λ q. omega arith), ne-eqb k 2 (λ q. omega arith), ne-eqb k 3 (λ q. omega arith), le-leb 4 k h, le-leb k 8 j)
+-- kinds 4 to 8 have a four-byte body, and are read as one
+module _ (k : ℕ) (h : 4 ≤ k) (j : k ≤ 8) where
+  pub work-size : sizeOf k ≡ 5
+  unfolding sizeOf
+  work-size = simp (ne-eqb k 1 (λ q. omega arith), ne-eqb k 2 (λ q. omega arith), ne-eqb k 3 (λ q. omega arith), le-leb 4 k h, le-leb k 8 j)
+
+  pub work-read : (l : List ℕ) → readAt k l ≡ whole l 5 (workAt k l)
+  work-read l = simp (ne-eqb k 1 (λ q. omega arith), ne-eqb k 2 (λ q. omega arith), ne-eqb k 3 (λ q. omega arith), le-leb 4 k h, le-leb k 8 j)
 
 -- what holds of every record that bytes encode
 pub record InRange (x : Record) : Type 0 where

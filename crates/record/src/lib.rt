@@ -66,6 +66,7 @@ fn byte(l: &[u8], i: usize) -> u8
     l[i]
 }
 
+// A refusal: length 0, and 0 in every field of the record.
 fn refused(number: u8) -> Decoded
     ensures { λ d. ⌜ d ≡ refusedAs number ⌝ }
 {
@@ -113,6 +114,7 @@ fn rack(l: &[u8]) -> Decoded
     }
 }
 
+// Whether the machine has the needle.
 fn needle_ok(bed: u8, n: u8) -> bool
     ensures { λ b. ⌜ b ≡ needleOk bed n ⌝ }
 {
@@ -120,6 +122,7 @@ fn needle_ok(bed: u8, n: u8) -> bool
     a.on_bed()
 }
 
+// Whether direction, needle and carrier are in range.
 fn work_ok(right: u8, bed: u8, n: u8, k: u8) -> bool
     ensures { λ b. ⌜ b ≡ workOk right bed n k ⌝ }
 {
@@ -302,6 +305,7 @@ pub fn decode(l: &[u8]) -> Decoded
     }
 }
 
+// A record by its kind, first needle and carrier; the other fields are 0.
 fn outlined(kind: u8, at: Needle, carrier: u8) -> Record
     ensures { λ x. ⌜ x ≡ outlineAt kind at carrier ⌝ }
 {

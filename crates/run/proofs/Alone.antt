@@ -1,13 +1,10 @@
 -- The run of one record alone is its step. Assumes nothing.
-use borrow.Table.Steps.{cases}
 use Prim.Native.Nat.{ℕ, suc, _+_, _≤_}
 use mathlib.Core.Path.{_≡_, refl, sym, ap, subst, _∙_}
 use mathlib.Core.List.{List, []}
 use native.Mathlib.Omega.{arith}
 use lib.ListN.{length, drop, take}
 use lib.Seq.{drop-length, length-take-le}
-use lib.Dec.{eqb}
-use borrow.Author.Tests.{eqb-true, eqb-false}
 use Rattle.machine.specs.declared.State.{State}
 use Rattle.record.specs.declared.Decoded.{Decoded}
 use Rattle.record.specs.Format.{byte, sizeOf, refusedAs, decodeOf}
@@ -16,6 +13,7 @@ use Rattle.run.specs.declared.Reached.{Reached}
 use Rattle.run.specs.declared.Stepped.{Stepped}
 use Rattle.run.specs.Step.{numberAt, applyOf}
 use Rattle.run.specs.Run.{reached, runFrom, stay, stepOf}
+use Rattle.run.proofs.Premises.{is}
 use Rattle.run.proofs.Turns.{unread-step, refused-step, made-step, run-end, run-refused, run-stopped, run-next}
 
 -- ---- bytes that are no record
@@ -69,11 +67,7 @@ module _ (s : State) (l : List ℕ) (n : ℕ) (size : n ≡ sizeOf (byte l 0)) (
     passes h = rw (run-passes h, step-passes h) Both.passed
 
   both : Both (runFrom 0 q 0 s) (stepOf s l)
-  both =
-      cases (eqb (decodeOf l .number) 0)
-      (λ k. let z = eqb-true (decodeOf l .number) 0 k in
-      cases (eqb (numberAt s (decodeOf l .what)) 0) (λ h. passes z (eqb-true (numberAt s (decodeOf l .what)) 0 h)) (λ h. stops z (eqb-false (numberAt s (decodeOf l .what)) 0 h)))
-      (λ k. unread (eqb-false (decodeOf l .number) 0 k))
+  both = is (decodeOf l .number) 0 (λ k. is (numberAt s (decodeOf l .what)) 0 (passes k) (stops k)) unread
 
   stopped : {r : Reached} {t : Stepped} → Both r t → (r .number ≡ 0 → ⊥) → stay (r .number) s ≡ t
   stopped (Both.refused h) e = refl

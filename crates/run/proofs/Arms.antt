@@ -19,7 +19,7 @@ use Rattle.run.specs.Step.{orNumber, parkedNo, numberAt, applyOf}
 use Rattle.run.specs.Loops.{tuckNo, tucked, transferNo, transferredLoops}
 use Rattle.run.proofs.ByKind.{seen, readyNo, rack-number, rack-state, drop-number, drop-state, xfer-number, xfer-state, in-number, in-state, out-number, out-state, miss-number, miss-state, tuck-number, tuck-state, knit-number, knit-state, split-number, split-state}
 
--- the last arm is split's
+-- a kind that is none of 1 to 8 is split's
 pub nine : {x : Record} → InRange x → (x .kind ≡ 1 → ⊥) → (x .kind ≡ 2 → ⊥) → (x .kind ≡ 3 → ⊥) → (x .kind ≡ 4 → ⊥) → (x .kind ≡ 5 → ⊥) → (x .kind ≡ 6 → ⊥)
     → (x .kind ≡ 7 → ⊥) → (x .kind ≡ 8 → ⊥) → x .kind ≡ 9
 nine {x} i n1 n2 n3 n4 n5 n6 n7 n8 = last (x .kind) (seven (x .kind) (four (x .kind) (i .low) n1 n2 n3) n4 n5 n6) (i .high) n7 n8
@@ -29,10 +29,6 @@ nine {x} i n1 n2 n3 n4 n5 n6 n7 n8 = last (x .kind) (seven (x .kind) (four (x .k
 
     last : (k : ℕ) → 7 ≤ k → k ≤ 9 → (k ≡ 7 → ⊥) → (k ≡ 8 → ⊥) → k ≡ 9
     last k h i a b = omega arith
-
--- a carrier's place among the ten
-pub carrier-at : {x : Record} → InRange x → 4 ≤ x .kind → (1 ≤ x .carrier) × (x .carrier ≤ 10)
-carrier-at i h = (i .carrier-low h, i .carrier-high)
 
 -- the loops after a transfer or a tuck, by its number
 module _ (l : List ℕ) (a b : Needle) (r : Racking) (v n : ℕ) (is : n ≡ transferNo l a b r) where

@@ -1,11 +1,12 @@
 -- The step of each kind: the general definition, read at the kind. The run's code and the relation both cite these. Assumes nothing.
+use borrow.Table.Steps.{cases}
 use Prim.Native.Nat.{ℕ, _+_, _-_}
 use mathlib.Core.Path.{_≡_, refl, sym, ap, _∙_}
 use mathlib.Core.Bool.{Bool, true, false, cond}
 use mathlib.Core.List.{List, map}
 use lib.ListN.{set}
 use lib.Seq.{set-set, set-comm}
-use lib.Dec.{eqb, leb}
+use lib.Dec.{eqb}
 use borrow.Author.Tests.{eqb-true}
 use Rattle.machine.specs.declared.State.{State}
 use Rattle.machine.specs.Machine.{inactive, hookOf, loopsOn, carrierOf, movedTo}
@@ -18,11 +19,12 @@ use Rattle.run.specs.Loops.{tuckNo, transferNo}
 
 -- a number and nothing after it
 pub or-zero : (n : ℕ) → orNumber n 0 ≡ n
-or-zero n = go (eqb n 0) (eqb-true n 0)
-  where
-    go : (b : Bool) → (b ≡ true → n ≡ 0) → cond b 0 n ≡ n
-    go true f = sym (f refl)
-    go false f = refl
+or-zero n = cases (eqb n 0) (λ t. simp t (sym (eqb-true n 0 t))) (λ t. simp t)
+
+-- 10, and what comes after it
+apart-first : (b : Bool) (n : ℕ) → orNumber (cond b 0 10) n ≡ cond b n 10
+apart-first true n = refl
+apart-first false n = refl
 
 module _ (s : State) (x : Record) where
   -- the carrier as the record sees it
@@ -51,11 +53,7 @@ module _ (s : State) (x : Record) where
 
   pub xfer-number : x .kind ≡ 3 → numberAt s x ≡ transferNo (s .loops) (x .at) (x .to) (s .racking)
   unfolding numberAt numberOf carrierNo oppositeNo needleCount roomNo firstAfter secondAfter seeOf transferNo
-  xfer-number e = simp e (go (sameColumn (columnOf (x .at) (s .racking)) (columnOf (x .to) (s .racking))))
-    where
-      go : (b : Bool) → orNumber (cond b 0 10) (cond (leb (loopsOn s (x .at) + loopsOn s (x .to)) 8) 0 11) ≡ cond b (cond (leb (loopsOn s (x .at) + loopsOn s (x .to)) 8) 0 11) 10
-      go true = refl
-      go false = refl
+  xfer-number e = simp e (apart-first (sameColumn (columnOf (x .at) (s .racking)) (columnOf (x .to) (s .racking))) _)
 
   pub xfer-state : x .kind ≡ 3 → applyOf s x ≡ transferred s (x .at) (x .to)
   unfolding applyOf rackingAfter edit needlesOf needleCount carriersOf carrierCount moveAttachments firstAfter secondAfter
@@ -103,11 +101,7 @@ module _ (s : State) (x : Record) where
 
   pub split-number : x .kind ≡ 9 → numberAt s x ≡ orNumber readyNo (transferNo (s .loops) (x .at) (x .to) (s .racking))
   unfolding numberAt numberOf carrierNo oppositeNo needleCount roomNo firstAfter secondAfter seeOf transferNo
-  split-number e = simp e (ap (orNumber readyNo) (go (sameColumn (columnOf (x .at) (s .racking)) (columnOf (x .to) (s .racking)))))
-    where
-      go : (b : Bool) → orNumber (cond b 0 10) (cond (leb (loopsOn s (x .at) + loopsOn s (x .to)) 8) 0 11) ≡ cond b (cond (leb (loopsOn s (x .at) + loopsOn s (x .to)) 8) 0 11) 10
-      go true = refl
-      go false = refl
+  split-number e = simp e (ap (orNumber readyNo) (apart-first (sameColumn (columnOf (x .at) (s .racking)) (columnOf (x .to) (s .racking))) _))
 
   -- a split as code stores it, and as the relation says it
   abbrev splitState : State

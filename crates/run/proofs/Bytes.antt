@@ -75,7 +75,7 @@ bytes-least (Reads.outside f b c) h (Reason.field-range q a) = omega arith
 bytes-least (Reads.outside f b c) h (Reason.of-record bytes rest x q form r) = omega (arith, reason-above r)
 bytes-least (Reads.done f b c) h r = absurd (h refl)
 
--- a form at the front is what is decoded
+-- a form (the bytes that encode a record) at the front is what is decoded
 front-decode : {l bytes : List ℕ} {x : Record} (rest : List ℕ) → l ≡ bytes ++ rest → Encodes bytes x → decodeOf l ≡ record { number = 0; size = length bytes; what = x }
 front-decode rest e form = ap decodeOf e ∙ form-decode form rest
 

@@ -1,10 +1,11 @@
 -- The number of the step is the least of the reasons that hold. Assumes nothing.
+use borrow.Table.Steps.{cases}
 use Prim.Native.Nat.{ℕ, _≤_, _<_}
-use mathlib.Core.Path.{_≡_, refl, sym, ap, _∙_}
-use mathlib.Core.Bool.{Bool, true, false, cond}
+use mathlib.Core.Path.{_≡_, sym, ap, _∙_}
+use mathlib.Core.Bool.{cond}
 use native.Mathlib.Omega.{arith}
 use lib.Dec.{eqb}
-use borrow.Author.Tests.{eqb-false, ne-eqb}
+use borrow.Author.Tests.{ne-eqb}
 use Rattle.machine.specs.declared.Slot.{Slot}
 use Rattle.machine.specs.declared.State.{State}
 use Rattle.machine.specs.Machine.{loopsOn}
@@ -19,11 +20,7 @@ use Rattle.run.proofs.ByKind.{or-zero, seen, readyNo, xfer-number, in-n
 use Rattle.run.proofs.Premises.{up, or-first, or-le, or-some, parked-off, parked-elsewhere, parked-le, in-six, float-over, float-le, tuck-full, carrier, moveNo, move-apart, move-some, move-le}
 
 or-assoc : (a b n : ℕ) → orNumber (orNumber a b) n ≡ orNumber a (orNumber b n)
-or-assoc a b n = go (eqb a 0) (eqb-false a 0)
-  where
-    go : (t : Bool) → (t ≡ false → a ≡ 0 → ⊥) → orNumber (cond t b a) n ≡ cond t (orNumber b n) a
-    go true f = refl
-    go false f = or-first a n (f refl)
+or-assoc a b n = cases (eqb a 0) (λ t. simp t) (λ t. simp t)
 
 positive : (n : ℕ) → (n ≡ 0 → ⊥) → 0 < n
 positive n h = omega arith

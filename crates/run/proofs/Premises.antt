@@ -44,16 +44,10 @@ or-some a b h = cond-cases (λ (n : ℕ). n ≡ 0 → ⊥) (eqb a 0) (λ t. h) (
 
 -- ---- each test of the step, by its premise
 slot-same : (a b : Slot) → a .0 ≡ b .0 → a ≡ b
-slot-same a b e = ap slot e
-  where
-    slot : ℤ → Slot
-    slot z = record { 0 = z }
+slot-same a b e = ap {B = Slot} (λ (z : ℤ). record { 0 = z }) e
 
 column-same : (a b : Column) → a .0 ≡ b .0 → a ≡ b
-column-same a b e = ap column e
-  where
-    column : ℤ → Column
-    column z = record { 0 = z }
+column-same a b e = ap {B = Column} (λ (z : ℤ). record { 0 = z }) e
 
 -- what a carrier answers: 0 and its premise, or a number and why
 module _ (r : Racking) (c : Carrier) where

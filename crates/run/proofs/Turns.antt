@@ -27,14 +27,8 @@ unfolding runFrom
 run-end at s = refl
 
 skip-cons : (n b : ℕ) (l : List ℕ) (at : ℕ) (s : State) → 0 < n → runFrom (n - 1) l at s ≡ runFrom 0 (drop n (b ∷ l)) at s
-skip-cons zero b l at s h = absurd (none h)
-  where
-    none : 0 < 0 → ⊥
-    none h = omega arith
-skip-cons (suc n) b l at s h = ap (λ (k : ℕ). runFrom k l at s) less ∙ run-skip n l at s
-  where
-    less : suc n - 1 ≡ n
-    less = omega arith
+skip-cons zero b l at s h = absurd (omega arith)
+skip-cons (suc n) b l at s h = let e : suc n - 1 ≡ n = omega arith in ap (λ (k : ℕ). runFrom k l at s) e ∙ run-skip n l at s
 
 -- ---- a step's three ends
 module _ (s : State) (l : List ℕ) where

@@ -83,8 +83,8 @@ abbrev stayed : Stays (f.ended .signature .params) (f.ended .kept)
 stayed = (stay-none (λ _. T.the-row) yes, (stay-slice (0 ∷ []) tt (plain (λ _. E.the-row)), tt))
 
 -- the contracts that the proof cites
-abbrev Answer : {M : Type 1} (𝓤 : URA M) (H : Heap 𝓤) (A : Atoms 𝓤) (mem : Memory → SProp 𝓤) (run : Routine → Fun 𝓤) → Contract 𝓤
-Answer 𝓤 H A mem run = tripleOf 𝓤 H A ans.signature (ans.spec 𝓤 H A mem run)
+abbrev ListAnswer : {M : Type 1} (𝓤 : URA M) (H : Heap 𝓤) (A : Atoms 𝓤) (mem : Memory → SProp 𝓤) (run : Routine → Fun 𝓤) → Contract 𝓤
+ListAnswer 𝓤 H A mem run = tripleOf 𝓤 H A ans.signature (ans.spec 𝓤 H A mem run)
 
 abbrev CarrierAt : {M : Type 1} (𝓤 : URA M) (H : Heap 𝓤) (A : Atoms 𝓤) (mem : Memory → SProp 𝓤) (run : Routine → Fun 𝓤) → Contract 𝓤
 CarrierAt 𝓤 H A mem run = tripleOf 𝓤 H A car.signature (car.spec 𝓤 H A mem run)
@@ -131,17 +131,17 @@ module _ {M : Type 1} (𝓤 : URA M) (H : Heap 𝓤) (A : Atoms 𝓤) (W : Given
   abbrev Post : Val → SProp 𝓤
   Post = walkOf 𝓤 H A f.ended stayed (f.clauses 𝓤 H A at-mem run) .post (((κ, tt), (q, tt), tt, x, at), tt)
 
-  -- the call of `answer`
-  abbrev to-ans : Answer 𝓤 H A at-mem run .Ghost
+  -- the call of `panel::list_answer`
+  abbrev to-ans : ListAnswer 𝓤 H A at-mem run .Ghost
   to-ans = ((tt, tt, tt, (h, (n, tt)), (state-val h ∷ [], (vint w64 n ∷ [], tt))), tt)
 
-  asks-ans : ent 𝓤 (emp 𝓤) (Answer 𝓤 H A at-mem run .pre to-ans)
+  asks-ans : ent 𝓤 (emp 𝓤) (ListAnswer 𝓤 H A at-mem run .pre to-ans)
   asks-ans = qed W [] ∵ nothing ! $ owned ! usize (Is usize) (uint-makes 𝓤 H A W w64) n _ (refl, space .0) $ fjoin ! $ owned ! T.the-row (Is T.the-row) (LL.makes T.the-type T′.the-plain 𝓤 H A) h _ was $ fjoin ! $ nothing ! $ join ! $ frame ! $ done !
 
   ans-said : (r : Served) → ent 𝓤 (ensured 𝓤 H A ans.ended (ans.clauses 𝓤 H A at-mem run) tt (h, (n, tt)) tt r) (fact 𝓤 (r ≡ listAnswer h n))
   ans-said r = exE 𝓤 _ (λ ws. snd∗ 𝓤 (sem 𝓤 H A (lasts ans.ended tt (h, (n, tt)) ws)) (fact 𝓤 (r ≡ listAnswer h n)))
 
-  -- the call of `carrier_at`
+  -- the call of `panel::carrier_at`
   abbrev to-car : ℕ → CarrierAt 𝓤 H A at-mem run .Ghost
   to-car i = ((tt, tt, tt, (h, (i, tt)), (state-val h ∷ [], (vint w64 i ∷ [], tt))), tt)
 
@@ -308,7 +308,7 @@ module _ {M : Type 1} (𝓤 : URA M) (H : Heap 𝓤) (A : Atoms 𝓤) (W : Given
           finish xs refl (list-kept h xs (λ z. T-not (eqb (r .number) 0) bad (subst Holds (sym (eq-eqb (r .number) 0 (ap (λ (t : Served). t .number) e ∙ z))) tt))))
 
   -- the MIR up to the branch
-  module _ (𝓣 : Tables 𝓤 H) (known-ans : Triple 𝓤 (𝓣 .C #panel·list-answer) (Answer 𝓤 H A at-mem run)) (known-car : Triple 𝓤 (𝓣 .C #panel·carrier-at) (CarrierAt 𝓤 H A at-mem run)) where
+  module _ (𝓣 : Tables 𝓤 H) (known-ans : Triple 𝓤 (𝓣 .C #panel·list-answer) (ListAnswer 𝓤 H A at-mem run)) (known-car : Triple 𝓤 (𝓣 .C #panel·carrier-at) (CarrierAt 𝓤 H A at-mem run)) where
     walk : ent 𝓤 (onEntry 𝓤 H A f.signature (κ, tt) (q, tt) x at) (WpFn 𝓤 H (𝓣 .C) (𝓣 .Λ) code.function (state-val h ∷ v ∷ []) Post)
     walk =
         qed W ((‵ (flft κ q) ⊛ ‵ ftrue) ∷ ‵ (owns (T.the-row ∷ MutSlice (named 0) κ E.the-row ∷ []) x at) ∷ []) ∵ enter ! (𝓣 .C) (𝓣 .Λ) code.function (state-val h ∷ v ∷ []) _ $
@@ -317,8 +317,8 @@ module _ {M : Type 1} (𝓤 : URA M) (H : Heap 𝓤) (A : Atoms 𝓤) (W : Given
         move ! (23 ∷ []) $ fsplit ! $ Kit.drop ! $ fsplit ! $ fsplit ! $ Kit.drop ! $ fsplit ! $ move ! (2 ∷ []) $ Kit.drop ! $ move ! (24 ∷ []) $ split ! $ move ! (1 ∷ []) $ Kit.drop ! $ move ! (1 ∷ 2 ∷ 0 ∷ []) $
         -- [obs; the borrow; the token; room for _10; …; room for _3; …; _2; …; _1; …; room for _0; …]
         assigns ! (of-opd ! (load ! (from ! (fld ! refl (stop !))) (look-in ! 19 (sub ! 1 refl (whole !))))) (from ! (stop !)) (init ! 13 refl (tt, record { fits = space .0 })) $
-        use0 W (raw (Answer 𝓤 H A at-mem run .pre to-ans)) asks-ans $
-        calls-at ! (fmOf 𝓤 H (W .laws) 𝓣) (Answer 𝓤 H A at-mem run) known-ans to-ans (and-then ! (load ! (from ! (stop !)) (look ! 22 refl)) (and-then ! (load ! (from ! (stop !)) (look ! 14 refl)) (no-more !))) (λ w.
+        use0 W (raw (ListAnswer 𝓤 H A at-mem run .pre to-ans)) asks-ans $
+        calls-at ! (fmOf 𝓤 H (W .laws) 𝓣) (ListAnswer 𝓤 H A at-mem run) known-ans to-ans (and-then ! (load ! (from ! (stop !)) (look ! 22 refl)) (and-then ! (load ! (from ! (stop !)) (look ! 14 refl)) (no-more !))) (λ w.
         use1 W (later (some (λ (r : Served). (‵ ftrue ⊛ ‵ (L.the-row .own r (w ∷ []))) ⊛ raw (ensured 𝓤 H A ans.ended (ans.clauses 𝓤 H A at-mem run) tt (h, (n, tt)) tt r)))) (id⊢ 𝓤 _) $ await ! tt $ pick ! (λ r.
         split ! $ move ! (1 ∷ []) $ use1 W (raw (fact 𝓤 (r ≡ listAnswer h n))) (ans-said r) $ heard ! (r ≡ listAnswer h n) (λ e. split ! $ Kit.drop ! $
         peeks ! L.the-row (Is L.the-row) (shows 𝓤 H A L.the-row) r (w ∷ []) (λ got. Kit.drop ! $
@@ -327,7 +327,7 @@ module _ {M : Type 1} (𝓤 : URA M) (H : Heap 𝓤) (A : Atoms 𝓤) (W : Given
         parts r e (subst (Is L.the-row r) (LL.tells L.the-type L′.the-laws r _ got) got) 𝓣 l₀ l₁ l₂ l₃ l₄ l₅ l₆ l₇ l₈ l₉ l₁₀ known-car)))))))))))))))
 
 module _ {M : Type 1} (𝓤 : URA M) (H : Heap 𝓤) (A : Atoms 𝓤) (W : Given 𝓤 H A) (mem : Memory → SProp 𝓤) (run : Routine → Fun 𝓤) where
-  list-walks : (𝓣 : Tables 𝓤 H) → Triple 𝓤 (𝓣 .C #panel·list-answer) (Answer 𝓤 H A mem run) → Triple 𝓤 (𝓣 .C #panel·carrier-at) (CarrierAt 𝓤 H A mem run)
+  list-walks : (𝓣 : Tables 𝓤 H) → Triple 𝓤 (𝓣 .C #panel·list-answer) (ListAnswer 𝓤 H A mem run) → Triple 𝓤 (𝓣 .C #panel·carrier-at) (CarrierAt 𝓤 H A mem run)
       → Walks 𝓤 H A f.ended stayed (WpFn 𝓤 H (𝓣 .C) (𝓣 .Λ) code.function) (f.clauses 𝓤 H A mem run)
   list-walks 𝓣 known-ans known-car = walked 𝓤 H A f.ended stayed (f.clauses 𝓤 H A mem run) (WpFn 𝓤 H (𝓣 .C) (𝓣 .Λ) code.function)
       (λ κs. (LL.vals T.the-type T′.the-laws, (slice-vals, tt))) (λ κs. (LL.tells T.the-type T′.the-laws, (mut-slice-tells (named 0) (κs .0) E.the-row, tt)))
@@ -337,7 +337,7 @@ module _ {M : Type 1} (𝓤 : URA M) (H : Heap 𝓤) (A : Atoms 𝓤) (W : Given
   goes = (goes-none 𝓤 H A W 1 (λ _. T.the-row) yes (λ κs x f. refl), (goes-slice 𝓤 H A W 1 0 tt (plain (λ _. E.the-row)), tt))
 
 list-meets : {M : Type 1} (𝓤 : URA M) (H : Heap 𝓤) (A : Atoms 𝓤) → Given 𝓤 H A → (mem : Memory → SProp 𝓤) (run : Routine → Fun 𝓤) (𝓣 : Tables 𝓤 H)
-    → Triple 𝓤 (𝓣 .C #panel·list-answer) (Answer 𝓤 H A mem run) → Triple 𝓤 (𝓣 .C #panel·carrier-at) (CarrierAt 𝓤 H A mem run)
+    → Triple 𝓤 (𝓣 .C #panel·list-answer) (ListAnswer 𝓤 H A mem run) → Triple 𝓤 (𝓣 .C #panel·carrier-at) (CarrierAt 𝓤 H A mem run)
     → Meets 𝓤 H A f.signature (WpFn 𝓤 H (𝓣 .C) (𝓣 .Λ) code.function) (f.spec 𝓤 H A mem run)
 list-meets 𝓤 H A W mem run 𝓣 known-ans known-car =
     walk-meets 𝓤 H A f.ended stayed W (goes 𝓤 H A W mem run) (f.clauses 𝓤 H A mem run)
@@ -349,5 +349,5 @@ list-carriers-spec 𝓤 H 𝓜 𝓖 𝓡 =
     entered 𝓤 H (tripleOf 𝓤 H (𝓖 .A) f.signature (f.spec 𝓤 H (𝓖 .A) (𝓜 .mem) (𝓡 .run)))
     (tables 𝓤 H 𝓜 𝓡 code.env .C) (tables 𝓤 H 𝓜 𝓡 code.env .Λ) #banthewig·list-carriers code.function (code.unfolded 𝓤 H 𝓜 𝓡)
     (list-meets 𝓤 H (𝓖 .A) (givenOf 𝓤 H 𝓜 𝓖) (𝓜 .mem) (𝓡 .run) (tablesOf 𝓤 H 𝓜 (tables 𝓤 H 𝓜 𝓡 code.env))
-    (cited 𝓤 H (Answer 𝓤 H (𝓖 .A) (𝓜 .mem) (𝓡 .run)) 𝓜 𝓡 code.env #panel·list-answer ans-def.routine code.calls-panel·list-answer (ans-thm.met 𝓤 H 𝓜 𝓖 𝓡))
+    (cited 𝓤 H (ListAnswer 𝓤 H (𝓖 .A) (𝓜 .mem) (𝓡 .run)) 𝓜 𝓡 code.env #panel·list-answer ans-def.routine code.calls-panel·list-answer (ans-thm.met 𝓤 H 𝓜 𝓖 𝓡))
     (cited 𝓤 H (CarrierAt 𝓤 H (𝓖 .A) (𝓜 .mem) (𝓡 .run)) 𝓜 𝓡 code.env #panel·carrier-at car-def.routine code.calls-panel·carrier-at (car-thm.met 𝓤 H 𝓜 𝓖 𝓡)))

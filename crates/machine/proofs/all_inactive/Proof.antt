@@ -29,8 +29,8 @@ is-inactive-requires : tie.Need-is-inactive-requires Inv-loop μ-loop
 is-inactive-requires c κs = search needs
 
 returns : tie.Need-returns Inv-loop μ-loop
-returns c = let l = c .before .before .before .before .before .args .t1 in let k = c .before .before .before .before .loop .k in
-    sym (c .before .before .before .before .loop .inv .2 ∙ all-next inactiveCarrier l k inactive (omega arith) ∙ simp (← c .before .is-inactive .ensures, not-true (c .before .is-inactive .result) (c .if1 .taken)))
+returns c = let at = c .before .before .before .before in
+    sym (at .loop .inv .2 ∙ all-next inactiveCarrier (at .before .args .t1) (at .loop .k) inactive (omega arith) ∙ simp (← c .before .is-inactive .ensures, not-true (c .before .is-inactive .result) (c .if1 .taken)))
 
 add-k : tie.Need-add-k Inv-loop μ-loop
 add-k c = search needs
@@ -39,24 +39,13 @@ loop-less : tie.Need-loop-less Inv-loop μ-loop
 loop-less c = omega arith
 
 loop-again : tie.Need-loop-again Inv-loop μ-loop
-loop-again c = let l = c .before .before .before .before .before .args .t1 in let k = c .before .before .before .before .loop .k in
-    (search needs, c .before .before .before .before .loop .inv .1, c .before .before .before .before .loop .inv .2 ∙ all-next inactiveCarrier l k inactive (omega arith) ∙ simp (← c .before .is-inactive .ensures, not-false (c .before .is-inactive .result) (c .if1 .left)))
+loop-again c = let at = c .before .before .before .before in
+    (search needs, at .loop .inv .1, at .loop .inv .2 ∙ all-next inactiveCarrier (at .before .args .t1) (at .loop .k) inactive (omega arith) ∙ simp (← c .before .is-inactive .ensures, not-false (c .before .is-inactive .result) (c .if1 .left)))
 
 returns-2 : tie.Need-returns-2 Inv-loop μ-loop
 returns-2 c = sym (c .before .loop .inv .2 ∙ all-end inactiveCarrier (c .before .before .args .t1) (c .before .loop .k) (omega arith))
 
 pub all-inactive-spec : {M : Type 1} → statement M
 all-inactive-spec =
-    tie.close
-    (tie.spec
-    Inv-loop
-    μ-loop
-    loop-holds
-    mul-c
-    array-copy-out-c
-    is-inactive-requires
-    returns
-    add-k
-    loop-less
-    loop-again
-    returns-2)
+    tie.close (tie.spec
+    Inv-loop μ-loop loop-holds mul-c array-copy-out-c is-inactive-requires returns add-k loop-less loop-again returns-2)

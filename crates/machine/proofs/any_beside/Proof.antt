@@ -4,19 +4,12 @@ use borrow.Author.Tests.{eq-eqb, ne-eqb}
 use native.Mathlib.Omega.{arith}
 use mathlib.Core.Path.{_≡_, refl, sym, ap, _∙_}
 use Prim.Native.Nat.{_-_, _≤_}
-use mathlib.Core.Bool.{Bool, not}
+use mathlib.Core.Bool.{not}
 use lib.ListN.{length, drop}
-use lib.Dec.{eqb}
-use Rattle.machine.specs.declared.Needle.{Needle}
-use Rattle.machine.specs.declared.Carrier.{Carrier}
 use Rattle.machine.specs.Machine.{inactive, anyBeside}
-use Rattle.machine.proofs.Laws.{all-next, all-end}
+use Rattle.machine.proofs.Laws.{all-next, all-end, other}
 use Rattle.machine.proofs.any_beside.Statement.{statement}
 use Rattle.machine.proofs.any_beside.Tie as tie
-
--- a carrier that names no needle of the number
-abbrev other : Needle → Carrier → Bool
-other n c = not (eqb (c .needle .1) (n .1))
 
 abbrev Inv-loop : tie.InvT-loop
 Inv-loop n carriers k₀ k = (k ≤ 10) × (length carriers ≡ 10) × (anyBeside n carriers ≡ anyBeside n (drop k carriers))
@@ -52,15 +45,5 @@ returns-2 c = sym (c .before .loop .inv .2 ∙ ap not (all-end (other (c .before
 
 pub any-beside-spec : {M : Type 1} → statement M
 any-beside-spec =
-    tie.close
-    (tie.spec
-    Inv-loop
-    μ-loop
-    loop-holds
-    mul-if1
-    element-copy-out-if1
-    returns
-    add-k
-    loop-less
-    loop-again
-    returns-2)
+    tie.close (tie.spec
+    Inv-loop μ-loop loop-holds mul-if1 element-copy-out-if1 returns add-k loop-less loop-again returns-2)

@@ -56,17 +56,5 @@ returns c = let a = c .before .before .args in let at = c .before .loop in ends 
 
 pub attachments-moved-spec : {M : Type 1} → statement M
 attachments-moved-spec =
-    tie.close
-    (tie.spec
-    Inv-loop
-    μ-loop
-    loop-holds
-    mul-c
-    array-copy-out-c
-    moved-requires
-    mul-cs
-    array-set-from-cs
-    add-k
-    loop-less
-    loop-again
-    returns)
+    tie.close (tie.spec
+    Inv-loop μ-loop loop-holds mul-c array-copy-out-c moved-requires mul-cs array-set-from-cs add-k loop-less loop-again returns)

@@ -5,20 +5,14 @@ use mathlib.Core.Path.{_≡_, refl, sym, _∙_}
 use Prim.Native.Nat.{_-_, _≤_}
 use lib.ListN.{length, drop}
 use borrow.Author.Tests.{not-true, not-false}
-use mathlib.Core.Bool.{Bool}
-use mathlib.Core.List.{List}
-use Rattle.machine.specs.declared.Carrier.{Carrier}
 use Rattle.machine.specs.Machine.{inactive, all}
 use Rattle.machine.specs.Range.{carrierOk}
 use Rattle.machine.proofs.Laws.{all-next, all-end}
 use Rattle.machine.proofs.carriers_in_range.Statement.{statement}
 use Rattle.machine.proofs.carriers_in_range.Tie as tie
 
-abbrev fine : List Carrier → Bool
-fine l = all carrierOk l
-
 abbrev Inv-loop : tie.InvT-loop
-Inv-loop carriers k₀ k = (k ≤ 10) × (length carriers ≡ 10) × (fine carriers ≡ fine (drop k carriers))
+Inv-loop carriers k₀ k = (k ≤ 10) × (length carriers ≡ 10) × (all carrierOk carriers ≡ all carrierOk (drop k carriers))
 
 abbrev μ-loop : tie.MeasureT-loop
 μ-loop carriers k₀ k = 10 - k
@@ -36,8 +30,8 @@ in-range-requires : tie.Need-in-range-requires Inv-loop μ-loop
 in-range-requires c κs = search needs
 
 returns : tie.Need-returns Inv-loop μ-loop
-returns c = let l = c .before .before .before .before .before .args .t1 in let k = c .before .before .before .before .loop .k in
-    sym (c .before .before .before .before .loop .inv .2 ∙ all-next carrierOk l k inactive (omega arith) ∙ simp (← c .before .in-range .ensures, not-true (c .before .in-range .result) (c .if1 .taken)))
+returns c = let at = c .before .before .before .before in
+    sym (at .loop .inv .2 ∙ all-next carrierOk (at .before .args .t1) (at .loop .k) inactive (omega arith) ∙ simp (← c .before .in-range .ensures, not-true (c .before .in-range .result) (c .if1 .taken)))
 
 add-k : tie.Need-add-k Inv-loop μ-loop
 add-k c = search needs
@@ -46,24 +40,13 @@ loop-less : tie.Need-loop-less Inv-loop μ-loop
 loop-less c = omega arith
 
 loop-again : tie.Need-loop-again Inv-loop μ-loop
-loop-again c = let l = c .before .before .before .before .before .args .t1 in let k = c .before .before .before .before .loop .k in
-    (search needs, c .before .before .before .before .loop .inv .1, c .before .before .before .before .loop .inv .2 ∙ all-next carrierOk l k inactive (omega arith) ∙ simp (← c .before .in-range .ensures, not-false (c .before .in-range .result) (c .if1 .left)))
+loop-again c = let at = c .before .before .before .before in
+    (search needs, at .loop .inv .1, at .loop .inv .2 ∙ all-next carrierOk (at .before .args .t1) (at .loop .k) inactive (omega arith) ∙ simp (← c .before .in-range .ensures, not-false (c .before .in-range .result) (c .if1 .left)))
 
 returns-2 : tie.Need-returns-2 Inv-loop μ-loop
 returns-2 c = sym (c .before .loop .inv .2 ∙ all-end carrierOk (c .before .before .args .t1) (c .before .loop .k) (omega arith))
 
 pub carriers-in-range-spec : {M : Type 1} → statement M
 carriers-in-range-spec =
-    tie.close
-    (tie.spec
-    Inv-loop
-    μ-loop
-    loop-holds
-    mul-c
-    array-copy-out-c
-    in-range-requires
-    returns
-    add-k
-    loop-less
-    loop-again
-    returns-2)
+    tie.close (tie.spec
+    Inv-loop μ-loop loop-holds mul-c array-copy-out-c in-range-requires returns add-k loop-less loop-again returns-2)

@@ -3,13 +3,12 @@ use borrow.Author.Needs.{needs}
 use borrow.Author.Tests.{le-leb}
 use native.Mathlib.Omega.{arith}
 use mathlib.Core.Path.{_≡_, sym, ap, _∙_}
-use mathlib.Core.Bool.{Bool, _&&_}
+use mathlib.Core.Bool.{Bool, _&&_, and-true}
 use mathlib.Core.List.{List}
 use Prim.Native.Nat.{ℕ, _-_, _≤_}
 use lib.ListN.{length, drop, getD}
 use lib.Dec.{leb}
 use Rattle.machine.specs.Machine.{all}
-use Rattle.machine.proofs.Signed.{and-true}
 use Rattle.machine.proofs.Laws.{all-next, all-end, larger-next}
 use Rattle.machine.proofs.most_loops.Statement.{statement}
 use Rattle.machine.proofs.most_loops.Tie as tie
@@ -40,22 +39,14 @@ loop-less : tie.Need-loop-less Inv-loop μ-loop
 loop-less c = omega arith
 
 loop-again : tie.Need-loop-again Inv-loop μ-loop
-loop-again c = let l = c .before .before .before .before .before .args .loops .now in let i = c .before .before .before .loop .i in let most = c .before .before .before .loop .most in
-    (search needs, λ b. c .before .before .before .loop .inv .1 b ∙ ap (λ (t : Bool). leb most b && t) (all-next (λ (n : ℕ). leb n b) l i 0 (omega arith)) ∙ larger-next b most (getD l i 0) (c .larger .result) _ (c .larger .ensures))
+loop-again c = let at = c .before .before .before in let l = at .before .before .args .loops .now in let most = at .loop .most in
+    (search needs, λ b. at .loop .inv .1 b ∙ ap (λ (t : Bool). leb most b && t) (all-next (λ (n : ℕ). leb n b) l (at .loop .i) 0 (omega arith)) ∙ larger-next b most (getD l (at .loop .i) 0) (c .larger .result) _ (c .larger .ensures))
 
 returns : tie.Need-returns Inv-loop μ-loop
-returns c = λ b. c .before .loop .inv .1 b ∙ ap (λ (t : Bool). leb (c .before .loop .most) b && t) (all-end (λ (n : ℕ). leb n b) (c .before .before .before .args .loops .now) (c .before .loop .i) (omega arith)) ∙ and-true (leb (c .before .loop .most) b)
+returns c = let at = c .before in let most = at .loop .most in
+    λ b. at .loop .inv .1 b ∙ ap (λ (t : Bool). leb most b && t) (all-end (λ (n : ℕ). leb n b) (at .before .before .args .loops .now) (at .loop .i) (omega arith)) ∙ and-true (leb most b)
 
 pub most-loops-spec : {M : Type 1} → statement M
 most-loops-spec =
-    tie.close
-    (tie.spec
-    Inv-loop
-    μ-loop
-    loop-holds
-    shared-slice-read-larger
-    larger-requires
-    add-i
-    loop-less
-    loop-again
-    returns)
+    tie.close (tie.spec
+    Inv-loop μ-loop loop-holds shared-slice-read-larger larger-requires add-i loop-less loop-again returns)

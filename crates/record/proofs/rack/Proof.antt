@@ -25,6 +25,14 @@ module _ (l : List ℕ) (b : ℕ) (z : ℤ) (e : b ≡ byte l 1) (s : z ≡ sign
   unfolding whole ranged rackOk
   inside t = simp (le-ltb _ _ h, ← e, ← s, t)
 
+-- the record's length, and that so many bytes are there
+sized : (b : tie.After-size-of) → b .size-of .result ≡ 2
+unfolding sizeOf
+sized b = b .size-of .ensures
+
+long : (b : tie.Else1) → 2 ≤ length (b .before .before .before .args .l .now)
+long b = simp (sized (b .before)) at (b .if1 .left)
+
 size-of-requires : tie.Need-size-of-requires
 size-of-requires c κs = search needs
 
@@ -32,12 +40,11 @@ refused-requires : tie.Need-refused-requires
 refused-requires c κs = search needs
 
 returns : tie.Need-returns
-unfolding whole sizeOf
-returns c = let e : c .before .before .size-of .result ≡ 2 = c .before .before .size-of .ensures in simp (c .refused .ensures, lt-ltb _ _ (simp e at (c .before .if1 .taken)))
+unfolding whole
+returns c = simp (c .refused .ensures, lt-ltb _ _ (simp (sized (c .before .before)) at (c .before .if1 .taken)))
 
 byte-requires : tie.Need-byte-requires
-unfolding sizeOf
-byte-requires c κs = let e : c .before .size-of .result ≡ 2 = c .before .size-of .ensures in omega (arith, c .if1 .left)
+byte-requires c κs = omega (arith, long c)
 
 signed-requires : tie.Need-signed-requires
 signed-requires c κs = search needs
@@ -49,25 +56,14 @@ refused-requires-2 : tie.Need-refused-requires-2
 refused-requires-2 c κs = search needs
 
 returns-2 : tie.Need-returns-2
-unfolding sizeOf
-returns-2 c = let e : c .before .before .before .before .before .before .size-of .result ≡ 2 = c .before .before .before .before .before .before .size-of .ensures in let z = c .before .before .before .signed .result in let k = c .before .before .before .signed .ok in
-    c .refused2 .ensures ∙ outside (c .before .before .before .before .before .before .before .before .args .l .now) (c .before .before .before .before .byte .result) z (c .before .before .before .before .byte .ensures) (c .before .before .before .signed .ensures) (simp e at (c .before .before .before .before .before .if1 .left)) (simp (back w8 z k) at (sym (c .before .before .in-range .ensures) ∙ not-true (c .before .before .in-range .result) (c .before .if2 .taken)))
+returns-2 c = let n = c .before .before in let d = n .before in let z = d .signed .result in
+    c .refused2 .ensures ∙ outside (d .before .before .before .before .before .args .l .now) (d .before .byte .result) z (d .before .byte .ensures) (d .signed .ensures) (long (d .before .before)) (simp (back w8 z (d .signed .ok)) at (sym (n .in-range .ensures) ∙ not-true (n .in-range .result) (c .before .if2 .taken)))
 
 returns-3 : tie.Need-returns-3
-unfolding sizeOf
-returns-3 c = let e : c .before .before .before .before .before .size-of .result ≡ 2 = c .before .before .before .before .before .size-of .ensures in let z = c .before .before .signed .result in let k = c .before .before .signed .ok in
-    simp (back w8 z k, e) (inside (c .before .before .before .before .before .before .before .args .l .now) (c .before .before .before .byte .result) z (c .before .before .before .byte .ensures) (c .before .before .signed .ensures) (simp e at (c .before .before .before .before .if1 .left)) (simp (back w8 z k) at (sym (c .before .in-range .ensures) ∙ not-false (c .before .in-range .result) (c .if2 .left))))
+returns-3 c = let n = c .before in let d = n .before in let z = d .signed .result in
+    simp (back w8 z (d .signed .ok), sized (d .before .before .before)) (inside (d .before .before .before .before .before .args .l .now) (d .before .byte .result) z (d .before .byte .ensures) (d .signed .ensures) (long (d .before .before)) (simp (back w8 z (d .signed .ok)) at (sym (n .in-range .ensures) ∙ not-false (n .in-range .result) (c .if2 .left))))
 
 pub rack-spec : {M : Type 1} → statement M
 rack-spec =
-    tie.close
-    (tie.spec
-    size-of-requires
-    refused-requires
-    returns
-    byte-requires
-    signed-requires
-    in-range-requires
-    refused-requires-2
-    returns-2
-    returns-3)
+    tie.close (tie.spec
+    size-of-requires refused-requires returns byte-requires signed-requires in-range-requires refused-requires-2 returns-2 returns-3)

@@ -1,22 +1,17 @@
 -- By the kind. Assumes nothing.
 use borrow.Author.Needs.{needs}
-use borrow.Author.Tests.{ne-eqb, le-leb}
 use native.Mathlib.Omega.{arith}
-use mathlib.Core.Path.{_≡_, _∙_}
+use mathlib.Core.Path.{_≡_, sym, _∙_}
 use mathlib.Core.Logic.{⊎-elim}
 use mathlib.Core.List.{List}
-use Prim.Native.Nat.{ℕ, _≤_}
-use Rattle.record.specs.Format.{whole, workAt, splitAt, readAt}
-use Rattle.record.proofs.Ranges.{four}
+use Prim.Native.Nat.{ℕ}
+use Rattle.record.specs.Format.{whole, splitAt, readAt}
+use Rattle.record.proofs.Ranges.{four, work-read}
 use Rattle.record.proofs.read.Statement.{statement}
 use Rattle.record.proofs.read.Tie as tie
 
-module _ (l : List ℕ) (k : ℕ) where
-  working : (k ≡ 1 → ⊥) → (k ≡ 2 → ⊥) → (k ≡ 3 → ⊥) → 4 ≤ k → k ≤ 8 → whole l 5 (workAt k l) ≡ readAt k l
-  working n1 n2 n3 p q = simp (ne-eqb k 1 n1, ne-eqb k 2 n2, ne-eqb k 3 n3, le-leb 4 k p, le-leb k 8 q)
-
-  splitting : k ≡ 9 → whole l 6 (splitAt l) ≡ readAt k l
-  splitting e = simp e
+splitting : (l : List ℕ) (k : ℕ) → k ≡ 9 → whole l 6 (splitAt l) ≡ readAt k l
+splitting l k e = simp e
 
 rack-requires : tie.Need-rack-requires
 rack-requires c κs = search needs
@@ -45,7 +40,7 @@ returns-3 c = c .xfer .ensures ∙ simp (c .before .match .keys3)
 
 returns-4 : tie.Need-returns-4
 returns-4 c = let g = c .before .before .before .before .before .args in let no = c .before .before .before .match .rest in
-    c .work .ensures ∙ working (g .l .now) (g .kind) (no .0 .0 .1) (no .0 .1) (no .1) (four (g .kind) (c .before .before .if1 .left) (no .0 .0 .1) (no .0 .1) (no .1)) (omega (arith, c .before .if2 .taken))
+    c .work .ensures ∙ sym (work-read (g .kind) (four (g .kind) (c .before .before .if1 .left) (no .0 .0 .1) (no .0 .1) (no .1)) (omega (arith, c .before .if2 .taken)) (g .l .now))
 
 returns-5 : tie.Need-returns-5
 returns-5 c = let s = c .before .before .before .before in
@@ -53,15 +48,5 @@ returns-5 c = let s = c .before .before .before .before in
 
 pub read-spec : {M : Type 1} → statement M
 read-spec =
-    tie.close
-    (tie.spec
-    rack-requires
-    drop-requires
-    xfer-requires
-    work-requires
-    split-requires
-    returns
-    returns-2
-    returns-3
-    returns-4
-    returns-5)
+    tie.close (tie.spec
+    rack-requires drop-requires xfer-requires work-requires split-requires returns returns-2 returns-3 returns-4 returns-5)

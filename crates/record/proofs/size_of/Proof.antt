@@ -1,9 +1,9 @@
 -- The length of each kind. Assumes nothing.
 use native.Mathlib.Omega.{arith}
-use mathlib.Core.Path.{_≡_}
+use mathlib.Core.Path.{_≡_, sym}
 use borrow.Author.Tests.{ne-eqb, le-leb, lt-leb}
 use Rattle.record.specs.Format.{sizeOf}
-use Rattle.record.proofs.Ranges.{four}
+use Rattle.record.proofs.Ranges.{four, work-size}
 use Rattle.record.proofs.size_of.Statement.{statement}
 use Rattle.record.proofs.size_of.Tie as tie
 
@@ -24,9 +24,8 @@ unfolding sizeOf
 returns-4 c = simp (c .match .keys4)
 
 returns-5 : tie.Need-returns-5
-unfolding sizeOf
 returns-5 c = let k = c .before .before .before .args .kind in let no = c .before .before .match .rest in
-    simp (ne-eqb k 1 (no .0 .0 .0 .1), ne-eqb k 2 (no .0 .0 .1), ne-eqb k 3 (no .0 .1), le-leb 4 k (four k (c .before .if1 .left) (no .0 .0 .0 .1) (no .0 .0 .1) (no .0 .1)), le-leb k 8 (omega (arith, c .if2 .taken)))
+    sym (work-size k (four k (c .before .if1 .left) (no .0 .0 .0 .1) (no .0 .0 .1) (no .0 .1)) (omega (arith, c .if2 .taken)))
 
 returns-6 : tie.Need-returns-6
 unfolding sizeOf

@@ -2,11 +2,20 @@
 use borrow.Author.Needs.{needs}
 use native.Mathlib.Omega.{arith}
 use borrow.Author.Tests.{lt-ltb, le-ltb, not-true, not-false}
-use mathlib.Core.Path.{_≡_}
-use Rattle.record.specs.Format.{sizeOf, whole, ranged}
+use mathlib.Core.Path.{_≡_, _∙_}
+use Prim.Native.Nat.{_≤_}
+use lib.ListN.{length}
+use Rattle.record.specs.Format.{whole, ranged}
 use Rattle.record.proofs.Ranges.{work-size}
 use Rattle.record.proofs.work.Statement.{statement}
 use Rattle.record.proofs.work.Tie as tie
+
+-- the record's length, and that so many bytes are there
+sized : (b : tie.After-size-of) → b .size-of .result ≡ 5
+sized b = let p = b .before .before .pre in b .size-of .ensures ∙ work-size _ (p .0) (p .1)
+
+long : (b : tie.Else1) → 5 ≤ length (b .before .before .before .args .l .now)
+long b = simp (sized (b .before)) at (b .if1 .left)
 
 size-of-requires : tie.Need-size-of-requires
 size-of-requires c κs = search needs
@@ -15,24 +24,20 @@ refused-requires : tie.Need-refused-requires
 refused-requires c κs = search needs
 
 returns : tie.Need-returns
-unfolding whole sizeOf
-returns c = let e : c .before .before .size-of .result ≡ 5 = work-size _ (c .before .before .before .before .pre .0) (c .before .before .before .before .pre .1) (c .before .before .size-of .ensures) in simp (c .refused .ensures, lt-ltb _ _ (simp e at (c .before .if1 .taken)))
+unfolding whole
+returns c = simp (c .refused .ensures, lt-ltb _ _ (simp (sized (c .before .before)) at (c .before .if1 .taken)))
 
 byte-requires : tie.Need-byte-requires
-unfolding sizeOf
-byte-requires c κs = let e : c .before .size-of .result ≡ 5 = work-size _ (c .before .before .before .pre .0) (c .before .before .before .pre .1) (c .before .size-of .ensures) in omega (arith, c .if1 .left)
+byte-requires c κs = omega (arith, long c)
 
 byte-requires-2 : tie.Need-byte-requires-2
-unfolding sizeOf
-byte-requires-2 c κs = let e : c .before .before .size-of .result ≡ 5 = work-size _ (c .before .before .before .before .pre .0) (c .before .before .before .before .pre .1) (c .before .before .size-of .ensures) in omega (arith, c .before .if1 .left)
+byte-requires-2 c κs = omega (arith, long (c .before))
 
 byte-requires-3 : tie.Need-byte-requires-3
-unfolding sizeOf
-byte-requires-3 c κs = let e : c .before .before .before .size-of .result ≡ 5 = work-size _ (c .before .before .before .before .before .pre .0) (c .before .before .before .before .before .pre .1) (c .before .before .before .size-of .ensures) in omega (arith, c .before .before .if1 .left)
+byte-requires-3 c κs = omega (arith, long (c .before .before))
 
 byte-requires-4 : tie.Need-byte-requires-4
-unfolding sizeOf
-byte-requires-4 c κs = let e : c .before .before .before .before .size-of .result ≡ 5 = work-size _ (c .before .before .before .before .before .before .pre .0) (c .before .before .before .before .before .before .pre .1) (c .before .before .before .before .size-of .ensures) in omega (arith, c .before .before .before .if1 .left)
+byte-requires-4 c κs = omega (arith, long (c .before .before .before))
 
 work-ok-requires : tie.Need-work-ok-requires
 work-ok-requires c κs = search needs
@@ -41,8 +46,9 @@ refused-requires-2 : tie.Need-refused-requires-2
 refused-requires-2 c κs = search needs
 
 returns-2 : tie.Need-returns-2
-unfolding whole ranged sizeOf
-returns-2 c = let e : c .before .before .before .before .before .before .before .before .size-of .result ≡ 5 = work-size _ (c .before .before .before .before .before .before .before .before .before .before .pre .0) (c .before .before .before .before .before .before .before .before .before .before .pre .1) (c .before .before .before .before .before .before .before .before .size-of .ensures) in simp (c .refused2 .ensures, le-ltb _ _ (simp e at (c .before .before .before .before .before .before .before .if1 .left)), ← c .before .before .before .byte4 .ensures, ← c .before .before .before .before .byte3 .ensures, ← c .before .before .before .before .before .byte2 .ensures, ← c .before .before .before .before .before .before .byte .ensures, ← c .before .before .work-ok .ensures, not-true (c .before .before .work-ok .result) (c .before .if2 .taken))
+unfolding whole ranged
+returns-2 c = let w = c .before .before in let d = w .before in
+    simp (c .refused2 .ensures, le-ltb _ _ (long (d .before .before .before .before)), ← d .byte4 .ensures, ← d .before .byte3 .ensures, ← d .before .before .byte2 .ensures, ← d .before .before .before .byte .ensures, ← w .work-ok .ensures, not-true (w .work-ok .result) (c .before .if2 .taken))
 
 cast-t13 : tie.Need-cast-t13
 cast-t13 c = search needs
@@ -51,23 +57,12 @@ cast-t14 : tie.Need-cast-t14
 cast-t14 c = search needs
 
 returns-3 : tie.Need-returns-3
-unfolding whole ranged sizeOf
-returns-3 c = let e : c .before .before .before .before .before .before .before .size-of .result ≡ 5 = work-size _ (c .before .before .before .before .before .before .before .before .before .pre .0) (c .before .before .before .before .before .before .before .before .before .pre .1) (c .before .before .before .before .before .before .before .size-of .ensures) in simp (e, le-ltb _ _ (simp e at (c .before .before .before .before .before .before .if1 .left)), ← c .before .before .byte4 .ensures, ← c .before .before .before .byte3 .ensures, ← c .before .before .before .before .byte2 .ensures, ← c .before .before .before .before .before .byte .ensures, ← c .before .work-ok .ensures, not-false (c .before .work-ok .result) (c .if2 .left))
+unfolding whole ranged
+returns-3 c = let w = c .before in let d = w .before in
+    simp (sized (d .before .before .before .before .before), le-ltb _ _ (long (d .before .before .before .before)), ← d .byte4 .ensures, ← d .before .byte3 .ensures, ← d .before .before .byte2 .ensures, ← d .before .before .before .byte .ensures, ← w .work-ok .ensures, not-false (w .work-ok .result) (c .if2 .left))
 
 pub work-spec : {M : Type 1} → statement M
 work-spec =
-    tie.close
-    (tie.spec
-    size-of-requires
-    refused-requires
-    returns
-    byte-requires
-    byte-requires-2
-    byte-requires-3
-    byte-requires-4
-    work-ok-requires
-    refused-requires-2
-    returns-2
-    cast-t13
-    cast-t14
-    returns-3)
+    tie.close (tie.spec
+    size-of-requires refused-requires returns byte-requires byte-requires-2 byte-requires-3 byte-requires-4 work-ok-requires refused-requires-2
+    returns-2 cast-t13 cast-t14 returns-3)

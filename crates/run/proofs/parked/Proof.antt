@@ -7,7 +7,7 @@ use Rattle.machine.specs.declared.Carrier.{Carrier}
 use Rattle.machine.specs.declared.Slot.{Slot}
 use Rattle.machine.specs.declared.Racking.{Racking}
 use Rattle.machine.specs.Geometry.{eqZ}
-use Rattle.machine.proofs.Signed.{fits, is-bits, not-bits}
+use Rattle.machine.proofs.Signed.{is-bits, not-bits}
 use Rattle.run.specs.Step.{lookOf, parkedNo}
 use Rattle.run.proofs.Looks.{parked-is}
 use Rattle.run.proofs.parked.Statement.{statement}
@@ -28,10 +28,12 @@ returns : tie.Need-returns
 returns c = let a = c .before .before .args in off (a .c) (a .z) (a .r) (c .if1 .taken)
 
 returns-2 : tie.Need-returns-2
-returns-2 c = let a = c .before .before .before .before .before .before .before .before .args in here (a .c) (a .z) (a .r) (c .before .before .before .before .before .before .if1 .left) (is-bits w16 _ _ (fits w16 _ (c .before .before .before .struct-told .given .0 .1)) (fits w16 _ (c .before .struct-told2 .given .0 .1)) (c .if2 .taken))
+returns-2 c = let w = c .before .before .before in let b = w .before .before .before in let a = b .before .before .args in
+    here (a .c) (a .z) (a .r) (b .if1 .left) (is-bits w16 _ _ (w .struct-told .given .0 .1) (c .before .struct-told2 .given .0 .1) (c .if2 .taken))
 
 returns-3 : tie.Need-returns-3
-returns-3 c = let a = c .before .before .before .before .before .before .before .before .args in elsewhere (a .c) (a .z) (a .r) (c .before .before .before .before .before .before .if1 .left) (not-bits w16 _ _ (fits w16 _ (c .before .before .before .struct-told .given .0 .1)) (fits w16 _ (c .before .struct-told2 .given .0 .1)) (c .if2 .left))
+returns-3 c = let w = c .before .before .before in let b = w .before .before .before in let a = b .before .before .args in
+    elsewhere (a .c) (a .z) (a .r) (b .if1 .left) (not-bits w16 _ _ (w .struct-told .given .0 .1) (c .before .struct-told2 .given .0 .1) (c .if2 .left))
 
 pub parked-spec : {M : Type 1} → statement M
 parked-spec = tie.close (tie.spec returns returns-2 returns-3)

@@ -32,6 +32,11 @@ module _ (d : Carrier) (s : Slot) (r : Racking) (z : Column) (k : ℕ) (is : k �
       far : withinFloat (columnOf (d .needle) r) z ≡ false → 9 ≡ orNumber (parkedNo (lookOf r d) s) (floatNo (lookOf r d) z)
       far f = past 9 (float-is r d z ∙ simp (ne-eqb _ _ e, f))
 
+-- whether the float is short enough, as the code found it
+float : (b : tie.After-near) → let a = b .before .before .before .before .before .before .before .before .before .args in withinFloat (columnOf (a .c .needle) (a .r)) (columnOf (a .n) (a .r)) ≡ b .near .result
+float b = let a = b .before .before .before .before .before .before .before .before .before .args in
+    ap (λ (z : Column). withinFloat z (columnOf (a .n) (a .r))) (sym (b .before .before .column .ensures)) ∙ ap (withinFloat (b .before .before .column .result)) (sym (b .before .column2 .ensures)) ∙ sym (b .near .ensures)
+
 entry-requires : tie.Need-entry-requires
 entry-requires c κs = search needs
 
@@ -39,10 +44,12 @@ parked-requires : tie.Need-parked-requires
 parked-requires c κs = search needs
 
 returns : tie.Need-returns
-returns c = let a = c .before .before .before .args in simp (← c .before .before .entry .ensures) (refused (a .c) (c .before .before .entry .result) (a .r) (columnOf (a .n) (a .r)) (c .before .parked .result) (c .before .parked .ensures) (c .if1 .taken))
+returns c = let e = c .before .before in let a = e .before .args in
+    simp (← e .entry .ensures) (refused (a .c) (e .entry .result) (a .r) (columnOf (a .n) (a .r)) (c .before .parked .result) (c .before .parked .ensures) (c .if1 .taken))
 
 returns-2 : tie.Need-returns-2
-returns-2 c = let a = c .before .before .before .before .before .args in simp (← c .before .before .before .before .entry .ensures) (free (a .c) (c .before .before .before .before .entry .result) (a .r) (columnOf (a .n) (a .r)) (c .before .before .before .parked .result) (c .before .before .before .parked .ensures) (c .before .before .if1 .left) (c .if2 .taken))
+returns-2 c = let p = c .before .before .before in let e = p .before in let a = e .before .args in
+    simp (← e .entry .ensures) (free (a .c) (e .entry .result) (a .r) (columnOf (a .n) (a .r)) (p .parked .result) (p .parked .ensures) (c .before .before .if1 .left) (c .if2 .taken))
 
 column-requires : tie.Need-column-requires
 column-requires c κs = search needs
@@ -54,21 +61,14 @@ near-requires : tie.Need-near-requires
 near-requires c κs = search needs
 
 returns-3 : tie.Need-returns-3
-returns-3 c = let a = c .before .before .before .before .before .before .before .before .before .before .args in simp (← c .before .before .before .before .before .before .before .before .before .entry .ensures) (near (a .c) (c .before .before .before .before .before .before .before .before .before .entry .result) (a .r) (columnOf (a .n) (a .r)) (c .before .before .before .before .before .before .before .before .parked .result) (c .before .before .before .before .before .before .before .before .parked .ensures) (c .before .before .before .before .before .before .before .if1 .left) (c .before .before .before .before .before .if2 .left) (ap (λ (z : Column). withinFloat z (columnOf (a .n) (a .r))) (sym (c .before .before .before .column .ensures)) ∙ ap (withinFloat (c .before .before .before .column .result)) (sym (c .before .before .column2 .ensures)) ∙ sym (c .before .near .ensures) ∙ c .if3 .taken))
+returns-3 c = let u = c .before .before .before .before .before in let p = u .before .before .before in let e = p .before in let a = e .before .args in
+    simp (← e .entry .ensures) (near (a .c) (e .entry .result) (a .r) (columnOf (a .n) (a .r)) (p .parked .result) (p .parked .ensures) (u .before .before .if1 .left) (u .if2 .left) (float (c .before) ∙ c .if3 .taken))
 
 returns-4 : tie.Need-returns-4
-returns-4 c = let a = c .before .before .before .before .before .before .before .before .before .before .args in simp (← c .before .before .before .before .before .before .before .before .before .entry .ensures) (far (a .c) (c .before .before .before .before .before .before .before .before .before .entry .result) (a .r) (columnOf (a .n) (a .r)) (c .before .before .before .before .before .before .before .before .parked .result) (c .before .before .before .before .before .before .before .before .parked .ensures) (c .before .before .before .before .before .before .before .if1 .left) (c .before .before .before .before .before .if2 .left) (ap (λ (z : Column). withinFloat z (columnOf (a .n) (a .r))) (sym (c .before .before .before .column .ensures)) ∙ ap (withinFloat (c .before .before .before .column .result)) (sym (c .before .before .column2 .ensures)) ∙ sym (c .before .near .ensures) ∙ c .if3 .left))
+returns-4 c = let u = c .before .before .before .before .before in let p = u .before .before .before in let e = p .before in let a = e .before .args in
+    simp (← e .entry .ensures) (far (a .c) (e .entry .result) (a .r) (columnOf (a .n) (a .r)) (p .parked .result) (p .parked .ensures) (u .before .before .if1 .left) (u .if2 .left) (float (c .before) ∙ c .if3 .left))
 
 pub ready-spec : {M : Type 1} → statement M
 ready-spec =
-    tie.close
-    (tie.spec
-    entry-requires
-    parked-requires
-    returns
-    returns-2
-    column-requires
-    column-requires-2
-    near-requires
-    returns-3
-    returns-4)
+    tie.close (tie.spec
+    entry-requires parked-requires returns returns-2 column-requires column-requires-2 near-requires returns-3 returns-4)

@@ -17,9 +17,9 @@ use Rattle.run.proofs.transfer.Statement.{statement}
 use Rattle.run.proofs.transfer.Tie as tie
 
 module _ (l : List ℕ) (a b : Needle) (r : Racking) (v : ℕ) where
-  crooked : sameColumn (columnOf a r) (columnOf b r) ≡ false → (10 ≡ transferNo l a b r) × (l ≡ transferredLoops l a b r v)
+  not-opposite : sameColumn (columnOf a r) (columnOf b r) ≡ false → (10 ≡ transferNo l a b r) × (l ≡ transferredLoops l a b r v)
   unfolding transferNo transferredLoops
-  crooked e = (simp e, simp e)
+  not-opposite e = (simp e, simp e)
 
   module _ (e : sameColumn (columnOf a r) (columnOf b r) ≡ true) where
     full : 8 < getD l (hookOf a) 0 + getD l (hookOf b) 0 → (11 ≡ transferNo l a b r) × (l ≡ transferredLoops l a b r v)
@@ -31,6 +31,11 @@ module _ (l : List ℕ) (a b : Needle) (r : Racking) (v : ℕ) where
     unfolding transferNo transferredLoops
     room h = let f = le-leb (getD l (hookOf a) 0 + getD l (hookOf b) 0) 8 h in (simp (e, f), simp (e, f))
 
+-- whether the columns are the same, as the code found it
+same : (b : tie.After-equals) → let a = b .before .before .before .args in sameColumn (columnOf (a .a) (a .r)) (columnOf (a .b) (a .r)) ≡ b .equals .result
+same b = let a = b .before .before .before .args in
+    ap (λ (z : Column). sameColumn z (columnOf (a .b) (a .r))) (sym (b .before .before .column .ensures)) ∙ ap (sameColumn (b .before .before .column .result)) (sym (b .before .column2 .ensures)) ∙ sym (b .equals .ensures)
+
 column-requires : tie.Need-column-requires
 column-requires c κs = search needs
 
@@ -41,7 +46,8 @@ equals-requires : tie.Need-equals-requires
 equals-requires c κs = search needs
 
 returns : tie.Need-returns
-returns c = let a = c .before .before .before .before .args in crooked (a .loops .now) (a .a) (a .b) (a .r) (a .v) (ap (λ (z : Column). sameColumn z (columnOf (a .b) (a .r))) (sym (c .before .before .before .column .ensures)) ∙ ap (sameColumn (c .before .before .before .column .result)) (sym (c .before .before .column2 .ensures)) ∙ sym (c .before .equals .ensures) ∙ not-true (c .before .equals .result) (c .if1 .taken))
+returns c = let b = c .before in let a = b .before .before .before .args in
+    not-opposite (a .loops .now) (a .a) (a .b) (a .r) (a .v) (same b ∙ not-true (b .equals .result) (c .if1 .taken))
 
 hook-requires : tie.Need-hook-requires
 hook-requires c κs = search needs
@@ -68,9 +74,9 @@ add-if2 : tie.Need-add-if2
 add-if2 c = omega (arith, c .before .wide .ensures .1, c .wide2 .ensures .1)
 
 returns-2 : tie.Need-returns-2
-returns-2 c = let a = c .before .before .before .before .before .before .before .before .before .before .before .args in let l = a .loops .now in
-    full l (a .a) (a .b) (a .r) (a .v) (ap (λ (z : Column). sameColumn z (columnOf (a .b) (a .r))) (sym (c .before .before .before .before .before .before .before .before .before .before .column .ensures)) ∙ ap (sameColumn (c .before .before .before .before .before .before .before .before .before .before .column .result)) (sym (c .before .before .before .before .before .before .before .before .before .column2 .ensures)) ∙ sym (c .before .before .before .before .before .before .before .before .equals .ensures) ∙ not-false (c .before .before .before .before .before .before .before .before .equals .result) (c .before .before .before .before .before .before .before .if1 .left))
-    (simp (c .before .before .wide .ensures .0, c .before .wide2 .ensures .0, c .before .before .before .before .before .before .hook .ensures, c .before .before .before .before .before .hook2 .ensures) at (c .if2 .taken))
+returns-2 c = let w = c .before .before .before .before .before .before in let b = w .before .before in let a = b .before .before .before .args in
+    full (a .loops .now) (a .a) (a .b) (a .r) (a .v) (same b ∙ not-false (b .equals .result) (w .before .if1 .left))
+    (simp (c .before .before .wide .ensures .0, c .before .wide2 .ensures .0, w .hook .ensures, c .before .before .before .before .before .hook2 .ensures) at (c .if2 .taken))
 
 element-write-loops : tie.Need-element-write-loops
 element-write-loops c = search needs
@@ -82,28 +88,13 @@ element-write-loops-2 : tie.Need-element-write-loops-2
 element-write-loops-2 c = search needs
 
 returns-3 : tie.Need-returns-3
-returns-3 c = let a = c .before .before .before .before .before .before .before .before .before .before .before .args in let l = a .loops .now in
-    simp (c .before .before .before .before .before .before .hook .ensures, c .before .before .before .before .before .hook2 .ensures) (room l (a .a) (a .b) (a .r) (a .v) (ap (λ (z : Column). sameColumn z (columnOf (a .b) (a .r))) (sym (c .before .before .before .before .before .before .before .before .before .before .column .ensures)) ∙ ap (sameColumn (c .before .before .before .before .before .before .before .before .before .before .column .result)) (sym (c .before .before .before .before .before .before .before .before .before .column2 .ensures)) ∙ sym (c .before .before .before .before .before .before .before .before .equals .ensures) ∙ not-false (c .before .before .before .before .before .before .before .before .equals .result) (c .before .before .before .before .before .before .before .if1 .left))
-    (simp (c .before .before .wide .ensures .0, c .before .wide2 .ensures .0, c .before .before .before .before .before .before .hook .ensures, c .before .before .before .before .before .hook2 .ensures) at (c .if2 .left)))
+returns-3 c = let w = c .before .before .before .before .before .before in let b = w .before .before in let a = b .before .before .before .args in
+    simp (w .hook .ensures, c .before .before .before .before .before .hook2 .ensures)
+    (room (a .loops .now) (a .a) (a .b) (a .r) (a .v) (same b ∙ not-false (b .equals .result) (w .before .if1 .left))
+    (simp (c .before .before .wide .ensures .0, c .before .wide2 .ensures .0, w .hook .ensures, c .before .before .before .before .before .hook2 .ensures) at (c .if2 .left)))
 
 pub transfer-spec : {M : Type 1} → statement M
 transfer-spec =
-    tie.close
-    (tie.spec
-    column-requires
-    column-requires-2
-    equals-requires
-    returns
-    hook-requires
-    hook-requires-2
-    element-copy-out-here
-    element-copy-out-there
-    cast-if2
-    wide-requires
-    wide-requires-2
-    add-if2
-    returns-2
-    element-write-loops
-    add-loops
-    element-write-loops-2
-    returns-3)
+    tie.close (tie.spec
+    column-requires column-requires-2 equals-requires returns hook-requires hook-requires-2 element-copy-out-here element-copy-out-there cast-if2
+    wide-requires wide-requires-2 add-if2 returns-2 element-write-loops add-loops element-write-loops-2 returns-3)

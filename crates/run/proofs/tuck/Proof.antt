@@ -41,5 +41,4 @@ returns-2 c = simp (c .before .before .hook .ensures) (room (c .before .before .
 
 pub tuck-spec : {M : Type 1} → statement M
 tuck-spec =
-    tie.close
-    (tie.spec hook-requires element-copy-out-here returns add-loops element-write-loops returns-2)
+    tie.close (tie.spec hook-requires element-copy-out-here returns add-loops element-write-loops returns-2)

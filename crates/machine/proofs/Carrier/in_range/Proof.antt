@@ -32,13 +32,15 @@ in-range-requires : tie.Need-in-range-requires
 in-range-requires c κs = search needs
 
 returns-3 : tie.Need-returns-3
-returns-3 c = slot-no (c .before .before .before .before .before .before .before .args .self) (c .before .before .before .before .before .if1 .left) (c .before .before .before .if2 .left) (sym (c .before .in-range .ensures) ∙ not-true (c .before .in-range .result) (c .if3 .taken))
+returns-3 c = let b = c .before .before .before in
+    slot-no (b .before .before .before .before .args .self) (b .before .before .if1 .left) (b .if2 .left) (sym (c .before .in-range .ensures) ∙ not-true (c .before .in-range .result) (c .if3 .taken))
 
 attachment-in-range-requires : tie.Need-attachment-in-range-requires
 attachment-in-range-requires c κs = search needs
 
 returns-4 : tie.Need-returns-4
-returns-4 c = c .attachment-in-range .ensures ∙ last (c .before .before .before .before .before .before .before .before .args .self) (c .before .before .before .before .before .before .if1 .left) (c .before .before .before .before .if2 .left) (sym (c .before .before .in-range .ensures) ∙ not-false (c .before .before .in-range .result) (c .before .if3 .left))
+returns-4 c = let b = c .before .before .before .before in
+    c .attachment-in-range .ensures ∙ last (b .before .before .before .before .args .self) (b .before .before .if1 .left) (b .if2 .left) (sym (c .before .before .in-range .ensures) ∙ not-false (c .before .before .in-range .result) (c .before .if3 .left))
 
 pub in-range-spec : {M : Type 1} → statement M
 in-range-spec =

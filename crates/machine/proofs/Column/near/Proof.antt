@@ -29,15 +29,15 @@ cast-d-2 c = let z = c .before .before .before .before .args .other .0 in let h 
     simp (back w32 z h) (fits w64 z (omega arith))
 
 sub-d : tie.Need-sub-d
-sub-d c = difference-fits (c .before .before .before .before .args .self .0) (c .before .before .before .before .args .other .0) (c .before .before .struct-told .given .0 .1) (c .struct-told2 .given .0 .1)
+sub-d c = let a = c .before .before .before .before .args in difference-fits (a .self .0) (a .other .0) (c .before .before .struct-told .given .0 .1) (c .struct-told2 .given .0 .1)
 
 returns : tie.Need-returns
-returns c = let a = c .before .before .before .before .before .args .self in let b = c .before .before .before .before .before .args .other in
-    low a b _ (difference-is (a .0) (b .0) (c .before .before .before .struct-told .given .0 .1) (c .before .struct-told2 .given .0 .1)) (c .if1 .taken)
+returns c = let w = c .before in let a = w .before .before .before .before .args in
+    low (a .self) (a .other) _ (difference-is (a .self .0) (a .other .0) (w .before .before .struct-told .given .0 .1) (w .struct-told2 .given .0 .1)) (c .if1 .taken)
 
 returns-2 : tie.Need-returns-2
-returns-2 c = let a = c .before .before .before .before .before .args .self in let b = c .before .before .before .before .before .args .other in
-    over a b _ (difference-is (a .0) (b .0) (c .before .before .before .struct-told .given .0 .1) (c .before .struct-told2 .given .0 .1)) (c .if1 .left)
+returns-2 c = let w = c .before in let a = w .before .before .before .before .args in
+    over (a .self) (a .other) _ (difference-is (a .self .0) (a .other .0) (w .before .before .struct-told .given .0 .1) (w .struct-told2 .given .0 .1)) (c .if1 .left)
 
 pub near-spec : {M : Type 1} → statement M
 near-spec = tie.close (tie.spec cast-d cast-d-2 sub-d returns returns-2)

@@ -25,16 +25,13 @@ front : (n : Needle) (r : Racking) → n .1 < 65536 → n .0 ≡ 0 → _≡_ {A 
 unfolding columnOf
 front n r h e = simp (toZ-pos w32 {n = n .1} (omega arith), eq-eqb (n .0) 0 e)
 
-column : ℤ → Column
-column z = record { 0 = z }
-
 rear : (n : Needle) (r : Racking) → n .1 < 65536 → mag (r .0) < 128 → (n .0 ≡ 0 → ⊥)
     → _≡_ {A = Column} (record { 0 = toZ w32 (ofZ w32 (toZ w32 (n .1) +ℤ toZ w32 (ofZ w32 (toZ w8 (ofZ w8 (r .0)))))) }) (columnOf n r)
-unfolding columnOf column
+unfolding columnOf
 rear n r h k e =
     let s : toZ w32 (ofZ w32 (toZ w32 (n .1) +ℤ toZ w32 (ofZ w32 (toZ w8 (ofZ w8 (r .0)))))) ≡ pos (n .1) +ℤ r .0 =
     toZ-ofZ (fitting (n .1) (r .0) h k) ∙ simp (cast-back w8 w32 (r .0) k (omega arith), toZ-pos w32 {n = n .1} (omega arith)) in
-    ap column s ∙ simp (ne-eqb (n .0) 0 e)
+    ap {B = Column} (λ (z : ℤ). record { 0 = z }) s ∙ simp (ne-eqb (n .0) 0 e)
 
 cast-n : tie.Need-cast-n
 cast-n c = search needs
@@ -44,13 +41,13 @@ cast-t6 c = let z = c .before .before .before .before .before .args .r .0 in let
     simp (back w8 z h) (fits w32 z (omega arith))
 
 add-t7 : tie.Need-add-t7
-add-t7 c = fitting (c .before .before .before .before .before .args .self .1) (c .before .before .before .before .before .args .r .0) (search needs) (c .struct-told .given .0 .1)
+add-t7 c = let a = c .before .before .before .before .before .args in fitting (a .self .1) (a .r .0) (search needs) (c .struct-told .given .0 .1)
 
 returns : tie.Need-returns
-returns c = front (c .before .before .before .args .self) (c .before .before .before .args .r) (search needs) (c .if1 .taken)
+returns c = let a = c .before .before .before .args in front (a .self) (a .r) (search needs) (c .if1 .taken)
 
 returns-2 : tie.Need-returns-2
-returns-2 c = rear (c .before .before .before .before .before .args .self) (c .before .before .before .before .before .args .r) (search needs) (c .struct-told .given .0 .1) (c .before .before .if1 .left)
+returns-2 c = let a = c .before .before .before .before .before .args in rear (a .self) (a .r) (search needs) (c .struct-told .given .0 .1) (c .before .before .if1 .left)
 
 pub column-spec : {M : Type 1} → statement M
 column-spec = tie.close (tie.spec cast-n cast-t6 add-t7 returns returns-2)

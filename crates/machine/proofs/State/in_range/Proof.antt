@@ -25,6 +25,13 @@ module _ (s : State) where
     unfolding stateOk
     last f = simp (e, f)
 
+-- what is known past each test
+racking-in : (b : tie.Else1) → rackingOk (b .before .before .before .args .t1 .racking .0) ≡ true
+racking-in b = sym (b .before .in-range .ensures) ∙ not-false (b .before .in-range .result) (b .if1 .left)
+
+loops-in : (b : tie.Else2) → all (λ (n : ℕ). leb n 8) (b .before .before .before .before .before .before .before .before .args .t1 .loops) ≡ true
+loops-in b = sym (b .before .loops-in-range .ensures) ∙ not-false (b .before .loops-in-range .result) (b .if2 .left)
+
 in-range-requires : tie.Need-in-range-requires
 in-range-requires c κs = search needs
 
@@ -35,17 +42,15 @@ loops-in-range-requires : tie.Need-loops-in-range-requires
 loops-in-range-requires c κs = search needs
 
 returns-2 : tie.Need-returns-2
-returns-2 c =
-    looped (c .before .before .before .before .before .before .before .before .args .t1) (sym (c .before .before .before .before .before .before .in-range .ensures) ∙ not-false (c .before .before .before .before .before .before .in-range .result) (c .before .before .before .before .before .if1 .left))
-    (sym (c .before .loops-in-range .ensures) ∙ not-true (c .before .loops-in-range .result) (c .if2 .taken))
+returns-2 c = let b = c .before .before .before .before .before in
+    looped (b .before .before .before .args .t1) (racking-in b) (sym (c .before .loops-in-range .ensures) ∙ not-true (c .before .loops-in-range .result) (c .if2 .taken))
 
 carriers-in-range-requires : tie.Need-carriers-in-range-requires
 carriers-in-range-requires c κs = search needs
 
 returns-3 : tie.Need-returns-3
-returns-3 c =
-    c .carriers-in-range .ensures ∙ last (c .before .before .before .before .before .before .before .before .before .before .args .t1) (sym (c .before .before .before .before .before .before .before .before .in-range .ensures) ∙ not-false (c .before .before .before .before .before .before .before .before .in-range .result) (c .before .before .before .before .before .before .before .if1 .left))
-    (sym (c .before .before .before .loops-in-range .ensures) ∙ not-false (c .before .before .before .loops-in-range .result) (c .before .before .if2 .left))
+returns-3 c = let b = c .before .before .before .before .before .before .before in
+    c .carriers-in-range .ensures ∙ last (b .before .before .before .args .t1) (racking-in b) (loops-in (c .before .before))
 
 pub in-range-spec : {M : Type 1} → statement M
 in-range-spec =
