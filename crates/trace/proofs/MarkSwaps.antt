@@ -22,10 +22,9 @@ module _ {A R : Type 0} (K : Records A R) (L : Lawful K) where
       let (a, b, c, d) = untied K r x y t in
       let h : tiedMarks K (marked K k r x) (marked K k r y) ≡ false = cc (eqb-self k, racking-refl r) in
       rw (f, a, b, after-other r x a, after-other r y b, after-other r x a) (Exchange.front h)
-  made-exchange (x ∷ []) m k r (suc i) e = absurd (true≢false (cc))
-  made-exchange (x ∷ y ∷ l) m k r (suc i) e =
-      let (n, f, g) = behind-made x (swapAt K (after r x) i (y ∷ l)) m e in
-      rw g (Exchange.behind (made-exchange (y ∷ l) n (stretchAfter K k x) (after r x) i f))
+  made-exchange (x ∷ l) m k r (suc i) e =
+      let (n, f, g) = behind-made x (swapAt K (after r x) i l) m e in
+      rw g (Exchange.behind (made-exchange l n (stretchAfter K k x) (after r x) i f))
 
   pub swaps-exchanges : {r : R} {is : List ℕ} {l m : List A} → Swaps K r is l m → Exchanges (tiedMarks K) is (marks K 0 r l) (marks K 0 r m)
   swaps-exchanges no-swap = Exchanges.none-left

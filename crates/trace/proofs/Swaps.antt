@@ -11,6 +11,7 @@ use Rattle.trace.specs.Lists.{keep}
 use Rattle.trace.specs.Records.{Records, tied, Lawful}
 use Rattle.trace.specs.Swaps.{Outcome, no-pair, is-tied, made, behind, swapAt, Swaps, no-swap, swap-first}
 use Rattle.trace.specs.Order.{inForce}
+use Rattle.trace.proofs.Tests.{tied-by, tie-sym}
 use Rattle.trace.proofs.Lists.{keep-swap}
 
 -- what a swap behind the head comes from
@@ -35,7 +36,7 @@ module _ {A R : Type 0} (K : Records A R) where
   front-made r x y l m e = cases (tied K r x y) (λ t. absurd (true≢false (cc))) (λ t. (t, cc))
 
   -- a swap of two neighbours that stand there
-  pub untied-is-made : (r : R) (u : List A) (x y : A) (v : List A) → tied K (inForce K r u) x y ≡ false → swapAt K r (length u) (u ++ x ∷ y ∷ v) ≡ made (u ++ y ∷ x ∷ v)
+  untied-is-made : (r : R) (u : List A) (x y : A) (v : List A) → tied K (inForce K r u) x y ≡ false → swapAt K r (length u) (u ++ x ∷ y ∷ v) ≡ made (u ++ y ∷ x ∷ v)
   untied-is-made r [] x y v t = rw t
   untied-is-made r (z ∷ u) x y v t = rw (untied-is-made (after r z) u x y v t)
 
@@ -98,14 +99,11 @@ module _ {A R : Type 0} (K : Records A R) where
     open Lawful L using (same-eq, share-sym, meet-sym, meet-refl)
 
     tied-sym : (r : R) (x y : A) → tied K r x y ≡ tied K r y x
-    tied-sym r x y =
-        let a = share-sym x y in
-        let b = meet-sym r x y in
-        cases (isRack x) (λ e. cases (isRack y) (λ f. cc) (λ f. cc)) (λ e. cases (isRack y) (λ f. cc) (λ f. cc))
+    tied-sym r x y = tie-sym (isRack x) (isRack y) (share-sym x y) (meet-sym r x y)
 
     -- equal records are tied
     tied-refl : (r : R) (x : A) → tied K r x x ≡ true
-    tied-refl r x = cases (isRack x) (λ a. cc) (λ a. cases (share x x) (λ b. cc) (λ b. cc (meet-refl r x a b)))
+    tied-refl r x = tied-by (isRack x) (isRack x) (meet-refl r x)
 
     pub equals-are-tied : (r : R) (x y : A) → K .same x y ≡ true → tied K r x y ≡ true
     equals-are-tied r x y e = rw (← same-eq x y e) (tied-refl r x)
