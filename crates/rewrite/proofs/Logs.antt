@@ -1,7 +1,7 @@
 -- A log replayed from a place on, one record at a time, and the program laid again after a swap. Assumes nothing.
 use Prim.Native.Nat.{ℕ, zero, suc, _+_, _-_, _*_, _≤_, _<_}
 use mathlib.Core.Path.{_≡_, refl, sym, ap, subst, _∙_}
-use mathlib.Core.Bool.{false, true≢false, cond}
+use mathlib.Core.Bool.{false, true≢false}
 use mathlib.Core.List.{List, [], _∷_}
 use native.Mathlib.Omega.{arith}
 use native.Mathlib.Numerals.{add-one}
@@ -12,16 +12,14 @@ use borrow.Author.Tests.{eq-eqb, ne-eqb}
 use Rattle.machine.specs.declared.Racking.{Racking}
 use Rattle.record.specs.Format.{byte}
 use Rattle.trace.specs.Swaps.{Outcome, no-pair, is-tied, made, swapAt}
-use Rattle.trace.proofs.Swaps.{behind-made, front-made}
-use Rattle.rewrite.specs.Extents.{isRack, shareCarrier, meets, extentOf}
-use Rattle.rewrite.specs.Programs.{flat, recordsOf, startsOf, what, knitting}
+use Rattle.trace.proofs.Swaps.{behind-made, front-made, untied}
+use Rattle.rewrite.specs.Programs.{flat, recordsOf, startsOf, knitting}
 use Rattle.rewrite.specs.Rewrite.{rackingZero, swapOf, Replay, ended, onOutcome, replay}
 use Rattle.rewrite.specs.Laid.{Whole, Laid, Marked, rackByte, swapNo, leftBy}
-use Rattle.rewrite.proofs.Lawful.{or-parts}
 use Rattle.rewrite.proofs.Records.{records-flat, flat-records}
 use Rattle.rewrite.proofs.Laying.{starts-length, work-length}
 use Rattle.rewrite.proofs.Replays.{Moved, made-moved}
-use Rattle.rewrite.proofs.Rackings.{kind-is}
+use Rattle.rewrite.proofs.Rackings.{byteAfter, kind-is}
 
 -- ---- one log record
 module _ (log : List ℕ) (at : ℕ) (l : List (List ℕ)) where
@@ -97,12 +95,12 @@ made-rack [] m r i w e k b = absurd (true≢false (cc))
 made-rack (x ∷ []) m r zero w e k b = absurd (true≢false (cc))
 made-rack (x ∷ y ∷ l) m r zero (w, (v, u)) e k b =
     let (t, f) = front-made knitting r x y l m e in
-    let (p, q, _, _) = or-parts (isRack (what x)) (isRack (what y)) (shareCarrier (what x) (what y)) (meets (extentOf r (what x)) (extentOf r (what y))) t in
+    let (p, q, _, _) = untied knitting r x y t in
     rw f (pair-rack x y l (kind-is x w ∙ p) (kind-is y v ∙ q) k b)
 made-rack (x ∷ l) m r (suc i) (w, v) e zero b = refl
 made-rack (x ∷ l) m r (suc i) (w, v) e (suc k) b =
     let (n, f, g) = behind-made x (swapAt knitting (knitting .after r x) i l) m e in
-    rw g (made-rack l n (knitting .after r x) i v f k (cond (eqb (byte x 0) 1) (byte x 1) b))
+    rw g (made-rack l n (knitting .after r x) i v f k (byteAfter b x))
 
 -- ---- the program after a swap is laid and marked as before
 module _ (p w table : List ℕ) (laid : Laid p w) (marked : Marked p table) (i : ℕ) (m : List (List ℕ)) (e : swapOf i (recordsOf p) ≡ made m)

@@ -82,7 +82,7 @@ module _ {A R : Type 0} (K : Records A R) where
         λ i. record { stretch = k i; racking = r i; what = x i }
 
     pub marks-tied-refl : (z : Mark A R) → tiedMarks z z ≡ true
-    marks-tied-refl z = tied-by (isRack (z .what)) (isRack (z .what)) (λ a b. ap₂ _&&_ (together-eq z z refl refl) (meet-refl (z .racking) (z .what) a b))
+    marks-tied-refl z = tied-by (isRack (z .what)) (isRack (z .what)) (λ a b c. ap₂ _&&_ (together-eq z z refl refl) (meet-refl (z .racking) (z .what) a c))
 
     pub marks-tied-sym : (z w : Mark A R) → tiedMarks z w ≡ tiedMarks w z
     marks-tied-sym z w =

@@ -103,7 +103,7 @@ module _ {A R : Type 0} (K : Records A R) where
 
     -- equal records are tied
     tied-refl : (r : R) (x : A) → tied K r x x ≡ true
-    tied-refl r x = tied-by (isRack x) (isRack x) (meet-refl r x)
+    tied-refl r x = tied-by (isRack x) (isRack x) (λ a b. meet-refl r x a)
 
     pub equals-are-tied : (r : R) (x y : A) → K .same x y ≡ true → tied K r x y ≡ true
     equals-are-tied r x y e = rw (← same-eq x y e) (tied-refl r x)

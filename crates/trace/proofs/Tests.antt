@@ -19,8 +19,8 @@ test-eq false false f g = refl
 
 -- a tie: first a rack, second a rack, one carrier, extents that meet
 module _ (a b : Bool) {c d : Bool} where
-  pub tied-by : (a ≡ false → c ≡ false → d ≡ true) → (a || (b || (c || d))) ≡ true
-  tied-by f = cases a (λ p. cc) λ p. cases b (λ q. cc) λ q. cases c (λ r. cc) (λ r. cc (f p r))
+  pub tied-by : (a ≡ false → b ≡ false → c ≡ false → d ≡ true) → (a || (b || (c || d))) ≡ true
+  tied-by f = cases a (λ p. cc) λ p. cases b (λ q. cc) λ q. cases c (λ r. cc) (λ r. cc (f p q r))
 
   pub tie-sym : {e g : Bool} → c ≡ e → d ≡ g → (a || (b || (c || d))) ≡ (b || (a || (e || g)))
   tie-sym p q = cases a (λ r. cases b (λ s. cc) (λ s. cc)) (λ r. cases b (λ s. cc) (λ s. cc))
