@@ -102,33 +102,38 @@ made-rack (x ∷ l) m r (suc i) (w, v) e (suc k) b =
     let (n, f, g) = behind-made x (swapAt knitting (knitting .after r x) i l) m e in
     rw g (made-rack l n (knitting .after r x) i v f k (byteAfter b x))
 
--- ---- the program after a swap is laid and marked as before
+-- ---- the program after a swap: its records are those that the swap left, and it is laid and marked as before
+pub record After (p w table : List ℕ) (m : List (List ℕ)) (q v : List ℕ) : Type 0 where
+  pub records : recordsOf q ≡ m
+  pub bytes : length q ≡ length p
+  pub entries : length v ≡ length w
+  pub laid : Laid q v
+  pub marked : Marked q table
 module _ (p w table : List ℕ) (laid : Laid p w) (marked : Marked p table) (i : ℕ) (m : List (List ℕ)) (e : swapOf i (recordsOf p) ≡ made m)
     (q v : List ℕ) (bytes : q ≡ flat m) (starts : v ≡ startsOf 0 m) where
   moved : Moved (recordsOf p) m
   moved = made-moved knitting (recordsOf p) m rackingZero i e
 
-  pub records-after : recordsOf q ≡ m
+  records-after : recordsOf q ≡ m
   records-after = ap recordsOf bytes ∙ flat-records m (moved .whole (laid .sound .whole))
 
-  pub length-after : length q ≡ length p
+  length-after : length q ≡ length p
   length-after = ap length bytes ∙ moved .bytes ∙ ap length (records-flat p)
 
-  pub work-after : length v ≡ length w
-  work-after = ap length starts ∙ starts-length 0 m ∙ moved .records ∙ sym (work-length p w laid)
-
-  pub laid-after : Laid q v
-  laid-after =
+  pub after-swap : After p w table m q v
+  after-swap =
       record {
-        sound = record { whole = subst Whole (sym records-after) (moved .whole (laid .sound .whole)); short = omega (arith, length-after, laid .sound .short) };
-        starts = starts ∙ ap (startsOf 0) (sym records-after);
-      }
-
-  pub marked-after : Marked q table
-  marked-after =
-      record {
-        long = marked .long;
-        marks = λ k h. marked .marks k (omega (arith, ap length records-after, moved .records))
-            ∙ made-rack (recordsOf p) m rackingZero i (laid .sound .whole) e (k * 64) 0
-            ∙ ap (λ (l : List (List ℕ)). rackByte 0 (take (k * 64) l)) (sym records-after);
+        records = records-after;
+        bytes = length-after;
+        entries = ap length starts ∙ starts-length 0 m ∙ moved .records ∙ sym (work-length p w laid);
+        laid = record {
+          sound = record { whole = subst Whole (sym records-after) (moved .whole (laid .sound .whole)); short = omega (arith, length-after, laid .sound .short) };
+          starts = starts ∙ ap (startsOf 0) (sym records-after);
+        };
+        marked = record {
+          long = marked .long;
+          marks = λ k h. marked .marks k (omega (arith, ap length records-after, moved .records))
+              ∙ made-rack (recordsOf p) m rackingZero i (laid .sound .whole) e (k * 64) 0
+              ∙ ap (λ (l : List (List ℕ)). rackByte 0 (take (k * 64) l)) (sym records-after);
+        };
       }
