@@ -40,17 +40,13 @@ module _ (log : List ℕ) (at : ℕ) (l : List (List ℕ)) where
   module _ (h : at + 2 < length log) where
     three : drop at log ≡ getD log at 0 ∷ getD log (at + 1) 0 ∷ getD log (at + 2) 0 ∷ drop (at + 3) log
     three =
+        let second : suc (at + 1) ≡ at + 2 = omega arith in
+        let third : suc (at + 2) ≡ at + 3 = omega arith in
         drop-cons log at 0 (omega arith)
         ∙ ap (λ (q : List ℕ). getD log at 0 ∷ q)
         (ap (λ (n : ℕ). drop n log) (sym (add-one at)) ∙ drop-cons log (at + 1) 0 (omega arith)
         ∙ ap (λ (q : List ℕ). getD log (at + 1) 0 ∷ q)
-        (ap (λ (n : ℕ). drop n log) (second at) ∙ drop-cons log (at + 2) 0 h ∙ ap (λ (n : ℕ). getD log (at + 2) 0 ∷ drop n log) (third at)))
-      where
-        second : (n : ℕ) → suc (n + 1) ≡ n + 2
-        second n = omega arith
-
-        third : (n : ℕ) → suc (n + 2) ≡ n + 3
-        third n = omega arith
+        (ap (λ (n : ℕ). drop n log) second ∙ drop-cons log (at + 2) 0 h ∙ ap (λ (n : ℕ). getD log (at + 2) 0 ∷ drop n log) third))
 
     pub log-kind : (getD log at 0 ≡ 64 → ⊥) → replay (drop at log) at l ≡ ended 14 at l
     unfolding replay

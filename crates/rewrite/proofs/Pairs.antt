@@ -40,8 +40,9 @@ module _ (u : List (List ℕ)) (x y : List ℕ) (v : List (List ℕ)) where
       let front : take a o ≡ flat u = take-at (flat u) _ a refl in
       let first : drop a o ≡ x ++ (y ++ flat v) = drop-at (flat u) _ a refl in
       let second : drop b o ≡ y ++ flat v = drop-append-add (flat u) (x ++ (y ++ flat v)) (length x) ∙ drop-at x _ (length x) refl in
+      let z : e ≡ a + (length x + length y) = omega arith in
       let past : drop e o ≡ flat v =
-      ap (λ (n : ℕ). drop n o) (assoc a (length x) (length y)) ∙ drop-append-add (flat u) (x ++ (y ++ flat v)) (length x + length y)
+      ap (λ (n : ℕ). drop n o) z ∙ drop-append-add (flat u) (x ++ (y ++ flat v)) (length x + length y)
       ∙ drop-append-add x (y ++ flat v) (length y) ∙ drop-at y _ (length y) refl in
       let m : e - b ≡ length y = omega arith in
       let n : b - a ≡ length x = omega arith in
@@ -49,9 +50,6 @@ module _ (u : List (List ℕ)) (x y : List ℕ) (v : List (List ℕ)) where
       ∙ (λ i. front i ++ (take (m i) (second i) ++ (take (n i) (first i) ++ past i)))
       ∙ (λ i. flat u ++ (take-at y (flat v) (length y) refl i ++ (take-at x (y ++ flat v) (length x) refl i ++ flat v)))
       ∙ sym (flat-append u (y ∷ x ∷ v))
-    where
-      assoc : (a b c : ℕ) → a + b + c ≡ a + (b + c)
-      assoc a b c = omega arith
 
   -- the starts: only the second moves
   starts-exchanged : (n : ℕ) → length u + 1 ≡ n → set (startsOf 0 (u ++ x ∷ y ∷ v)) n (before + length y) ≡ startsOf 0 (u ++ y ∷ x ∷ v)

@@ -5,13 +5,13 @@ use mathlib.Core.Path.{_≡_, refl, ap, _∙_}
 use mathlib.Core.Bool.{false, true≢false, _&&_}
 use mathlib.Core.List.{List, [], _∷_, _++_}
 use native.Mathlib.Omega.{arith}
-use native.Mathlib.Nat.{div-add-mod'}
+use native.Mathlib.Nat.{div-add-mod', lt-of-not-le}
 use lib.Dec.{eqb, leb}
 use lib.ListN.{length, length-append}
 use borrow.Author.Tests.{eqb-true, le-leb, lt-leb}
 use Rattle.trace.specs.Records.{Records}
 use Rattle.trace.specs.Swaps.{Outcome, no-pair, is-tied, made, swapAt, Swaps, no-swap, swap-first}
-use Rattle.trace.proofs.Swaps.{behind-made, front-made}
+use Rattle.trace.proofs.Swaps.{behind-made, front-made, short-no-pair}
 use Rattle.rewrite.specs.Programs.{flat, knitting}
 use Rattle.rewrite.specs.Rewrite.{rackingZero, swapOf, Replay, ended, onOutcome, replay}
 use Rattle.rewrite.specs.Calls.{logOf}
@@ -59,12 +59,7 @@ module _ {R : Type 0} (K : Records (List ℕ) R) where
 
   -- a swap that is made has its two records
   pub made-pair : (l m : List (List ℕ)) (r : R) (i : ℕ) → swapAt K r i l ≡ made m → suc i < length l
-  made-pair [] m r i e = absurd (true≢false (cc))
-  made-pair (x ∷ []) m r zero e = absurd (true≢false (cc))
-  made-pair (x ∷ y ∷ l) m r zero e = omega arith
-  made-pair (x ∷ l) m r (suc i) e =
-      let (n, f, g) = behind-made x (swapAt K (K .after r x) i l) m e in
-      omega (arith, made-pair l n (K .after r x) i f)
+  made-pair l m r i e = lt-of-not-le (λ h. true≢false (cc (short-no-pair K r i l h)))
 
 -- ---- one log record: its swap is made, or the two are tied
 pub replay-made : (high low : ℕ) (log : List ℕ) (at : ℕ) (l m : List (List ℕ)) → swapOf (high * 256 + low) l ≡ made m → replay (64 ∷ high ∷ low ∷ log) at l ≡ replay log (at + 3) m
