@@ -121,7 +121,6 @@ moved-moved a b c d p q w k =
     (λ g. let h : sameNeedle (k .needle) c ≡ false = ap (λ (n : Needle). sameNeedle n c) (needle-eq (k .needle) a g) ∙ p in simp (t, g, h, w))
     (λ g. cases (sameNeedle (k .needle) c) (λ h. simp (t, g, h, q)) (λ h. simp (t, g, h))))
 
-
 act-free : (x : Record) (r : Racking) (a : Needle) → (1 ≤ needleCount (x .kind) → sameNeedle (x .at) a ≡ false) → Free a (actOf x r)
 unfolding actOf
 act-free x r a h =

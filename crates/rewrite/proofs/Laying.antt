@@ -124,7 +124,6 @@ module _ (p : List ℕ) (sound : Sound p) (n at : ℕ) (h : Upto p n at) where
   own-laid : Laid p own
   own-laid = record { sound = sound; starts = refl }
 
-
   more : n < length (recordsOf p) → Stands p own n
   more i = stands p own own-laid n (omega (arith, starts-length 0 (recordsOf p)))
 

@@ -105,6 +105,7 @@ pub record After (p w table : List ℕ) (m : List (List ℕ)) (q v : List ℕ) :
   pub entries : length v ≡ length w
   pub laid : Laid q v
   pub marked : Marked q table
+
 module _ (p w table : List ℕ) (laid : Laid p w) (marked : Marked p table) (i : ℕ) (m : List (List ℕ)) (e : swapOf i (recordsOf p) ≡ made m)
     (q v : List ℕ) (bytes : q ≡ flat m) (starts : v ≡ startsOf 0 m) where
   moved : Moved (recordsOf p) m

@@ -24,11 +24,11 @@ use Rattle.rewrite.proofs.Records.{whole-form}
 -- the byte after one record more
 abbrev pub byteAfter : ℕ → List ℕ → ℕ
 byteAfter b x = cond (eqb (byte x 0) 1) (byte x 1) b
+
 rack-append : (b : ℕ) (u v : List (List ℕ)) → rackByte b (u ++ v) ≡ rackByte (rackByte b u) v
 unfolding rackByte
 rack-append b [] v = refl
 rack-append b (x ∷ u) v = rack-append (byteAfter b x) u v
-
 
 pub rack-next : (b : ℕ) (l : List (List ℕ)) (j n : ℕ) → j < n → n ≤ length l
     → rackByte b (take (n - j) (drop j l)) ≡ rackByte (byteAfter b (getD l j [])) (take (n - (j + 1)) (drop (j + 1) l))

@@ -12,7 +12,6 @@ use Rattle.list.specs.Text.{lines, carrierLine, carriersOf}
 use Rattle.list.proofs.put_carriers.Statement.{statement}
 use Rattle.list.proofs.put_carriers.Tie as tie
 
-
 abbrev Inv-loop : tie.InvT-loop
 Inv-loop text₀ at carriers end₀ k₀ text end k = (k ≤ 10) × (length carriers ≡ 10) × Grown text₀ at (carriersOf (take k carriers)) text end
 

@@ -10,7 +10,6 @@ use Rattle.list.specs.Text.{lines, hookLine, hooksOf}
 use Rattle.list.proofs.put_hooks.Statement.{statement}
 use Rattle.list.proofs.put_hooks.Tie as tie
 
-
 abbrev Inv-loop : tie.InvT-loop
 Inv-loop text₀ at bed loops end₀ n₀ text end n = (n ≤ length loops) × Grown text₀ at (hooksOf bed (take n loops)) text end
 
