@@ -1,7 +1,7 @@
 -- A log replayed from a place on, one record at a time, and the program laid again after a swap. Assumes nothing.
 use Prim.Native.Nat.{ℕ, zero, suc, _+_, _-_, _*_, _≤_, _<_}
 use mathlib.Core.Path.{_≡_, refl, sym, ap, subst, _∙_}
-use mathlib.Core.Bool.{false, true≢false}
+use mathlib.Core.Bool.{false}
 use mathlib.Core.List.{List, [], _∷_}
 use native.Mathlib.Omega.{arith}
 use native.Mathlib.Numerals.{add-one}
@@ -11,8 +11,8 @@ use lib.Seq.{drop-cons}
 use borrow.Author.Tests.{eq-eqb, ne-eqb}
 use Rattle.machine.specs.declared.Racking.{Racking}
 use Rattle.record.specs.Format.{byte}
-use Rattle.trace.specs.Swaps.{Outcome, no-pair, is-tied, made, swapAt}
-use Rattle.trace.proofs.Swaps.{behind-made, front-made, untied}
+use Rattle.trace.specs.Swaps.{Outcome, no-pair, is-tied, made}
+use Rattle.trace.proofs.Swaps.{Made, made-is, untied}
 use Rattle.rewrite.specs.Programs.{flat, recordsOf, startsOf, knitting}
 use Rattle.rewrite.specs.Rewrite.{rackingZero, swapOf, Replay, ended, onOutcome, replay}
 use Rattle.rewrite.specs.Laid.{Whole, Laid, Marked, rackByte, swapNo, leftBy}
@@ -85,18 +85,13 @@ pair-rack x y l e f (suc (suc k)) b = both (take k l)
     both : (q : List (List ℕ)) → rackByte b (x ∷ y ∷ q) ≡ rackByte b (y ∷ x ∷ q)
     both q = simp (e, f)
 
-made-rack : (l m : List (List ℕ)) (r : Racking) (i : ℕ) → Whole l → swapAt knitting r i l ≡ made m → (k b : ℕ) → rackByte b (take k l) ≡ rackByte b (take k m)
+made-rack : {r : Racking} {i : ℕ} {l m : List (List ℕ)} → Made knitting r i l m → Whole l → (k b : ℕ) → rackByte b (take k l) ≡ rackByte b (take k m)
 unfolding rackByte
-made-rack [] m r i w e k b = absurd (true≢false (cc))
-made-rack (x ∷ []) m r zero w e k b = absurd (true≢false (cc))
-made-rack (x ∷ y ∷ l) m r zero (w, (v, u)) e k b =
-    let (t, f) = front-made knitting r x y l m e in
+made-rack (Made.here {r} {x} {y} {l} t) (w, (v, u)) k b =
     let (p, q, _, _) = untied knitting r x y t in
-    rw f (pair-rack x y l (kind-is x w ∙ p) (kind-is y v ∙ q) k b)
-made-rack (x ∷ l) m r (suc i) (w, v) e zero b = refl
-made-rack (x ∷ l) m r (suc i) (w, v) e (suc k) b =
-    let (n, f, g) = behind-made x (swapAt knitting (knitting .after r x) i l) m e in
-    rw g (made-rack l n (knitting .after r x) i v f k (byteAfter b x))
+    pair-rack x y l (kind-is x w ∙ p) (kind-is y v ∙ q) k b
+made-rack (Made.there s) (w, v) zero b = refl
+made-rack (Made.there {x = x} s) (w, v) (suc k) b = made-rack s v k (byteAfter b x)
 
 -- ---- the program after a swap: its records are those that the swap left, and it is laid and marked as before
 pub record After (p w table : List ℕ) (m : List (List ℕ)) (q v : List ℕ) : Type 0 where
@@ -108,8 +103,11 @@ pub record After (p w table : List ℕ) (m : List (List ℕ)) (q v : List ℕ) :
 
 module _ (p w table : List ℕ) (laid : Laid p w) (marked : Marked p table) (i : ℕ) (m : List (List ℕ)) (e : swapOf i (recordsOf p) ≡ made m)
     (q v : List ℕ) (bytes : q ≡ flat m) (starts : v ≡ startsOf 0 m) where
+  swapped : Made knitting rackingZero i (recordsOf p) m
+  swapped = made-is knitting (recordsOf p) m rackingZero i e
+
   moved : Moved (recordsOf p) m
-  moved = made-moved knitting (recordsOf p) m rackingZero i e
+  moved = made-moved knitting swapped
 
   records-after : recordsOf q ≡ m
   records-after = ap recordsOf bytes ∙ flat-records m (moved .whole (laid .sound .whole))
@@ -130,7 +128,7 @@ module _ (p w table : List ℕ) (laid : Laid p w) (marked : Marked p table) (i :
         marked = record {
           long = marked .long;
           marks = λ k h. marked .marks k (omega (arith, ap length records-after, moved .records))
-              ∙ made-rack (recordsOf p) m rackingZero i (laid .sound .whole) e (k * 64) 0
+              ∙ made-rack swapped (laid .sound .whole) (k * 64) 0
               ∙ ap (λ (l : List (List ℕ)). rackByte 0 (take (k * 64) l)) (sym records-after);
         };
       }

@@ -1,6 +1,6 @@
 -- What a log makes of a list of records: swaps that are made one after another, up to its end or to the log record that is refused. Assumes nothing.
 use borrow.Table.Steps.{cases}
-use Prim.Native.Nat.{ℕ, zero, suc, _+_, _*_, _/_, _%_, _≤_, _<_}
+use Prim.Native.Nat.{ℕ, suc, _+_, _*_, _/_, _%_, _≤_, _<_}
 use mathlib.Core.Path.{_≡_, refl, ap, _∙_}
 use mathlib.Core.Bool.{false, true≢false, _&&_}
 use mathlib.Core.List.{List, [], _∷_, _++_}
@@ -11,7 +11,7 @@ use lib.ListN.{length, length-append}
 use borrow.Author.Tests.{eqb-true, le-leb, lt-leb}
 use Rattle.trace.specs.Records.{Records}
 use Rattle.trace.specs.Swaps.{Outcome, no-pair, is-tied, made, swapAt, Swaps, no-swap, swap-first}
-use Rattle.trace.proofs.Swaps.{behind-made, front-made, short-no-pair}
+use Rattle.trace.proofs.Swaps.{Made, made-is, short-no-pair}
 use Rattle.rewrite.specs.Programs.{flat, knitting}
 use Rattle.rewrite.specs.Rewrite.{rackingZero, swapOf, Replay, ended, onOutcome, replay}
 use Rattle.rewrite.specs.Calls.{logOf}
@@ -42,18 +42,14 @@ stays x {l} {m} s =
     }
 
 module _ {R : Type 0} (K : Records (List ℕ) R) where
-  pub made-moved : (l m : List (List ℕ)) (r : R) (i : ℕ) → swapAt K r i l ≡ made m → Moved l m
-  made-moved [] m r i e = absurd (true≢false (cc))
-  made-moved (x ∷ []) m r zero e = absurd (true≢false (cc))
-  made-moved (x ∷ y ∷ l) m r zero e = rw (front-made K r x y l m e .1) (neighbours x y l)
-  made-moved (x ∷ l) m r (suc i) e =
-      let (n, f, g) = behind-made x (swapAt K (K .after r x) i l) m e in
-      rw g (stays x (made-moved l n (K .after r x) i f))
+  pub made-moved : {r : R} {i : ℕ} {l m : List (List ℕ)} → Made K r i l m → Moved l m
+  made-moved (Made.here {x = x} {y = y} {l = l} t) = neighbours x y l
+  made-moved (Made.there {x = x} s) = stays x (made-moved s)
 
   pub swaps-moved : {r : R} {is : List ℕ} {l m : List (List ℕ)} → Swaps K r is l m → Moved l m
   swaps-moved no-swap = record { records = refl; bytes = refl; whole = λ w. w }
   swaps-moved {r} (swap-first {i} {is} {l} {m} {n} e t) =
-      let a = made-moved l m r i e in
+      let a = made-moved (made-is K l m r i e) in
       let b = swaps-moved t in
       record { records = b .records ∙ a .records; bytes = b .bytes ∙ a .bytes; whole = λ w. b .whole (a .whole w) }
 
