@@ -31,23 +31,6 @@ module _ {A R : Type 0} (K : Records A R) where
       cases (share x y) (λ c. absurd (true≢false (cc))) λ c.
       (a, b, c, cc)
 
-  -- a swap that is made: of the two records at the front, or behind a record that stays
-  pub data Made : R → ℕ → List A → List A → Type 0 where
-    here : {r : R} {x y : A} {l : List A} → tied K r x y ≡ false → Made r zero (x ∷ y ∷ l) (y ∷ x ∷ l)
-    there : {r : R} {x : A} {i : ℕ} {l m : List A} → Made (after r x) i l m → Made r (suc i) (x ∷ l) (x ∷ m)
-
-  pub made-is : (l m : List A) (r : R) (i : ℕ) → swapAt K r i l ≡ made m → Made r i l m
-  made-is [] m r i e = absurd (true≢false (cc))
-  made-is (x ∷ []) m r zero e = absurd (true≢false (cc))
-  made-is (x ∷ y ∷ l) m r zero e = cases (tied K r x y) (λ t. absurd (true≢false (cc))) (λ t. let f : m ≡ y ∷ x ∷ l = cc in rw f (here t))
-  made-is (x ∷ l) m r (suc i) e =
-      let (n, f, g) = behind-made x (swapAt K (after r x) i l) m e in
-      rw g (there (made-is l n (after r x) i f))
-
-  is-made : {r : R} {i : ℕ} {l m : List A} → Made r i l m → swapAt K r i l ≡ made m
-  is-made (here t) = rw t
-  is-made (there s) = rw (is-made s)
-
   -- a swap of two neighbours that stand there
   untied-is-made : (r : R) (u : List A) (x y : A) (v : List A) → tied K (inForce K r u) x y ≡ false → swapAt K r (length u) (u ++ x ∷ y ∷ v) ≡ made (u ++ y ∷ x ∷ v)
   untied-is-made r [] x y v t = rw t
@@ -90,6 +73,23 @@ module _ {A R : Type 0} (K : Records A R) where
   pub swaps-append : {r : R} {is js : List ℕ} {l m n : List A} → Swaps K r is l m → Swaps K r js m n → Swaps K r (is ++ js) l n
   swaps-append no-swap t = t
   swaps-append (swap-first e s) t = swap-first e (swaps-append s t)
+
+  -- a swap that is made: of the two records at the front, or behind a record that stays
+  pub data Made : R → ℕ → List A → List A → Type 0 where
+    here : {r : R} {x y : A} {l : List A} → tied K r x y ≡ false → Made r zero (x ∷ y ∷ l) (y ∷ x ∷ l)
+    there : {r : R} {x : A} {i : ℕ} {l m : List A} → Made (after r x) i l m → Made r (suc i) (x ∷ l) (x ∷ m)
+
+  pub made-is : (l m : List A) (r : R) (i : ℕ) → swapAt K r i l ≡ made m → Made r i l m
+  made-is [] m r i e = absurd (true≢false (cc))
+  made-is (x ∷ []) m r zero e = absurd (true≢false (cc))
+  made-is (x ∷ y ∷ l) m r zero e = cases (tied K r x y) (λ t. absurd (true≢false (cc))) (λ t. let f : m ≡ y ∷ x ∷ l = cc in rw f (here t))
+  made-is (x ∷ l) m r (suc i) e =
+      let (n, f, g) = behind-made x (swapAt K (after r x) i l) m e in
+      rw g (there (made-is l n (after r x) i f))
+
+  is-made : {r : R} {i : ℕ} {l m : List A} → Made r i l m → swapAt K r i l ≡ made m
+  is-made (here t) = rw t
+  is-made (there s) = rw (is-made s)
 
   -- the list of those that pass a test is kept, if two that pass are always tied
   module _ (p : A → Bool) (ok : (r : R) (x y : A) → p x ≡ true → p y ≡ true → tied K r x y ≡ true) where
