@@ -2,7 +2,7 @@
 use borrow.Table.Steps.{cases}
 use Prim.Native.Nat.{ℕ, _-_, _≤_}
 use mathlib.Core.Path.{_≡_, refl, sym, ap, _∙_}
-use mathlib.Core.Bool.{Bool, true, false, _&&_, not, cond, true≢false}
+use mathlib.Core.Bool.{false, true, _&&_, and-false, not, cond, true≢false}
 use mathlib.Core.List.{List, [], _∷_}
 use mathlib.Core.Option.{Option, none}
 use native.Mathlib.Omega.{arith}
@@ -121,17 +121,13 @@ moved-moved a b c d p q w k =
     (λ g. let h : sameNeedle (k .needle) c ≡ false = ap (λ (n : Needle). sameNeedle n c) (needle-eq (k .needle) a g) ∙ p in simp (t, g, h, w))
     (λ g. cases (sameNeedle (k .needle) c) (λ h. simp (t, g, h, q)) (λ h. simp (t, g, h))))
 
-and-no : (t : Bool) → (t && false) ≡ false
-and-no true = refl
-and-no false = refl
-
 act-free : (x : Record) (r : Racking) (a : Needle) → (1 ≤ needleCount (x .kind) → sameNeedle (x .at) a ≡ false) → Free a (actOf x r)
 unfolding actOf
 act-free x r a h =
     cases (leb (x .kind) 4) (λ e. rw e (λ k. refl))
     (λ e. cases (eqb (x .kind) 5) (λ f. rw (e, f) (λ k. refl))
     (λ f. cases (eqb (x .kind) 6) (λ g. rw (e, f, g) (λ k. absurd (true≢false k)))
-    (λ g. rw (e, f, g) (λ k. rw (h (forms (x .kind) (omega (arith, leb-false (x .kind) 4 e, eqb-false (x .kind) 5 f, eqb-false (x .kind) 6 g)))) (and-no (not (eqb (cond (x .right) 2 1) 0)))))))
+    (λ g. rw (e, f, g) (λ k. rw (h (forms (x .kind) (omega (arith, leb-false (x .kind) 4 e, eqb-false (x .kind) 5 f, eqb-false (x .kind) 6 g)))) (and-false (not (eqb (cond (x .right) 2 1) 0)))))))
 
 inactive-moved : (a b : Needle) → movedTo a b inactive ≡ inactive
 unfolding movedTo attachedAt

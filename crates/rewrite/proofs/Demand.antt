@@ -15,14 +15,14 @@ use Rattle.trace.specs.Swaps.{made, Swaps, no-swap, swap-first}
 use Rattle.trace.specs.Order.{inForce, SameOrder}
 use Rattle.trace.specs.Machine.{Kept}
 use Rattle.trace.proofs.Theorems.{made-iff-untied, refused-iff-tied, reaches-exactly, swaps-keep}
-use Rattle.trace.proofs.Swaps.{swaps-append}
+use Rattle.trace.proofs.Swaps.{swaps-append, equals-are-tied}
 use Rattle.rewrite.specs.Programs.{flat, recordsOf, knitting, needle, carrier, names}
 use Rattle.rewrite.specs.Rewrite.{rackingZero, swapOf, Replay, ended, replay, Rewritten, written}
 use Rattle.rewrite.specs.Calls.{Call, callOf, numberOf, handedOn, after, logOf, AllAccepted}
 use Rattle.rewrite.specs.Claims.{RecordsEndToEnd, EachEncodes, RecordsEncode, TiedExactly, EqualRecordsTied, RewritePlaceIsSmall, SameProgram, Keeps, Lent, ComesTo, SwapExactly, Demand3}
 use Rattle.rewrite.specs.Laid.{Whole}
 use Rattle.rewrite.proofs.Machine.{machine, Good}
-use Rattle.rewrite.proofs.Lawful.{lawful, orderly, tied-exactly, equal-tied}
+use Rattle.rewrite.proofs.Lawful.{lawful, orderly, tied-exactly}
 use Rattle.rewrite.proofs.Records.{records-flat, whole-form, steps-whole}
 use Rattle.rewrite.proofs.Joined.{valid-ends, ends-valid}
 use Rattle.rewrite.proofs.Replays.{swaps-moved, replay-made, replay-tied, replay-place, replay-front, replay-log}
@@ -151,7 +151,7 @@ pub ties : TiedExactly
 ties = tied-exactly
 
 pub equals-tied : EqualRecordsTied
-equals-tied = equal-tied
+equals-tied r x = equals-are-tied knitting lawful r x x (lawful .same-refl x)
 
 pub place-bound : RewritePlaceIsSmall
 place-bound = place-small

@@ -1,16 +1,16 @@
 -- Extents and ties, read as code tests them. Assumes nothing.
 use borrow.Table.Steps.{cases}
-use Prim.Native.Nat.{ℕ, suc, _+_, _≤_, _<_}
-use mathlib.Core.Path.{_≡_, refl, sym, _∙_}
-use mathlib.Core.Bool.{Bool, true, false, _&&_, _||_}
+use Prim.Native.Nat.{ℕ, _+_, _≤_, _<_}
+use mathlib.Core.Path.{_≡_, refl, sym, ap, _∙_}
+use mathlib.Core.Bool.{Bool, true, false, _&&_, _||_, or-false, or-assoc}
 use native.Mathlib.Omega.{arith}
 use mathlib.Core.List.{List}
 use lib.IntN.{ℤ, pos, negsuc, _+ℤ_, _-ℤ_, natAbs}
 use lib.Signed.{leZ, ltZ, mag}
 use mir.Syntax.{w32}
 use mir.Val.{toZ, ofZ}
-use lib.Dec.{eqb, leb, ltb}
-use borrow.Author.Tests.{eq-eqb, ne-eqb, le-leb, lt-leb, lt-ltb, le-ltb, ltb-true, ltb-false}
+use lib.Dec.{eqb, leb, ltb, leb·suc-suc}
+use borrow.Author.Tests.{eq-eqb, ne-eqb, le-leb, lt-leb, ltb-true}
 use Rattle.machine.proofs.Signed.{back, ltZ-true, ltZ-false, up, dn, sum, difference}
 use Rattle.machine.proofs.Laws.{and-two}
 use Rattle.machine.specs.Geometry.{columnOf}
@@ -177,21 +177,9 @@ far-apart r x y e =
 -- the comparison of columns, as code makes it
 pub outside : (d : ℤ) → ltb 1 (natAbs d) ≡ (ltZ d (negsuc 0) || ltZ (pos 1) d)
 outside (pos n) = refl
-outside (negsuc n) = below n ∙ or-false (ltb 0 n)
-  where
-    below : (n : ℕ) → ltb 1 (suc n) ≡ ltb 0 n
-    below n = cases (ltb 0 n) (λ e. lt-ltb 1 (suc n) (omega (arith, ltb-true 0 n e)) ∙ sym e) (λ e. le-ltb 1 (suc n) (omega (arith, ltb-false 0 n e)) ∙ sym e)
-
-    or-false : (t : Bool) → t ≡ (t || false)
-    or-false true = refl
-    or-false false = refl
+outside (negsuc n) = leb·suc-suc 1 n ∙ sym (or-false (ltb 0 n))
 
 -- ---- the tie of two records by their bytes
 pub tied-bytes : (r : Racking) (x y : List ℕ) → tiedAt r (what x) (what y) ≡ tied knitting r x y
 unfolding tiedAt boundTo
-tied-bytes r x y = or-last (isRack (what x)) (isRack (what y)) (shareCarrier (what x) (what y)) (meets (extentOf r (what x)) (extentOf r (what y)))
-  where
-    or-last : (a b c d : Bool) → ((a || (b || c)) || d) ≡ (a || (b || (c || d)))
-    or-last true b c d = refl
-    or-last false true c d = refl
-    or-last false false c d = refl
+tied-bytes r x y = or-assoc (isRack (what x)) _ _ ∙ ap (λ (b : Bool). isRack (what x) || b) (or-assoc (isRack (what y)) _ _)

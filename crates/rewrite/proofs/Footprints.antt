@@ -222,9 +222,9 @@ hooks-apart r x y S T clear =
     (needlesOf x) (inside r x S)
 
 -- ---- carriers
-or-false : (a b : Bool) → (a || b) ≡ false → (a ≡ false) × (b ≡ false)
-or-false true b e = absurd (true≢false e)
-or-false false b e = (refl, e)
+both-false : (a b : Bool) → (a || b) ≡ false → (a ≡ false) × (b ≡ false)
+both-false true b e = absurd (true≢false e)
+both-false false b e = (refl, e)
 
 abbrev Numbered : List ℕ → Type 0
 Numbered l = Each (λ (k : ℕ). 1 ≤ k) l
@@ -237,7 +237,7 @@ member-away : (i : ℕ) (l : List ℕ) → 1 ≤ i → Numbered l → member i l
 unfolding member
 member-away i [] a b e = tt
 member-away i (j ∷ l) a b e =
-    let (here, rest) = or-false (eqb i j) (member i l) e in
+    let (here, rest) = both-false (eqb i j) (member i l) e in
     let low = b .0 in
     ((λ q. eqb-false i j here (omega arith)), member-away i l a (b .1) rest)
 
@@ -245,7 +245,7 @@ common-apart : (is js : List ℕ) → Numbered is → Numbered js → common is 
 unfolding common
 common-apart [] js a b e = tt
 common-apart (i ∷ is) js a b e =
-    let (here, rest) = or-false (member i js) (common is js) e in
+    let (here, rest) = both-false (member i js) (common is js) e in
     (member-away i js (a .0) b here, common-apart is js (a .1) b rest)
 
 -- records that name no carrier in common work different ones

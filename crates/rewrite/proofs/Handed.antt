@@ -10,14 +10,13 @@ use lib.ListN.{length, take, drop, replicate, length-replicate}
 use lib.Seq.{take-at}
 use borrow.Author.Tests.{le-leb, le-ltb}
 use Rattle.machine.specs.declared.State.{State}
-use Rattle.machine.specs.Machine.{emptyState}
 use Rattle.run.specs.Relation.{Valid}
-use Rattle.run.specs.Run.{reached, answerOf}
+use Rattle.run.specs.Run.{answerOf}
 use Rattle.run.proofs.Premises.{is}
 use Rattle.run.proofs.Demand.{final}
 use Rattle.trace.specs.Swaps.{made, Swaps, no-swap, swap-first}
 use Rattle.rewrite.specs.Programs.{flat, recordsOf, knitting}
-use Rattle.rewrite.specs.Rewrite.{rackingZero, swapOf, Replay, ended, replay, lentNo, Rewritten, refused, written}
+use Rattle.rewrite.specs.Rewrite.{rackingZero, swapOf, Replay, ended, replay, lentNo, Rewritten, written}
 use Rattle.rewrite.specs.Calls.{Below, Call, callOf, numberOf, handedOn, logOf, Accepted}
 use Rattle.rewrite.specs.Laid.{Whole}
 use Rattle.rewrite.proofs.Records.{records-flat, flat-records, steps-whole, whole-length}
@@ -36,12 +35,10 @@ lent-number p c =
     (λ a. cases (ltb (length (c .output)) (length p) || ltb (length (c .work)) (length p / 2)) (λ b. simp (a, b) (omega arith)) (λ b. simp (a, b) (omega arith)))
 
 -- 1 and 2 hand the same program on
-call-refused : (p : List ℕ) (c : Call) → (lent p c ≡ 0 → ⊥) → callOf p c ≡ refused (answerOf (reached (lent p c) 0 emptyState)) (c .output) (c .work)
-call-refused p c h = lent-call p (c .log) (c .output) (c .work) h
 
 refused-number : (p : List ℕ) (c : Call) → (lent p c ≡ 0 → ⊥) → numberOf p c ≡ lent p c
 unfolding answerOf
-refused-number p c h = ap (λ (w : Rewritten). w .answer .number) (call-refused p c h)
+refused-number p c h = ap (λ (w : Rewritten). w .answer .number) (lent-call p (c .log) (c .output) (c .work) h)
 
 kept-program : (p : List ℕ) (c : Call) → (lent p c ≡ 0 → ⊥) → handedOn p c ≡ p
 kept-program p c h = simp (refused-number p c h, le-leb 1 (lent p c) (omega arith), le-leb (lent p c) 11 (omega (arith, lent-number p c)))

@@ -1,25 +1,22 @@
 -- A program is valid exactly if it is not too long and the machine runs its records, each by its bytes, to the end. Assumes nothing.
-use borrow.Table.Steps.{cases}
 use Prim.Native.Nat.{ℕ, _≤_}
-use mathlib.Core.Path.{_≡_, refl, sym, subst, _∙_}
-use mathlib.Core.Bool.{true, true≢false}
+use mathlib.Core.Path.{_≡_, refl, subst}
+use mathlib.Core.Bool.{true≢false}
 use mathlib.Core.List.{List, [], _∷_}
 use mathlib.Core.Option.{Option, none, some}
-use lib.Dec.{eqb}
 use lib.ListN.{length}
-use borrow.Author.Tests.{eqb-true, eq-eqb}
+use borrow.Author.Tests.{eq-eqb}
 use Rattle.machine.specs.declared.State.{State}
 use Rattle.machine.specs.Machine.{emptyState}
 use Rattle.record.specs.declared.Record.{Record}
 use Rattle.record.specs.Format.{Encodes}
 use Rattle.record.proofs.Forms.{form-in}
 use Rattle.run.specs.Relation.{Step, Steps, Valid}
-use Rattle.run.specs.Step.{numberAt, applyOf}
+use Rattle.run.specs.Step.{numberAt}
 use Rattle.run.proofs.Sound.{step-only, step-sound}
 use Rattle.trace.specs.Machine.{Ends}
 use Rattle.rewrite.specs.Programs.{flat, cut, recordsOf, what}
-use Rattle.rewrite.specs.Laid.{whole}
-use Rattle.rewrite.proofs.Machine.{stepped, machine}
+use Rattle.rewrite.proofs.Machine.{machine, Had, had}
 use Rattle.rewrite.proofs.Records.{records-flat, whole-form, form-whole, form-what, records-next}
 
 -- ---- one record
@@ -28,16 +25,8 @@ form-step {x} {r} {s} {t} form step =
     let (z, e) = step-only s r (form-in form) step in
     simp (form-whole form, form-what form) (simp (eq-eqb (numberAt s r) 0 z, e))
 
-step-whole : (s t : State) (x : List ℕ) → machine .step s x ≡ some t → whole x ≡ true
-step-whole s t x e = cases (whole x) (λ w. w) (λ w. absurd (true≢false (cc)))
-
-step-form : (s t : State) (x : List ℕ) → machine .step s x ≡ some t → Step s (what x) t
-step-form s t x e =
-    let w = step-whole s t x e in
-    let f : stepped s (what x) ≡ some t = sym (simp w) ∙ e in
-    cases (eqb (numberAt s (what x)) 0)
-    (λ z. let g : applyOf s (what x) ≡ t = cc in subst (Step s (what x)) g (step-sound s (what x) (form-in (whole-form x w)) (eqb-true (numberAt s (what x)) 0 z)))
-    (λ z. absurd (true≢false (cc)))
+step-form : (s t : State) (x : List ℕ) → Had s t x → Step s (what x) t
+step-form s t x h = subst (Step s (what x)) (h .state) (step-sound s (what x) (form-in (whole-form x (h .is-whole))) (h .number))
 
 -- ---- a list of records
 steps-end : {s t : State} {p : List ℕ} → Steps s p t → Ends machine s (recordsOf p) t
@@ -51,7 +40,7 @@ end-steps (x ∷ l) s t e = go (machine .step s x) refl (end-steps l)
   where
     go : (o : Option State) → machine .step s x ≡ o → ((u t : State) → Ends machine u l t → Steps u (flat l) t) → Steps s (flat (x ∷ l)) t
     go none q more = absurd (true≢false (cc))
-    go (some u) q more = Steps.next (whole-form x (step-whole s u x q)) (step-form s u x q) (more u t (cc))
+    go (some u) q more = let h = had s u x q in Steps.next (whole-form x (h .is-whole)) (step-form s u x h) (more u t (cc))
 
 -- ---- a program
 pub valid-ends : {p : List ℕ} {t : State} → Valid p t → Ends machine emptyState (recordsOf p) t

@@ -5,10 +5,10 @@ use mathlib.Core.Path.{_≡_, refl, sym, ap, subst, _∙_}
 use mathlib.Core.Bool.{Bool, true, false, _||_, true≢false, and-comm}
 use mathlib.Core.List.{List, [], _∷_}
 use mathlib.Core.Option.{Option, none, some}
+use mathlib.Core.Logic.{_↔_}
 use native.Mathlib.Omega.{arith}
 use lib.Signed.{leZ}
 use lib.Dec.{eqb, leb}
-use lib.ListN.{length}
 use borrow.Author.Tests.{eq-eqb, ne-eqb, eqb-true, eqb-false}
 use Rattle.machine.specs.declared.Needle.{Needle}
 use Rattle.machine.specs.declared.Racking.{Racking}
@@ -18,20 +18,21 @@ use Rattle.machine.proofs.Signed.{eqZ-yes, eqZ-true}
 use Rattle.machine.proofs.Laws.{and-two}
 use Rattle.record.specs.declared.Record.{Record}
 use Rattle.record.specs.declared.Decoded.{Decoded}
-use Rattle.record.specs.Format.{decodeOf, refusedAs}
+use Rattle.record.specs.Format.{refusedAs}
 use Rattle.record.specs.Names.{needlesOf, carriersOf}
 use Rattle.record.proofs.Ranges.{InRange}
-use Rattle.record.proofs.Forms.{Reads, reads, decode-in}
-use Rattle.run.specs.Step.{numberAt, applyOf}
+use Rattle.record.proofs.Forms.{Reads, reads, decode-in, form-in}
 use Rattle.trace.specs.Records.{Lawful, tied}
 use Rattle.trace.specs.Machine.{andThen, Orderly}
+use Rattle.trace.proofs.Tests.{tied-by}
+use Rattle.trace.proofs.Swaps.{untied}
 use Rattle.rewrite.specs.declared.Extent.{Extent}
-use mathlib.Core.Logic.{_↔_}
 use Rattle.rewrite.specs.Extents.{halfColumn, extentOf, Share, meets, member, common, shareCarrier, isRack, rackingAfter}
 use Rattle.rewrite.specs.Programs.{what, sameBytes, knitting, memberNeedle, Named, needle, carrier, names}
-use Rattle.rewrite.specs.Claims.{Tied, TiedExactly, EqualRecordsTied}
+use Rattle.rewrite.specs.Claims.{Tied, TiedExactly}
 use Rattle.rewrite.specs.Laid.{whole}
-use Rattle.rewrite.proofs.Machine.{machine, Good}
+use Rattle.rewrite.proofs.Machine.{machine, had, Good}
+use Rattle.rewrite.proofs.Records.{whole-form}
 use Rattle.rewrite.proofs.Edits.{Each}
 use Rattle.rewrite.proofs.Footprints.{footprint, some-layer, share-meets, meets-share, Settled, Inside, inside, inside-meets}
 use Rattle.rewrite.proofs.Commute.{needle-eq, racking-left, number-settled, racking-applied, untied-commute}
@@ -60,7 +61,7 @@ read-carrier (Reads.short f a b) h = omega arith
 read-carrier (Reads.outside f a b) h = omega arith
 read-carrier (Reads.done f a b) h = h refl .carrier-high
 
-pub carrier-high : (x : List ℕ) → what x .carrier ≤ 10
+carrier-high : (x : List ℕ) → what x .carrier ≤ 10
 carrier-high x = read-carrier (reads x) (decode-in x)
 
 bytes-meet : (r : Racking) (x : List ℕ) → meets (extentOf r (what x)) (extentOf r (what x)) ≡ true
@@ -140,50 +141,14 @@ lawful =
       meet-refl = λ r x e f. bytes-meet r x;
     }
 
--- ---- ties
-pub or-parts : (a b c d : Bool) → (a || (b || (c || d))) ≡ false → (a ≡ false) × (b ≡ false) × (c ≡ false) × (d ≡ false)
-or-parts true b c d e = absurd (true≢false e)
-or-parts false true c d e = absurd (true≢false e)
-or-parts false false true d e = absurd (true≢false e)
-or-parts false false false d e = (refl, refl, refl, e)
-
--- two records are tied if, where the first is no rack, they name one carrier or their extents meet
-tied-by : (a b c d : Bool) → (a ≡ false → (c || d) ≡ true) → (a || (b || (c || d))) ≡ true
-tied-by true b c d f = refl
-tied-by false true c d f = refl
-tied-by false false c d f = f refl
-
-or-true : (c d : Bool) → d ≡ true → (c || d) ≡ true
-or-true true d e = refl
-or-true false d e = e
-
-pub equal-tied : EqualRecordsTied
-equal-tied r x =
-    tied-by (isRack (what x)) (isRack (what x)) (shareCarrier (what x) (what x)) (meets (extentOf r (what x)) (extentOf r (what x)))
-    (λ a. or-true (shareCarrier (what x) (what x)) (meets (extentOf r (what x)) (extentOf r (what x))) (bytes-meet r x))
-
 -- ---- the laws of the machine
 whole-in : (x : List ℕ) → whole x ≡ true → InRange (what x)
-whole-in x e = decode-in x (eqb-true (decodeOf x .number) 0 (and-two (eqb (decodeOf x .number) 0) (eqb (decodeOf x .size) (length x)) e .0))
-
--- what a step that is had says of its record
-record Had (s t : State) (x : List ℕ) : Type 0 where
-  in-range : InRange (what x)
-  number : numberAt s (what x) ≡ 0
-  state : applyOf s (what x) ≡ t
-
-had : (s t : State) (x : List ℕ) → machine .step s x ≡ some t → Had s t x
-had s t x e =
-    cases (whole x)
-    (λ w. cases (eqb (numberAt s (what x)) 0)
-    (λ n. record { in-range = whole-in x w; number = eqb-true (numberAt s (what x)) 0 n; state = cc })
-    (λ n. absurd (true≢false (cc))))
-    (λ w. absurd (true≢false (cc)))
+whole-in x w = form-in (whole-form x w)
 
 racking-step : (s t : State) (x : List ℕ) → machine .step s x ≡ some t → t .racking ≡ rackingAfter (s .racking) (what x)
 racking-step s t x e =
     let h = had s t x e in
-    ap (λ (u : State). u .racking) (sym (h .state)) ∙ racking-applied s (what x) ∙ racking-left (what x) (s .racking) (h .in-range)
+    ap (λ (u : State). u .racking) (sym (h .state)) ∙ racking-applied s (what x) ∙ racking-left (what x) (s .racking) (whole-in x (h .is-whole))
 
 -- a step after none, and none after a step
 none-after : (o : Option State) → andThen o (λ (t : State). none) ≡ none
@@ -193,7 +158,7 @@ none-after (some s) = refl
 commute : (s : State) (x y : List ℕ) → tied knitting (s .racking) x y ≡ false
     → andThen (machine .step s x) (λ t. machine .step t y) ≡ andThen (machine .step s y) (λ t. machine .step t x)
 commute s x y t =
-    let (a, b, c, d) = or-parts (isRack (what x)) (isRack (what y)) (shareCarrier (what x) (what y)) (meets (extentOf (s .racking) (what x)) (extentOf (s .racking) (what y))) t in
+    let (a, b, c, d) = untied knitting (s .racking) x y t in
     cases (whole x)
     (λ v. cases (whole y) (λ w. simp (v, w) (untied-commute s (what x) (what y) (whole-in x v) (whole-in y w) a b c d)) (λ w. simp (v, w, none-after)))
     (λ v. cases (whole y) (λ w. simp (v, w, none-after)) (λ w. simp (v, w)))
@@ -205,22 +170,21 @@ member-each P n (m ∷ l) e h = cases (sameNeedle n m) (λ q. subst P (sym (need
 
 -- settled records that name one needle or carrier
 named-both : (n : Named) (r : Racking) (x y : List ℕ) → Settled r (what x) → Settled r (what y) → names n x ≡ true → names n y ≡ true
-    → (shareCarrier (what x) (what y) || meets (extentOf r (what x)) (extentOf r (what y))) ≡ true
-named-both (needle n) r x y S T p q =
-    or-true (shareCarrier (what x) (what y)) (meets (extentOf r (what x)) (extentOf r (what y)))
-    (inside-meets r (extentOf r (what x)) (extentOf r (what y)) n n
+    → shareCarrier (what x) (what y) ≡ false → meets (extentOf r (what x)) (extentOf r (what y)) ≡ true
+named-both (needle n) r x y S T p q c =
+    inside-meets r (extentOf r (what x)) (extentOf r (what y)) n n
     (member-each (Inside r (extentOf r (what x))) n (needlesOf (what x)) p (inside r (what x) S))
-    (member-each (Inside r (extentOf r (what y))) n (needlesOf (what y)) q (inside r (what y) T)) refl)
-named-both (carrier k) r x y S T p q = simp (common-member k (carriersOf (what x)) (carriersOf (what y)) p q)
+    (member-each (Inside r (extentOf r (what y))) n (needlesOf (what y)) q (inside r (what y) T)) refl
+named-both (carrier k) r x y S T p q c = absurd (true≢false (sym (common-member k (carriersOf (what x)) (carriersOf (what y)) p q) ∙ c))
 
 named : (n : Named) (s t u : State) (x y : List ℕ) → machine .step s x ≡ some t → machine .step t y ≡ some u → names n x ≡ true → names n y ≡ true
     → tied knitting (s .racking) x y ≡ true
 named n s t u x y e f p q =
     let r = s .racking in let g = had s t x e in let h = had t u y f in
-    tied-by (isRack (what x)) (isRack (what y)) (shareCarrier (what x) (what y)) (meets (extentOf r (what x)) (extentOf r (what y)))
-    (λ a. let kept : t .racking ≡ r = racking-step s t x e ∙ simp a in
-    named-both n r x y (number-settled s (what x) (g .in-range) (g .number))
-    (subst (λ (z : Racking). Settled z (what y)) kept (number-settled t (what y) (h .in-range) (h .number))) p q)
+    tied-by (isRack (what x)) (isRack (what y))
+    (λ a b. let kept : t .racking ≡ r = racking-step s t x e ∙ simp a in
+    named-both n r x y (number-settled s (what x) (whole-in x (g .is-whole)) (g .number))
+    (subst (λ (z : Racking). Settled z (what y)) kept (number-settled t (what y) (whole-in y (h .is-whole)) (h .number))) p q)
 
 pub orderly : Orderly knitting machine names Good
 orderly =
@@ -239,14 +203,8 @@ tied-words r x y e =
     cases (shareCarrier (what x) (what y)) (λ c. let (k, p, q) = common-some (carriersOf (what x)) (carriersOf (what y)) c in Tied.one-carrier k p q) λ c.
     Tied.extents-meet (meets-exactly r (what x) (what y) (carrier-high x) (carrier-high y) .0 (sym (simp (a, b, c)) ∙ e))
 
-or-tied : (a b c d : Bool) → (a ≡ false → b ≡ false → c ≡ false → d ≡ true) → (a || (b || (c || d))) ≡ true
-or-tied true b c d f = refl
-or-tied false true c d f = refl
-or-tied false false true d f = refl
-or-tied false false false d f = f refl refl refl
-
 words-tied : (r : Racking) (x y : List ℕ) → Tied r x y → tied knitting r x y ≡ true
-words-tied r x y t = or-tied (isRack (what x)) (isRack (what y)) (shareCarrier (what x) (what y)) (meets (extentOf r (what x)) (extentOf r (what y))) (last t)
+words-tied r x y t = tied-by (isRack (what x)) (isRack (what y)) (last t)
   where
     last : Tied r x y → isRack (what x) ≡ false → isRack (what y) ≡ false → shareCarrier (what x) (what y) ≡ false → meets (extentOf r (what x)) (extentOf r (what y)) ≡ true
     last (Tied.first-rack e) a b c = absurd (eqb-false _ 1 a e)

@@ -1,5 +1,5 @@
 -- A program laid in the lent areas: where its records start, and what stands there. Assumes nothing.
-use Prim.Native.Nat.{ℕ, suc, _+_, _-_, _*_, _≤_, _<_}
+use Prim.Native.Nat.{ℕ, suc, _+_, _-_, _*_, _/_, _≤_, _<_}
 use mathlib.Core.Path.{_≡_, refl, sym, ap, subst, _∙_}
 use mathlib.Core.Bool.{true}
 use mathlib.Core.List.{List, [], _∷_, _++_, append-assoc}
@@ -53,6 +53,13 @@ module _ (u : List (List ℕ)) (x : List ℕ) (v : List (List ℕ)) where
 abbrev pub nth : List ℕ → ℕ → List ℕ
 nth p j = getD (recordsOf p) j []
 
+-- the bytes of one record more
+pub flat-next : (p : List ℕ) (j : ℕ) → j < length (recordsOf p) → length (flat (take (j + 1) (recordsOf p))) ≡ length (flat (take j (recordsOf p))) + length (nth p j)
+flat-next p j h =
+    let l = recordsOf p in
+    ap (λ (m : List (List ℕ)). length (flat m)) (ap (λ (n : ℕ). take n l) (add-one j) ∙ take-suc l j [] h)
+    ∙ length-between (take j l) (nth p j) [] ∙ omega arith
+
 pub record Stands (p w : List ℕ) (j : ℕ) : Type 0 where
   pub start : getD w j 0 ≡ length (flat (take j (recordsOf p)))
   pub is-whole : whole (nth p j) ≡ true
@@ -67,8 +74,11 @@ module _ (p w : List ℕ) (laid : Laid p w) where
   pub work-length : length w ≡ length l
   work-length = ap length (laid .starts) ∙ starts-length 0 l
 
-  pub few : length l * 2 ≤ length p
+  few : length l * 2 ≤ length p
   few = subst (λ (q : List ℕ). length l * 2 ≤ length q) (records-flat p) (whole-length l (laid .sound .whole))
+
+  pub work-short : length w ≤ 16384
+  work-short = omega (arith, work-length, few, laid .sound .short)
 
   pub stands : (j : ℕ) → j < length w → Stands p w j
   stands j h =
@@ -114,9 +124,6 @@ module _ (p : List ℕ) (sound : Sound p) (n at : ℕ) (h : Upto p n at) where
   own-laid : Laid p own
   own-laid = record { sound = sound; starts = refl }
 
-  pub few-starts : length (recordsOf p) * 2 ≤ length p
-  few-starts = few p own own-laid
-
   more : n < length (recordsOf p) → Stands p own n
   more i = stands p own own-laid n (omega (arith, starts-length 0 (recordsOf p)))
 
@@ -124,7 +131,7 @@ module _ (p : List ℕ) (sound : Sound p) (n at : ℕ) (h : Upto p n at) where
   is-start i = more i .start ∙ sym (h .place)
 
   -- the end is reached exactly after the last record
-  pub not-yet : at < length p → n < length (recordsOf p)
+  not-yet : at < length p → n < length (recordsOf p)
   not-yet i =
       is n (length (recordsOf p))
       (λ e. absurd (omega (arith, h .place, all-taken e, i)))
@@ -132,6 +139,9 @@ module _ (p : List ℕ) (sound : Sound p) (n at : ℕ) (h : Upto p n at) where
     where
       all-taken : n ≡ length (recordsOf p) → length (flat (take n (recordsOf p))) ≡ length p
       all-taken e = ap (λ (m : ℕ). length (flat (take m (recordsOf p)))) e ∙ ap (λ (l : List (List ℕ)). length (flat l)) (take-length (recordsOf p)) ∙ ap length (records-flat p)
+
+  pub next-entry : at < length p → n < length p / 2
+  next-entry i = omega (arith, not-yet i, few p own own-laid)
 
   pub all-written : length p ≤ at → n ≡ length (recordsOf p)
   all-written i =
@@ -150,12 +160,8 @@ module _ (p : List ℕ) (sound : Sound p) (n at : ℕ) (h : Upto p n at) where
 
     pub upto-next : Upto p (n + 1) (at + sizeOf (getD p at 0))
     upto-next =
-        let l = recordsOf p in
         let k = not-yet i in
-        let e : take (n + 1) l ≡ take n l ++ nth p n ∷ [] = ap (λ (m : ℕ). take m l) (add-one n) ∙ take-suc l n [] k in
-        let f : length (flat (take (n + 1) l)) ≡ length (flat (take n l)) + length (nth p n) =
-        ap (λ (m : List (List ℕ)). length (flat m)) e ∙ length-between (take n l) (nth p n) [] ∙ omega arith in
-        record { some = omega arith; place = omega (arith, f, h .place, kind-next) }
+        record { some = omega arith; place = omega (arith, flat-next p n k, h .place, kind-next) }
 
     -- the work area with it
     pub starts-next : (w : List ℕ) → n < length w → take n w ≡ take n own → take (n + 1) (set w n at) ≡ take (n + 1) own

@@ -1,7 +1,7 @@
 -- A log replayed from a place on, one record at a time, and the program laid again after a swap. Assumes nothing.
 use Prim.Native.Nat.{ℕ, zero, suc, _+_, _-_, _*_, _≤_, _<_}
 use mathlib.Core.Path.{_≡_, refl, sym, ap, subst, _∙_}
-use mathlib.Core.Bool.{false, true≢false, cond}
+use mathlib.Core.Bool.{false}
 use mathlib.Core.List.{List, [], _∷_}
 use native.Mathlib.Omega.{arith}
 use native.Mathlib.Numerals.{add-one}
@@ -11,17 +11,15 @@ use lib.Seq.{drop-cons}
 use borrow.Author.Tests.{eq-eqb, ne-eqb}
 use Rattle.machine.specs.declared.Racking.{Racking}
 use Rattle.record.specs.Format.{byte}
-use Rattle.trace.specs.Swaps.{Outcome, no-pair, is-tied, made, swapAt}
-use Rattle.trace.proofs.Swaps.{behind-made, front-made}
-use Rattle.rewrite.specs.Extents.{isRack, shareCarrier, meets, extentOf}
-use Rattle.rewrite.specs.Programs.{flat, recordsOf, startsOf, what, knitting}
+use Rattle.trace.specs.Swaps.{Outcome, no-pair, is-tied, made}
+use Rattle.trace.proofs.Swaps.{Made, made-is, untied}
+use Rattle.rewrite.specs.Programs.{flat, recordsOf, startsOf, knitting}
 use Rattle.rewrite.specs.Rewrite.{rackingZero, swapOf, Replay, ended, onOutcome, replay}
 use Rattle.rewrite.specs.Laid.{Whole, Laid, Marked, rackByte, swapNo, leftBy}
-use Rattle.rewrite.proofs.Lawful.{or-parts}
 use Rattle.rewrite.proofs.Records.{records-flat, flat-records}
 use Rattle.rewrite.proofs.Laying.{starts-length, work-length}
 use Rattle.rewrite.proofs.Replays.{Moved, made-moved}
-use Rattle.rewrite.proofs.Rackings.{kind-is}
+use Rattle.rewrite.proofs.Rackings.{byteAfter, kind-is}
 
 -- ---- one log record
 module _ (log : List ℕ) (at : ℕ) (l : List (List ℕ)) where
@@ -42,17 +40,13 @@ module _ (log : List ℕ) (at : ℕ) (l : List (List ℕ)) where
   module _ (h : at + 2 < length log) where
     three : drop at log ≡ getD log at 0 ∷ getD log (at + 1) 0 ∷ getD log (at + 2) 0 ∷ drop (at + 3) log
     three =
+        let second : suc (at + 1) ≡ at + 2 = omega arith in
+        let third : suc (at + 2) ≡ at + 3 = omega arith in
         drop-cons log at 0 (omega arith)
         ∙ ap (λ (q : List ℕ). getD log at 0 ∷ q)
         (ap (λ (n : ℕ). drop n log) (sym (add-one at)) ∙ drop-cons log (at + 1) 0 (omega arith)
         ∙ ap (λ (q : List ℕ). getD log (at + 1) 0 ∷ q)
-        (ap (λ (n : ℕ). drop n log) (second at) ∙ drop-cons log (at + 2) 0 h ∙ ap (λ (n : ℕ). getD log (at + 2) 0 ∷ drop n log) (third at)))
-      where
-        second : (n : ℕ) → suc (n + 1) ≡ n + 2
-        second n = omega arith
-
-        third : (n : ℕ) → suc (n + 2) ≡ n + 3
-        third n = omega arith
+        (ap (λ (n : ℕ). drop n log) second ∙ drop-cons log (at + 2) 0 h ∙ ap (λ (n : ℕ). getD log (at + 2) 0 ∷ drop n log) third))
 
     pub log-kind : (getD log at 0 ≡ 64 → ⊥) → replay (drop at log) at l ≡ ended 14 at l
     unfolding replay
@@ -91,46 +85,50 @@ pair-rack x y l e f (suc (suc k)) b = both (take k l)
     both : (q : List (List ℕ)) → rackByte b (x ∷ y ∷ q) ≡ rackByte b (y ∷ x ∷ q)
     both q = simp (e, f)
 
-made-rack : (l m : List (List ℕ)) (r : Racking) (i : ℕ) → Whole l → swapAt knitting r i l ≡ made m → (k b : ℕ) → rackByte b (take k l) ≡ rackByte b (take k m)
+made-rack : {r : Racking} {i : ℕ} {l m : List (List ℕ)} → Made knitting r i l m → Whole l → (k b : ℕ) → rackByte b (take k l) ≡ rackByte b (take k m)
 unfolding rackByte
-made-rack [] m r i w e k b = absurd (true≢false (cc))
-made-rack (x ∷ []) m r zero w e k b = absurd (true≢false (cc))
-made-rack (x ∷ y ∷ l) m r zero (w, (v, u)) e k b =
-    let (t, f) = front-made knitting r x y l m e in
-    let (p, q, _, _) = or-parts (isRack (what x)) (isRack (what y)) (shareCarrier (what x) (what y)) (meets (extentOf r (what x)) (extentOf r (what y))) t in
-    rw f (pair-rack x y l (kind-is x w ∙ p) (kind-is y v ∙ q) k b)
-made-rack (x ∷ l) m r (suc i) (w, v) e zero b = refl
-made-rack (x ∷ l) m r (suc i) (w, v) e (suc k) b =
-    let (n, f, g) = behind-made x (swapAt knitting (knitting .after r x) i l) m e in
-    rw g (made-rack l n (knitting .after r x) i v f k (cond (eqb (byte x 0) 1) (byte x 1) b))
+made-rack (Made.here {r} {x} {y} {l} t) (w, (v, u)) k b =
+    let (p, q, _, _) = untied knitting r x y t in
+    pair-rack x y l (kind-is x w ∙ p) (kind-is y v ∙ q) k b
+made-rack (Made.there s) (w, v) zero b = refl
+made-rack (Made.there {x = x} s) (w, v) (suc k) b = made-rack s v k (byteAfter b x)
 
--- ---- the program after a swap is laid and marked as before
+-- ---- the program after a swap: its records are those that the swap left, and it is laid and marked as before
+pub record After (p w table : List ℕ) (m : List (List ℕ)) (q v : List ℕ) : Type 0 where
+  pub records : recordsOf q ≡ m
+  pub bytes : length q ≡ length p
+  pub entries : length v ≡ length w
+  pub laid : Laid q v
+  pub marked : Marked q table
+
 module _ (p w table : List ℕ) (laid : Laid p w) (marked : Marked p table) (i : ℕ) (m : List (List ℕ)) (e : swapOf i (recordsOf p) ≡ made m)
     (q v : List ℕ) (bytes : q ≡ flat m) (starts : v ≡ startsOf 0 m) where
-  moved : Moved (recordsOf p) m
-  moved = made-moved knitting (recordsOf p) m rackingZero i e
+  swapped : Made knitting rackingZero i (recordsOf p) m
+  swapped = made-is knitting (recordsOf p) m rackingZero i e
 
-  pub records-after : recordsOf q ≡ m
+  moved : Moved (recordsOf p) m
+  moved = made-moved knitting swapped
+
+  records-after : recordsOf q ≡ m
   records-after = ap recordsOf bytes ∙ flat-records m (moved .whole (laid .sound .whole))
 
-  pub length-after : length q ≡ length p
+  length-after : length q ≡ length p
   length-after = ap length bytes ∙ moved .bytes ∙ ap length (records-flat p)
 
-  pub work-after : length v ≡ length w
-  work-after = ap length starts ∙ starts-length 0 m ∙ moved .records ∙ sym (work-length p w laid)
-
-  pub laid-after : Laid q v
-  laid-after =
+  pub after-swap : After p w table m q v
+  after-swap =
       record {
-        sound = record { whole = subst Whole (sym records-after) (moved .whole (laid .sound .whole)); short = omega (arith, length-after, laid .sound .short) };
-        starts = starts ∙ ap (startsOf 0) (sym records-after);
-      }
-
-  pub marked-after : Marked q table
-  marked-after =
-      record {
-        long = marked .long;
-        marks = λ k h. marked .marks k (omega (arith, ap length records-after, moved .records))
-            ∙ made-rack (recordsOf p) m rackingZero i (laid .sound .whole) e (k * 64) 0
-            ∙ ap (λ (l : List (List ℕ)). rackByte 0 (take (k * 64) l)) (sym records-after);
+        records = records-after;
+        bytes = length-after;
+        entries = ap length starts ∙ starts-length 0 m ∙ moved .records ∙ sym (work-length p w laid);
+        laid = record {
+          sound = record { whole = subst Whole (sym records-after) (moved .whole (laid .sound .whole)); short = omega (arith, length-after, laid .sound .short) };
+          starts = starts ∙ ap (startsOf 0) (sym records-after);
+        };
+        marked = record {
+          long = marked .long;
+          marks = λ k h. marked .marks k (omega (arith, ap length records-after, moved .records))
+              ∙ made-rack swapped (laid .sound .whole) (k * 64) 0
+              ∙ ap (λ (l : List (List ℕ)). rackByte 0 (take (k * 64) l)) (sym records-after);
+        };
       }

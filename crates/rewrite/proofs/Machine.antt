@@ -1,9 +1,12 @@
 -- The machine that runs records by their bytes: what the theory of swaps (crate trace) asks for. Assumes nothing.
+use borrow.Table.Steps.{cases}
 use Prim.Native.Nat.{ℕ}
-use mathlib.Core.Bool.{cond}
+use mathlib.Core.Path.{_≡_}
+use mathlib.Core.Bool.{true, cond, true≢false}
 use mathlib.Core.List.{List}
 use mathlib.Core.Option.{Option, none, some}
 use lib.Dec.{eqb}
+use borrow.Author.Tests.{eqb-true}
 use Rattle.machine.specs.declared.Racking.{Racking}
 use Rattle.machine.specs.declared.State.{State}
 use Rattle.record.specs.declared.Record.{Record}
@@ -18,6 +21,20 @@ stepped s x = cond (eqb (numberAt s x) 0) (some (applyOf s x)) none
 
 abbrev pub machine : Machine (List ℕ) Racking State
 machine = record { step = λ s x. cond (whole x) (stepped s (what x)) none; racking = λ s. s .racking }
+
+-- what a step that is had says of its record
+pub record Had (s t : State) (x : List ℕ) : Type 0 where
+  pub is-whole : whole x ≡ true
+  pub number : numberAt s (what x) ≡ 0
+  pub state : applyOf s (what x) ≡ t
+
+pub had : (s t : State) (x : List ℕ) → machine .step s x ≡ some t → Had s t x
+had s t x e =
+    cases (whole x)
+    (λ w. cases (eqb (numberAt s (what x)) 0)
+    (λ n. record { is-whole = w; number = eqb-true (numberAt s (what x)) 0 n; state = cc })
+    (λ n. absurd (true≢false (cc))))
+    (λ w. absurd (true≢false (cc)))
 
 -- the laws hold in every state
 abbrev pub Good : State → Type 0

@@ -6,7 +6,7 @@ use mathlib.Core.List.{List, [], _∷_, _++_, append-assoc}
 use native.Mathlib.Omega.{arith}
 use native.Mathlib.Numerals.{add-one}
 use lib.ListN.{length, take, drop, getD, set, length-append}
-use lib.Seq.{length-take-le, take-at, drop-at, drop-append-add, split-at, drop-cons, take-suc, set-at}
+use lib.Seq.{length-take-le, take-at, drop-at, drop-append-add, split-at, drop-cons, set-at}
 use lib.Dec.{eqb}
 use borrow.Author.Tests.{eqb-true}
 use Rattle.machine.proofs.Laws.{and-two}
@@ -20,7 +20,7 @@ use Rattle.rewrite.specs.Rewrite.{rackingZero, swapOf}
 use Rattle.rewrite.specs.Laid.{tiedAt, whole, Whole, Laid, Between, inForceAt, exchanged, part}
 use Rattle.rewrite.proofs.Extents.{tied-bytes}
 use Rattle.rewrite.proofs.Records.{records-flat}
-use Rattle.rewrite.proofs.Laying.{flat-append, starts-append, starts-length, whole-part, nth, Stands, work-length, stands, kind-at, part-at}
+use Rattle.rewrite.proofs.Laying.{flat-append, starts-append, starts-length, whole-part, nth, flat-next, Stands, work-length, stands, kind-at, part-at}
 use Rattle.rewrite.proofs.Rackings.{force-is}
 
 -- ---- a list with two neighbours, and the same with the two exchanged
@@ -40,8 +40,9 @@ module _ (u : List (List ℕ)) (x y : List ℕ) (v : List (List ℕ)) where
       let front : take a o ≡ flat u = take-at (flat u) _ a refl in
       let first : drop a o ≡ x ++ (y ++ flat v) = drop-at (flat u) _ a refl in
       let second : drop b o ≡ y ++ flat v = drop-append-add (flat u) (x ++ (y ++ flat v)) (length x) ∙ drop-at x _ (length x) refl in
+      let z : e ≡ a + (length x + length y) = omega arith in
       let past : drop e o ≡ flat v =
-      ap (λ (n : ℕ). drop n o) (assoc a (length x) (length y)) ∙ drop-append-add (flat u) (x ++ (y ++ flat v)) (length x + length y)
+      ap (λ (n : ℕ). drop n o) z ∙ drop-append-add (flat u) (x ++ (y ++ flat v)) (length x + length y)
       ∙ drop-append-add x (y ++ flat v) (length y) ∙ drop-at y _ (length y) refl in
       let m : e - b ≡ length y = omega arith in
       let n : b - a ≡ length x = omega arith in
@@ -49,9 +50,6 @@ module _ (u : List (List ℕ)) (x y : List ℕ) (v : List (List ℕ)) where
       ∙ (λ i. front i ++ (take (m i) (second i) ++ (take (n i) (first i) ++ past i)))
       ∙ (λ i. flat u ++ (take-at y (flat v) (length y) refl i ++ (take-at x (y ++ flat v) (length x) refl i ++ flat v)))
       ∙ sym (flat-append u (y ∷ x ∷ v))
-    where
-      assoc : (a b c : ℕ) → a + b + c ≡ a + (b + c)
-      assoc a b c = omega arith
 
   -- the starts: only the second moves
   starts-exchanged : (n : ℕ) → length u + 1 ≡ n → set (startsOf 0 (u ++ x ∷ y ∷ v)) n (before + length y) ≡ startsOf 0 (u ++ y ∷ x ∷ v)
@@ -108,15 +106,13 @@ module _ (p w : List ℕ) (laid : Laid p w) (i : ℕ) (h : i + 1 < length w) whe
 
   -- where the second starts and ends
   second-start : getD w (i + 1) 0 ≡ getD w i 0 + length first
-  second-start =
-      let l = recordsOf p in
-      let e : take (i + 1) l ≡ front ++ first ∷ [] = ap (λ (n : ℕ). take n l) (add-one i) ∙ take-suc l i [] (omega (arith, enough)) in
-      let f : length (flat (front ++ first ∷ [])) ≡ length (flat front) + length first =
-      ap length (flat-append front (first ∷ [])) ∙ omega (arith, length-append (flat front) (first ++ []), length-append first []) in
-      omega (arith, two .start, ap (λ (m : List (List ℕ)). length (flat m)) e, f, one .start)
+  second-start = omega (arith, two .start, flat-next p i (omega (arith, enough)), one .start)
 
-  pub second-size : sizeOf (getD p (getD w (i + 1) 0) 0) ≡ length second
-  second-size = ap sizeOf (kind-at p w (i + 1) two) ∙ sym (two .sized .kind)
+  pub second-size : (z : ℕ) → z ≡ sizeOf (getD p (getD w (i + 1) 0) 0) → z ≡ length second
+  second-size z e = e ∙ ap sizeOf (kind-at p w (i + 1) two) ∙ sym (two .sized .kind)
+
+  pub second-end : (z : ℕ) → z ≡ sizeOf (getD p (getD w (i + 1) 0) 0) → getD w (i + 1) 0 + z ≡ getD w (i + 1) 0 + length second
+  second-end z e = ap (λ (n : ℕ). getD w (i + 1) 0 + n) (second-size z e)
 
   -- in bounds, and short
   pub record Placed (e : ℕ) : Type 0 where

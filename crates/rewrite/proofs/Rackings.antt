@@ -1,4 +1,4 @@
--- The racking in force, as the byte that a rack gave it: along the records, at every 64th, and after a swap. Assumes nothing.
+-- The racking in force, as the byte that a rack gave it: along the records, and at every 64th. Assumes nothing.
 use Prim.Native.Nat.{ℕ, suc, _+_, _-_, _*_, _≤_, _<_}
 use mathlib.Core.Path.{_≡_, refl, sym, ap, _∙_}
 use mathlib.Core.Bool.{true, cond}
@@ -21,14 +21,14 @@ use Rattle.rewrite.specs.Laid.{whole, Whole, rackByte, Marked}
 use Rattle.rewrite.proofs.Records.{whole-form}
 
 -- ---- along the records
-rack-append : (b : ℕ) (u v : List (List ℕ)) → rackByte b (u ++ v) ≡ rackByte (rackByte b u) v
-unfolding rackByte
-rack-append b [] v = refl
-rack-append b (x ∷ u) v = rack-append (cond (eqb (byte x 0) 1) (byte x 1) b) u v
-
 -- the byte after one record more
 abbrev pub byteAfter : ℕ → List ℕ → ℕ
 byteAfter b x = cond (eqb (byte x 0) 1) (byte x 1) b
+
+rack-append : (b : ℕ) (u v : List (List ℕ)) → rackByte b (u ++ v) ≡ rackByte (rackByte b u) v
+unfolding rackByte
+rack-append b [] v = refl
+rack-append b (x ∷ u) v = rack-append (byteAfter b x) u v
 
 pub rack-next : (b : ℕ) (l : List (List ℕ)) (j n : ℕ) → j < n → n ≤ length l
     → rackByte b (take (n - j) (drop j l)) ≡ rackByte (byteAfter b (getD l j [])) (take (n - (j + 1)) (drop (j + 1) l))

@@ -1,17 +1,17 @@
 -- What a log makes of a list of records: swaps that are made one after another, up to its end or to the log record that is refused. Assumes nothing.
 use borrow.Table.Steps.{cases}
-use Prim.Native.Nat.{ℕ, zero, suc, _+_, _*_, _/_, _%_, _≤_, _<_}
+use Prim.Native.Nat.{ℕ, suc, _+_, _*_, _/_, _%_, _≤_, _<_}
 use mathlib.Core.Path.{_≡_, refl, ap, _∙_}
 use mathlib.Core.Bool.{false, true≢false, _&&_}
 use mathlib.Core.List.{List, [], _∷_, _++_}
 use native.Mathlib.Omega.{arith}
-use native.Mathlib.Nat.{div-add-mod'}
+use native.Mathlib.Nat.{div-add-mod', lt-of-not-le}
 use lib.Dec.{eqb, leb}
 use lib.ListN.{length, length-append}
 use borrow.Author.Tests.{eqb-true, le-leb, lt-leb}
 use Rattle.trace.specs.Records.{Records}
 use Rattle.trace.specs.Swaps.{Outcome, no-pair, is-tied, made, swapAt, Swaps, no-swap, swap-first}
-use Rattle.trace.proofs.Swaps.{behind-made, front-made}
+use Rattle.trace.proofs.Swaps.{Made, made-is, short-no-pair}
 use Rattle.rewrite.specs.Programs.{flat, knitting}
 use Rattle.rewrite.specs.Rewrite.{rackingZero, swapOf, Replay, ended, onOutcome, replay}
 use Rattle.rewrite.specs.Calls.{logOf}
@@ -42,29 +42,20 @@ stays x {l} {m} s =
     }
 
 module _ {R : Type 0} (K : Records (List ℕ) R) where
-  pub made-moved : (l m : List (List ℕ)) (r : R) (i : ℕ) → swapAt K r i l ≡ made m → Moved l m
-  made-moved [] m r i e = absurd (true≢false (cc))
-  made-moved (x ∷ []) m r zero e = absurd (true≢false (cc))
-  made-moved (x ∷ y ∷ l) m r zero e = rw (front-made K r x y l m e .1) (neighbours x y l)
-  made-moved (x ∷ l) m r (suc i) e =
-      let (n, f, g) = behind-made x (swapAt K (K .after r x) i l) m e in
-      rw g (stays x (made-moved l n (K .after r x) i f))
+  pub made-moved : {r : R} {i : ℕ} {l m : List (List ℕ)} → Made K r i l m → Moved l m
+  made-moved (Made.here {x = x} {y = y} {l = l} t) = neighbours x y l
+  made-moved (Made.there {x = x} s) = stays x (made-moved s)
 
   pub swaps-moved : {r : R} {is : List ℕ} {l m : List (List ℕ)} → Swaps K r is l m → Moved l m
   swaps-moved no-swap = record { records = refl; bytes = refl; whole = λ w. w }
   swaps-moved {r} (swap-first {i} {is} {l} {m} {n} e t) =
-      let a = made-moved l m r i e in
+      let a = made-moved (made-is K l m r i e) in
       let b = swaps-moved t in
       record { records = b .records ∙ a .records; bytes = b .bytes ∙ a .bytes; whole = λ w. b .whole (a .whole w) }
 
   -- a swap that is made has its two records
   pub made-pair : (l m : List (List ℕ)) (r : R) (i : ℕ) → swapAt K r i l ≡ made m → suc i < length l
-  made-pair [] m r i e = absurd (true≢false (cc))
-  made-pair (x ∷ []) m r zero e = absurd (true≢false (cc))
-  made-pair (x ∷ y ∷ l) m r zero e = omega arith
-  made-pair (x ∷ l) m r (suc i) e =
-      let (n, f, g) = behind-made x (swapAt K (K .after r x) i l) m e in
-      omega (arith, made-pair l n (K .after r x) i f)
+  made-pair l m r i e = lt-of-not-le (λ h. true≢false (cc (short-no-pair K r i l h)))
 
 -- ---- one log record: its swap is made, or the two are tied
 pub replay-made : (high low : ℕ) (log : List ℕ) (at : ℕ) (l m : List (List ℕ)) → swapOf (high * 256 + low) l ≡ made m → replay (64 ∷ high ∷ low ∷ log) at l ≡ replay log (at + 3) m

@@ -45,7 +45,7 @@ pub const SWAP_SIZE: usize = 3;
 
 pub const LOG_MOST: usize = 32768;
 
-// The racking is kept of every 64th record.
+// The racking in force is kept at every 64th record, 256 at most.
 pub const STRIDE: usize = 64;
 
 pub const MARKS: usize = 256;
@@ -225,8 +225,8 @@ fn halves(part: &mut [u8], k: usize)
     }
 }
 
-// The records from a to b and from b to e change places. Those of one length do so in place, at a length that the compiler
-// then knows; drops and the kinds 4 to 8 do.
+// The records from a to b and from b to e change places: two of 3 bytes (drops) or of 5 (kinds 4 to 8) byte by byte, at a
+// length that the compiler knows, all else by way of a copy.
 fn exchange(output: &mut [u8], a: usize, b: usize, e: usize)
     requires { ⌜ (a ≤ b) × (b ≤ e) × (e ≤ length (now output)) × (e - a ≤ 12) ⌝ }
     ensures { λ _. ⌜ now (output .exit) ≡ exchanged (now (output .entry)) a b e ⌝ }

@@ -1,4 +1,5 @@
 -- Exchanges of neighbours where it is fixed which elements are tied: they keep the order of tied elements and reach every list with it. Assumes nothing.
+use borrow.Table.Steps.{cases}
 use Prim.Native.Nat.{ℕ, zero, suc}
 use mathlib.Core.Path.{_≡_, refl, sym, _∙_}
 use mathlib.Core.Bool.{Bool, true, false, _||_, true≢false}
@@ -82,11 +83,7 @@ module _ {A : Type 0} (T : Ties A) where
   views-tail a l m h x y t = keep-tail (oneOf x y) a l m (h x y t)
 
   untied-other : (a b y : A) → tied a b ≡ false → tied a y ≡ true → same y b ≡ false
-  untied-other a b y u t = go (same y b) refl
-    where
-      go : (c : Bool) → same y b ≡ c → c ≡ false
-      go true e = cc (same-eq y b e)
-      go false e = refl
+  untied-other a b y u t = cases (same y b) (λ e. cc (same-eq y b e)) (λ e. e)
 
   -- an element that comes first among all that are tied to it can be brought to the front
   abbrev First : A → List A → Type 0

@@ -7,33 +7,27 @@ use mathlib.Core.List.{List, [], _∷_, head-eq-of-cons-eq, tail-eq-of-cons-eq}
 use Rattle.trace.specs.Records.{Records, tied, Lawful}
 use Rattle.trace.specs.Swaps.{made, behind, swapAt, Swaps, no-swap, swap-first}
 use Rattle.trace.proofs.Exchanges.{Exchange, Exchanges}
-use Rattle.trace.proofs.Swaps.{behind-made, front-made, untied}
+use Rattle.trace.proofs.Swaps.{Made, made-is, untied}
 use Rattle.trace.proofs.Marks.{Mark, eqb-self, marked, marks, marks-eq, stretchAfter, tiedMarks}
 
 module _ {A R : Type 0} (K : Records A R) (L : Lawful K) where
   open Records K using (isRack, after)
   open Lawful L using (racking-refl, after-other)
 
-  made-exchange : (l m : List A) (k : ℕ) (r : R) (i : ℕ) → swapAt K r i l ≡ made m → Exchange (tiedMarks K) i (marks K k r l) (marks K k r m)
-  made-exchange [] m k r i e = absurd (true≢false (cc))
-  made-exchange (x ∷ []) m k r zero e = absurd (true≢false (cc))
-  made-exchange (x ∷ y ∷ l) m k r zero e =
-      let (t, f) = front-made K r x y l m e in
+  made-exchange : {r : R} {i : ℕ} {l m : List A} (k : ℕ) → Made K r i l m → Exchange (tiedMarks K) i (marks K k r l) (marks K k r m)
+  made-exchange k (Made.here {r} {x} {y} t) =
       let (a, b, c, d) = untied K r x y t in
       let h : tiedMarks K (marked K k r x) (marked K k r y) ≡ false = cc (eqb-self k, racking-refl r) in
-      rw (f, a, b, after-other r x a, after-other r y b, after-other r x a) (Exchange.front h)
-  made-exchange (x ∷ []) m k r (suc i) e = absurd (true≢false (cc))
-  made-exchange (x ∷ y ∷ l) m k r (suc i) e =
-      let (n, f, g) = behind-made x (swapAt K (after r x) i (y ∷ l)) m e in
-      rw g (Exchange.behind (made-exchange (y ∷ l) n (stretchAfter K k x) (after r x) i f))
+      rw (a, b, after-other r x a, after-other r y b, after-other r x a) (Exchange.front h)
+  made-exchange k (Made.there {x = x} s) = Exchange.behind (made-exchange (stretchAfter K k x) s)
 
   pub swaps-exchanges : {r : R} {is : List ℕ} {l m : List A} → Swaps K r is l m → Exchanges (tiedMarks K) is (marks K 0 r l) (marks K 0 r m)
   swaps-exchanges no-swap = Exchanges.none-left
-  swaps-exchanges {r} (swap-first {i} {l = l} {m = m} e t) = Exchanges.and-then (made-exchange l m 0 r i e) (swaps-exchanges t)
+  swaps-exchanges {r} (swap-first {i} {l = l} {m = m} e t) = Exchanges.and-then (made-exchange 0 (made-is K l m r i e)) (swaps-exchanges t)
 
   -- the marks M are those of a list that a swap makes
-  abbrev Made : R → ℕ → List A → ℕ → List (Mark A R) → Type 0
-  Made r i l k M = (m : List A) × (swapAt K r i l ≡ made m) × (M ≡ marks K k r m)
+  abbrev MadeMarks : R → ℕ → List A → ℕ → List (Mark A R) → Type 0
+  MadeMarks r i l k M = (m : List A) × (swapAt K r i l ≡ made m) × (M ≡ marks K k r m)
 
   -- neighbours whose marks are not tied are not tied
   marks-untied : (k : ℕ) (r : R) (a b : A) → tiedMarks K (marked K k r a) (marked K (stretchAfter K k a) (after r a) b) ≡ false → tied K r a b ≡ false
@@ -42,17 +36,17 @@ module _ {A R : Type 0} (K : Records A R) (L : Lawful K) where
       cc (after-other r a e, eqb-self k, racking-refl r)
 
   made-front : (k : ℕ) (r : R) (a b : A) (l : List A) → tied K r a b ≡ false
-      → Made r zero (a ∷ b ∷ l) k
+      → MadeMarks r zero (a ∷ b ∷ l) k
       (marked K (stretchAfter K k a) (after r a) b ∷ marked K k r a ∷ marks K (stretchAfter K (stretchAfter K k a) b) (after (after r a) b) l)
   made-front k r a b l t =
       let (p, q, c, d) = untied K r a b t in
       (b ∷ a ∷ l, cc, rw (p, q, after-other r a p, after-other r b q, after-other r a p))
 
   made-behind : (k : ℕ) (r : R) (a : A) (l : List A) (i : ℕ) (x : Mark A R) (M : List (Mark A R)) → x ≡ marked K k r a
-      → Made (after r a) i l (stretchAfter K k a) M → Made r (suc i) (a ∷ l) k (x ∷ M)
+      → MadeMarks (after r a) i l (stretchAfter K k a) M → MadeMarks r (suc i) (a ∷ l) k (x ∷ M)
   made-behind k r a l i x M e t = let (m, f, g) = t in (a ∷ m, ap (behind a) f, cc)
 
-  exchange-made : {i : ℕ} {N M : List (Mark A R)} → Exchange (tiedMarks K) i N M → (k : ℕ) (r : R) (l : List A) → N ≡ marks K k r l → Made r i l k M
+  exchange-made : {i : ℕ} {N M : List (Mark A R)} → Exchange (tiedMarks K) i N M → (k : ℕ) (r : R) (l : List A) → N ≡ marks K k r l → MadeMarks r i l k M
   exchange-made (Exchange.front h) k r [] e = absurd (true≢false (cc))
   exchange-made (Exchange.front h) k r (a ∷ []) e = absurd (true≢false (cc))
   exchange-made (Exchange.front h) k r (a ∷ b ∷ l) e =

@@ -2,7 +2,7 @@
 use borrow.Table.Steps.{cases}
 use Prim.Native.Nat.{ℕ, zero, suc, _+_, _<_, _≤_}
 use mathlib.Core.Path.{_≡_, refl, sym, ap, ap₂, _∙_}
-use mathlib.Core.Bool.{Bool, true, cond, _&&_, true≢false}
+use mathlib.Core.Bool.{Bool, true, cond, _&&_, and-false, true≢false}
 use mathlib.Core.List.{List, [], _∷_}
 use mathlib.Core.Option.{some}
 use native.Mathlib.Omega.{arith}
@@ -12,6 +12,7 @@ use borrow.Author.Tests.{eqb-true, eqb-false, ne-eqb, ltb-true, ltb-false}
 use Rattle.trace.specs.Lists.{count, Nth}
 use Rattle.trace.specs.Records.{Records, Lawful}
 use Rattle.trace.specs.Order.{inForce, stretchAt, tiedIn}
+use Rattle.trace.proofs.Tests.{tie-sym}
 use Rattle.trace.proofs.Marks.{Mark, eqb-self, marked, marks, stretchAfter, together, together-stretch, sameMark, tiedMarks}
 
 module _ {A R : Type 0} (K : Records A R) where
@@ -83,9 +84,7 @@ module _ {A R : Type 0} (K : Records A R) where
         (λ n. let q : z .stretch ≡ k = omega (arith, ltb-false k (z .stretch) d) in
         let t = g q in
         absurd (true≢false (cc (eqb-self k, racking-refl r))))))
-        (λ a. cases (ltb k (z .stretch))
-        (λ d. cases (together K z (marked K k r x)) (λ n. rw (a, d, n) e) (λ n. rw (a, d, n) e))
-        (λ d. cases (together K z (marked K k r x)) (λ n. rw (a, d, n) e) (λ n. rw (a, d, n) e)))
+        (λ a. rw (a, and-false (ltb k (z .stretch)), and-false (together K z (marked K k r x))) e)
 
     equals-before : (l : List A) (p k : ℕ) (r : R) (z : Mark A R) → getElem? l p ≡ some (z .what) → z .stretch ≡ k + stretchAt K l p → z .racking ≡ inForce K r (take p l)
         → count (same (z .what)) (take p l) ≡ count (earlier z) (marks K k r l) + count (sameMark K z) (take p (marks K k r l))
@@ -119,13 +118,11 @@ module _ {A R : Type 0} (K : Records A R) where
     -- being tied does not look at the order
     pub tied-in-sym : (r : R) (l : List A) (p q : ℕ) (x y : A) → p < q → tiedIn K r l p q x y ≡ tiedIn K r l q p y x
     tied-in-sym r l p q x y h =
-        let c = share-sym x y in
-        let rest : (eqb (stretchAt K l p) (stretchAt K l q) && meet (inForce K r (take p l)) x y) ≡ (eqb (stretchAt K l q) (stretchAt K l p) && meet (inForce K r (take q l)) y x) =
-        cases (eqb (stretchAt K l p) (stretchAt K l q))
+        tie-sym (isRack x) (isRack y) (share-sym x y)
+        (cases (eqb (stretchAt K l p) (stretchAt K l q))
         (λ e. let f = eqb-true (stretchAt K l p) (stretchAt K l q) e in
         cc (one-racking l r p q (omega arith) f, meet-sym (inForce K r (take p l)) x y))
-        (λ e. cc (ne-eqb (stretchAt K l q) (stretchAt K l p) (λ f. eqb-false (stretchAt K l p) (stretchAt K l q) e (sym f)))) in
-        cases (isRack x) (λ a. cases (isRack y) (λ b. cc) (λ b. cc)) (λ a. cases (isRack y) (λ b. cc) (λ b. cc))
+        (λ e. cc (ne-eqb (stretchAt K l q) (stretchAt K l p) (λ f. eqb-false (stretchAt K l p) (stretchAt K l q) e (sym f)))))
 
   marks-tied : (r : R) (l : List A) (p q : ℕ) (x y : A) → tiedMarks K (markAt r l p x) (markAt r l q y) ≡ true → tiedIn K r l p q x y ≡ true
   marks-tied r l p q x y t =

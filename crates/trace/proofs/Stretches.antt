@@ -2,44 +2,34 @@
 use borrow.Table.Steps.{cases}
 use Prim.Native.Nat.{ℕ, zero, suc, _+_}
 use mathlib.Core.Path.{_≡_, refl, ap, _∙_, fun-ext}
-use mathlib.Core.Bool.{Bool, false, cond, true≢false}
+use mathlib.Core.Bool.{Bool, cond}
 use mathlib.Core.List.{List, [], _∷_}
 use native.Mathlib.Omega.{arith}
 use Rattle.trace.specs.Lists.{keep, count}
 use Rattle.trace.specs.Records.{Records, Lawful}
-use Rattle.trace.specs.Swaps.{made, swapAt, Swaps, no-swap, swap-first}
+use Rattle.trace.specs.Swaps.{Swaps, no-swap, swap-first}
 use Rattle.trace.specs.Order.{stretch, SameRecords}
 use Rattle.trace.proofs.Lists.{count-swap}
 use Rattle.trace.proofs.Elements.{SameElements}
-use Rattle.trace.proofs.Swaps.{behind-made, front-made, untied, swaps-keep}
+use Rattle.trace.proofs.Swaps.{Made, made-is, untied, swaps-keep}
 use Rattle.trace.proofs.Marks.{Mark, marked, marks, stretchAfter, together, sameMark}
 
 module _ {A R : Type 0} (K : Records A R) where
   open Records K using (same, isRack, after)
 
   -- a swap changes no count in any stretch
-  made-stretch : (p : A → Bool) (l m : List A) (r : R) (i k : ℕ) → swapAt K r i l ≡ made m → count p (stretch K k l) ≡ count p (stretch K k m)
-  made-stretch p [] m r i k e = absurd (true≢false (cc))
-  made-stretch p (x ∷ []) m r zero k e = absurd (true≢false (cc))
-  made-stretch p (x ∷ y ∷ l) m r zero k e =
-      let (t, g) = front-made K r x y l m e in
-      let (a, b, c, d) = untied K r x y t in
-      rw g (go k a b)
-    where
-      go : (k : ℕ) → isRack x ≡ false → isRack y ≡ false → count p (stretch K k (x ∷ y ∷ l)) ≡ count p (stretch K k (y ∷ x ∷ l))
-      go zero a b = cc (count-swap p x y (stretch K zero l))
-      go (suc k) a b = cc
-  made-stretch p (x ∷ l) m r (suc i) k e =
-      let (n, f, g) = behind-made x (swapAt K (after r x) i l) m e in
-      rw g (go n k (λ k. made-stretch p l n (after r x) i k f))
-    where
-      go : (n : List A) (k : ℕ) → ((k : ℕ) → count p (stretch K k l) ≡ count p (stretch K k n)) → count p (stretch K k (x ∷ l)) ≡ count p (stretch K k (x ∷ n))
-      go n zero ih = cases (isRack x) (λ a. cc) (λ a. cc (ih zero))
-      go n (suc k) ih = cases (isRack x) (λ a. cc (ih k)) (λ a. cc (ih (suc k)))
+  made-stretch : (p : A → Bool) {r : R} {i : ℕ} {l m : List A} → Made K r i l m → (k : ℕ) → count p (stretch K k l) ≡ count p (stretch K k m)
+  made-stretch p (Made.here {r} {x} {y} {l} t) zero = let (a, b, c, d) = untied K r x y t in cc (count-swap p x y (stretch K zero l))
+  made-stretch p (Made.here {r} {x} {y} t) (suc k) = let (a, b, c, d) = untied K r x y t in cc
+  made-stretch p (Made.there {x = x} s) zero = let ih = made-stretch p s zero in cases (isRack x) (λ a. cc) (λ a. cc)
+  made-stretch p (Made.there {x = x} s) (suc k) =
+      let here = made-stretch p s k in
+      let later = made-stretch p s (suc k) in
+      cases (isRack x) (λ a. cc) (λ a. cc)
 
   swaps-stretch : {r : R} {is : List ℕ} {l m : List A} → Swaps K r is l m → (p : A → Bool) (k : ℕ) → count p (stretch K k l) ≡ count p (stretch K k m)
   swaps-stretch no-swap p k = refl
-  swaps-stretch {r} (swap-first {i} {l = l} {m = m} e t) p k = made-stretch p l m r i k e ∙ swaps-stretch t p k
+  swaps-stretch {r} (swap-first {i} {l = l} {m = m} e t) p k = made-stretch p (made-is K l m r i e) k ∙ swaps-stretch t p k
 
   pub swaps-records : {r : R} {is : List ℕ} {l m : List A} → Swaps K r is l m → SameRecords K l m
   swaps-records t = record { racks = swaps-keep K isRack (λ r x y a b. cc) t; between = λ k x. swaps-stretch t (same x) k }

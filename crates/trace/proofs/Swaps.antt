@@ -11,10 +11,11 @@ use Rattle.trace.specs.Lists.{keep}
 use Rattle.trace.specs.Records.{Records, tied, Lawful}
 use Rattle.trace.specs.Swaps.{Outcome, no-pair, is-tied, made, behind, swapAt, Swaps, no-swap, swap-first}
 use Rattle.trace.specs.Order.{inForce}
+use Rattle.trace.proofs.Tests.{tied-by, tie-sym}
 use Rattle.trace.proofs.Lists.{keep-swap}
 
 -- what a swap behind the head comes from
-pub behind-made : {A : Type 0} (x : A) (t : Outcome A) (m : List A) → behind x t ≡ made m → (n : List A) × (t ≡ made n) × (m ≡ x ∷ n)
+behind-made : {A : Type 0} (x : A) (t : Outcome A) (m : List A) → behind x t ≡ made m → (n : List A) × (t ≡ made n) × (m ≡ x ∷ n)
 behind-made x no-pair m e = absurd (true≢false (cc))
 behind-made x is-tied m e = absurd (true≢false (cc))
 behind-made x (made l) m e = (l, refl, cc)
@@ -30,12 +31,8 @@ module _ {A R : Type 0} (K : Records A R) where
       cases (share x y) (λ c. absurd (true≢false (cc))) λ c.
       (a, b, c, cc)
 
-  -- what a swap at the front comes from
-  pub front-made : (r : R) (x y : A) (l m : List A) → swapAt K r zero (x ∷ y ∷ l) ≡ made m → (tied K r x y ≡ false) × (m ≡ y ∷ x ∷ l)
-  front-made r x y l m e = cases (tied K r x y) (λ t. absurd (true≢false (cc))) (λ t. (t, cc))
-
   -- a swap of two neighbours that stand there
-  pub untied-is-made : (r : R) (u : List A) (x y : A) (v : List A) → tied K (inForce K r u) x y ≡ false → swapAt K r (length u) (u ++ x ∷ y ∷ v) ≡ made (u ++ y ∷ x ∷ v)
+  untied-is-made : (r : R) (u : List A) (x y : A) (v : List A) → tied K (inForce K r u) x y ≡ false → swapAt K r (length u) (u ++ x ∷ y ∷ v) ≡ made (u ++ y ∷ x ∷ v)
   untied-is-made r [] x y v t = rw t
   untied-is-made r (z ∷ u) x y v t = rw (untied-is-made (after r z) u x y v t)
 
@@ -77,50 +74,53 @@ module _ {A R : Type 0} (K : Records A R) where
   swaps-append no-swap t = t
   swaps-append (swap-first e s) t = swap-first e (swaps-append s t)
 
+  -- a swap that is made: of the two records at the front, or behind a record that stays
+  pub data Made : R → ℕ → List A → List A → Type 0 where
+    here : {r : R} {x y : A} {l : List A} → tied K r x y ≡ false → Made r zero (x ∷ y ∷ l) (y ∷ x ∷ l)
+    there : {r : R} {x : A} {i : ℕ} {l m : List A} → Made (after r x) i l m → Made r (suc i) (x ∷ l) (x ∷ m)
+
+  pub made-is : (l m : List A) (r : R) (i : ℕ) → swapAt K r i l ≡ made m → Made r i l m
+  made-is [] m r i e = absurd (true≢false (cc))
+  made-is (x ∷ []) m r zero e = absurd (true≢false (cc))
+  made-is (x ∷ y ∷ l) m r zero e = cases (tied K r x y) (λ t. absurd (true≢false (cc))) (λ t. let f : m ≡ y ∷ x ∷ l = cc in rw f (here t))
+  made-is (x ∷ l) m r (suc i) e =
+      let (n, f, g) = behind-made x (swapAt K (after r x) i l) m e in
+      rw g (there (made-is l n (after r x) i f))
+
+  is-made : {r : R} {i : ℕ} {l m : List A} → Made r i l m → swapAt K r i l ≡ made m
+  is-made (here t) = rw t
+  is-made (there s) = rw (is-made s)
+
   -- the list of those that pass a test is kept, if two that pass are always tied
   module _ (p : A → Bool) (ok : (r : R) (x y : A) → p x ≡ true → p y ≡ true → tied K r x y ≡ true) where
-    made-keep : (l m : List A) (r : R) (i : ℕ) → swapAt K r i l ≡ made m → keep p l ≡ keep p m
-    made-keep [] m r i e = absurd (true≢false (cc))
-    made-keep (x ∷ []) m r zero e = absurd (true≢false (cc))
-    made-keep (x ∷ y ∷ l) m r zero e =
-        let (t, f) = front-made r x y l m e in
-        rw f (keep-swap p x y l (λ a b. sym (ok r x y a b) ∙ t))
-    made-keep (x ∷ l) m r (suc i) e =
-        let (n, f, g) = behind-made x (swapAt K (after r x) i l) m e in
-        let ih = made-keep l n (after r x) i f in
-        rw g (cc)
+    made-keep : {r : R} {i : ℕ} {l m : List A} → Made r i l m → keep p l ≡ keep p m
+    made-keep (here {r} {x} {y} {l} t) = keep-swap p x y l (λ a b. sym (ok r x y a b) ∙ t)
+    made-keep (there s) = let ih = made-keep s in cc
 
     pub swaps-keep : {r : R} {is : List ℕ} {l m : List A} → Swaps K r is l m → keep p l ≡ keep p m
     swaps-keep no-swap = refl
-    swaps-keep {r} (swap-first {i} {l = l} {m = m} e t) = made-keep l m r i e ∙ swaps-keep t
+    swaps-keep {r} (swap-first {i} {l = l} {m = m} e t) = made-keep (made-is l m r i e) ∙ swaps-keep t
 
   module _ (L : Lawful K) where
     open Lawful L using (same-eq, share-sym, meet-sym, meet-refl)
 
     tied-sym : (r : R) (x y : A) → tied K r x y ≡ tied K r y x
-    tied-sym r x y =
-        let a = share-sym x y in
-        let b = meet-sym r x y in
-        cases (isRack x) (λ e. cases (isRack y) (λ f. cc) (λ f. cc)) (λ e. cases (isRack y) (λ f. cc) (λ f. cc))
+    tied-sym r x y = tie-sym (isRack x) (isRack y) (share-sym x y) (meet-sym r x y)
 
     -- equal records are tied
     tied-refl : (r : R) (x : A) → tied K r x x ≡ true
-    tied-refl r x = cases (isRack x) (λ a. cc) (λ a. cases (share x x) (λ b. cc) (λ b. cc (meet-refl r x a b)))
+    tied-refl r x = tied-by (isRack x) (isRack x) (λ a b. meet-refl r x a)
 
     pub equals-are-tied : (r : R) (x y : A) → K .same x y ≡ true → tied K r x y ≡ true
     equals-are-tied r x y e = rw (← same-eq x y e) (tied-refl r x)
 
     -- a swap undoes itself
-    made-back : (l m : List A) (r : R) (i : ℕ) → swapAt K r i l ≡ made m → swapAt K r i m ≡ made l
-    made-back [] m r i e = absurd (true≢false (cc))
-    made-back (x ∷ []) m r zero e = absurd (true≢false (cc))
-    made-back (x ∷ y ∷ l) m r zero e = let (t, f) = front-made r x y l m e in rw (f, tied-sym r y x ∙ t)
-    made-back (x ∷ l) m r (suc i) e =
-        let (n, f, g) = behind-made x (swapAt K (after r x) i l) m e in
-        rw (g, made-back l n (after r x) i f)
+    made-back : {r : R} {i : ℕ} {l m : List A} → Made r i l m → Made r i m l
+    made-back (here {r} {x} {y} t) = here (tied-sym r y x ∙ t)
+    made-back (there s) = there (made-back s)
 
     pub swaps-back : {r : R} {is : List ℕ} {l m : List A} → Swaps K r is l m → (js : List ℕ) × Swaps K r js m l
     swaps-back no-swap = ([], no-swap)
     swaps-back {r} (swap-first {i} {is} {l} {m} e t) =
         let (js, s) = swaps-back t in
-        (js ++ (i ∷ []), swaps-append s (swap-first (made-back l m r i e) no-swap))
+        (js ++ (i ∷ []), swaps-append s (swap-first (is-made (made-back (made-is l m r i e))) no-swap))

@@ -1,12 +1,12 @@
 -- The part that is listed is within the output. Assumes nothing.
+use borrow.Table.Steps.{cases}
 use native.Mathlib.Omega.{arith}
-use mathlib.Core.Path.{_≡_, refl, sym, ap, _∙_}
+use mathlib.Core.Path.{_≡_, sym, ap, _∙_}
 use mathlib.Core.List.{List}
-use Prim.Native.Nat.{ℕ, _≤_, _<_, min}
-use mathlib.Core.Bool.{Bool, true, false}
+use Prim.Native.Nat.{ℕ, _≤_, min}
 use lib.Dec.{ltb}
 use lib.ListN.{length, take}
-use lib.Seq.{length-take-le, take-all, take-length}
+use lib.Seq.{length-take-le, take-all}
 use borrow.Author.Tests.{ltb-true, ltb-false}
 use Rattle.run.specs.declared.Answer.{Answer}
 use Rattle.rewrite.specs.Rewrite.{Rewritten, rewriteOf}
@@ -22,12 +22,10 @@ within m k e = omega arith
 
 -- a list has no more to take than its length
 clipped : (m : ℕ) (l : List ℕ) → take (min m (length l)) l ≡ take m l
-clipped m l = go (ltb m (length l)) (ltb-true m (length l)) (ltb-false m (length l))
-  where
-    go : (b : Bool) → (b ≡ true → m < length l) → (b ≡ false → length l ≤ m) → take (min m (length l)) l ≡ take m l
-    go true f g = let h : m < length l = f refl in let e : min m (length l) ≡ m = omega arith in ap (λ (n : ℕ). take n l) e
-    go false f g = let h : length l ≤ m = g refl in let e : min m (length l) ≡ length l = omega arith in
-        ap (λ (n : ℕ). take n l) e ∙ take-length l ∙ sym (take-all m l h)
+clipped m l =
+    cases (ltb m (length l))
+    (λ t. let e : min m (length l) ≡ m = omega (arith, ltb-true m (length l) t) in ap (λ (n : ℕ). take n l) e)
+    (λ t. let h = ltb-false m (length l) t in take-all (min m (length l)) l (omega arith) ∙ sym (take-all m l h))
 
 listed : (a : Answer) (w : Rewritten) (out : List ℕ) (k : ℕ) {n : ℕ} → a ≡ w .answer → out ≡ w .output → n ≡ min (shownOf (a .number) k) (length out)
     → listingOf a (take n out) ≡ callListed k w

@@ -1,13 +1,11 @@
 -- A byte after another. Assumes nothing.
 use borrow.Author.Needs.{needs}
 use native.Mathlib.Omega.{arith}
-use mathlib.Core.Path.{ap}
 use Prim.Native.Nat.{_-_, _≤_}
 use lib.ListN.{length, take}
-use lib.Seq.{take-all}
 use Rattle.list.specs.Grown.{Grown}
-use Rattle.list.proofs.Grow.{nothing, then, like}
-use Rattle.list.proofs.Lines.{more}
+use Rattle.list.proofs.Grow.{nothing}
+use Rattle.list.proofs.Lines.{one-more, all-lines}
 use Rattle.list.specs.Text.{lines, hexOf, bytesOf}
 use Rattle.list.proofs.put_bytes.Statement.{statement}
 use Rattle.list.proofs.put_bytes.Tie as tie
@@ -36,13 +34,13 @@ loop-less c = search needs
 
 loop-again : tie.Need-loop-again Inv-loop μ-loop
 loop-again c = let l = c .before .before .before .before .before .before .before .before .before .args .bytes .now in let i = c .before .before .before .before .before .before .loop .i in
-    (search needs, like (more (λ k b. hexOf b) 0 0 l i (omega arith)) (then (c .before .before .before .before .before .before .loop .inv .1) (c .before .before .put-byte .ensures)))
+    (search needs, one-more (λ k b. hexOf b) 0 0 l i i (omega arith) (omega arith) (c .before .before .before .before .before .before .loop .inv .1) (c .before .before .put-byte .ensures))
 
 same-length : tie.Need-same-length Inv-loop μ-loop
 same-length c = c .before .loop .inv .1 .room
 
 returns : tie.Need-returns Inv-loop μ-loop
-returns c = like (ap bytesOf (take-all (c .before .loop .i) (c .before .before .before .before .args .bytes .now) (omega arith))) (c .before .loop .inv .1)
+returns c = all-lines (λ k b. hexOf b) 0 0 (c .before .before .before .before .args .bytes .now) (c .before .loop .i) (omega arith) (c .before .loop .inv .1)
 
 pub put-bytes-spec : {M : Type 1} → statement M
 put-bytes-spec =

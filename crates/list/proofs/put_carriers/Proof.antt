@@ -1,22 +1,16 @@
 -- A carrier after another. Assumes nothing.
 use borrow.Author.Needs.{needs}
 use native.Mathlib.Omega.{arith}
-use mathlib.Core.Path.{_≡_, ap, _∙_}
-use mathlib.Core.List.{List, _++_}
-use Prim.Native.Nat.{ℕ, _+_, _-_, _≤_, _<_}
-use lib.ListN.{length, take, getD}
-use lib.Seq.{take-all}
-use Rattle.machine.specs.declared.Carrier.{Carrier}
+use mathlib.Core.Path.{_≡_}
+use Prim.Native.Nat.{_+_, _-_, _≤_}
+use lib.ListN.{length, take}
 use Rattle.machine.specs.Machine.{inactive}
 use Rattle.list.specs.Grown.{Grown}
-use Rattle.list.proofs.Grow.{nothing, then, like}
-use Rattle.list.proofs.Lines.{more}
+use Rattle.list.proofs.Grow.{nothing}
+use Rattle.list.proofs.Lines.{one-more, all-lines}
 use Rattle.list.specs.Text.{lines, carrierLine, carriersOf}
 use Rattle.list.proofs.put_carriers.Statement.{statement}
 use Rattle.list.proofs.put_carriers.Tie as tie
-
-next : (l : List Carrier) (k : ℕ) → k < length l → carriersOf (take k l) ++ carrierLine (k + 1) (getD l k inactive) ≡ carriersOf (take (k + 1) l)
-next l k h = let e : k + 1 ≡ 1 + k = omega arith in ap (λ (n : ℕ). carriersOf (take k l) ++ carrierLine n (getD l k inactive)) e ∙ more carrierLine inactive 1 l k h
 
 abbrev Inv-loop : tie.InvT-loop
 Inv-loop text₀ at carriers end₀ k₀ text end k = (k ≤ 10) × (length carriers ≡ 10) × Grown text₀ at (carriersOf (take k carriers)) text end
@@ -48,13 +42,13 @@ loop-less c = search needs
 
 loop-again : tie.Need-loop-again Inv-loop μ-loop
 loop-again c = let l = c .before .before .before .before .before .before .before .before .args .t3 in let k = c .before .before .before .before .before .before .loop .k in let i = c .before .before .before .before .before .before .loop .inv in
-    (search needs, i .1, like (next l k (omega (arith, i .1))) (then (i .2) (c .before .before .put-carrier .ensures)))
+    (search needs, i .1, one-more carrierLine inactive 1 l k (k + 1) (omega arith) (omega (arith, i .1)) (i .2) (c .before .before .put-carrier .ensures))
 
 same-length : tie.Need-same-length Inv-loop μ-loop
 same-length c = c .before .loop .inv .2 .room
 
 returns : tie.Need-returns Inv-loop μ-loop
-returns c = let i = c .before .loop .inv in like (ap carriersOf (take-all (c .before .loop .k) (c .before .before .before .args .t3) (omega (arith, i .1)))) (i .2)
+returns c = let i = c .before .loop .inv in all-lines carrierLine inactive 1 (c .before .before .before .args .t3) (c .before .loop .k) (omega (arith, i .1)) (i .2)
 
 pub put-carriers-spec : {M : Type 1} → statement M
 put-carriers-spec =

@@ -1,20 +1,14 @@
 -- A hook after another. Assumes nothing.
 use borrow.Author.Needs.{needs}
 use native.Mathlib.Omega.{arith}
-use mathlib.Core.Path.{_≡_, ap, _∙_}
-use mathlib.Core.List.{List, _++_}
-use Prim.Native.Nat.{ℕ, _+_, _-_, _≤_, _<_}
-use lib.ListN.{length, take, getD}
-use lib.Seq.{take-all}
+use Prim.Native.Nat.{_-_, _≤_}
+use lib.ListN.{length, take}
 use Rattle.list.specs.Grown.{Grown}
-use Rattle.list.proofs.Grow.{nothing, then, like}
-use Rattle.list.proofs.Lines.{more}
+use Rattle.list.proofs.Grow.{nothing}
+use Rattle.list.proofs.Lines.{one-more, all-lines}
 use Rattle.list.specs.Text.{lines, hookLine, hooksOf}
 use Rattle.list.proofs.put_hooks.Statement.{statement}
 use Rattle.list.proofs.put_hooks.Tie as tie
-
-next : (bed : ℕ) (l : List ℕ) (n : ℕ) → n < length l → hooksOf bed (take n l) ++ hookLine bed n (getD l n 0) ≡ hooksOf bed (take (n + 1) l)
-next bed l n h = let e : n ≡ 0 + n = omega arith in ap (λ (k : ℕ). hooksOf bed (take n l) ++ hookLine bed k (getD l n 0)) e ∙ more (hookLine bed) 0 0 l n h
 
 abbrev Inv-loop : tie.InvT-loop
 Inv-loop text₀ at bed loops end₀ n₀ text end n = (n ≤ length loops) × Grown text₀ at (hooksOf bed (take n loops)) text end
@@ -39,14 +33,14 @@ loop-less : tie.Need-loop-less Inv-loop μ-loop
 loop-less c = search needs
 
 loop-again : tie.Need-loop-again Inv-loop μ-loop
-loop-again c = let l = c .before .before .before .before .before .before .before .before .before .args .loops .now in let n = c .before .before .before .before .before .before .loop .n in
-    (search needs, like (next (c .before .before .before .before .before .before .before .before .before .args .bed) l n (omega arith)) (then (c .before .before .before .before .before .before .loop .inv .1) (c .before .before .put-hook .ensures)))
+loop-again c = let a = c .before .before .before .before .before .before .before .before .before .args in let n = c .before .before .before .before .before .before .loop .n in
+    (search needs, one-more (hookLine (a .bed)) 0 0 (a .loops .now) n n (omega arith) (omega arith) (c .before .before .before .before .before .before .loop .inv .1) (c .before .before .put-hook .ensures))
 
 same-length : tie.Need-same-length Inv-loop μ-loop
 same-length c = c .before .loop .inv .1 .room
 
 returns : tie.Need-returns Inv-loop μ-loop
-returns c = like (ap (hooksOf (c .before .before .before .before .args .bed)) (take-all (c .before .loop .n) (c .before .before .before .before .args .loops .now) (omega arith))) (c .before .loop .inv .1)
+returns c = let a = c .before .before .before .before .args in all-lines (hookLine (a .bed)) 0 0 (a .loops .now) (c .before .loop .n) (omega arith) (c .before .loop .inv .1)
 
 pub put-hooks-spec : {M : Type 1} → statement M
 put-hooks-spec =

@@ -11,6 +11,7 @@ use lib.IntN.{ℤ, pos, negsuc, natAbs, _-ℤ_}
 use lib.Signed.{nonNeg, ltZ}
 use lib.Dec.{T}
 use borrow.Author.Tests.{ltb-true}
+use Rattle.machine.proofs.Signed.{cast-back}
 use Rattle.list.proofs.Grow.{then, like}
 use Rattle.list.specs.Text.{figures, signed}
 use borrow.Author.Needs.{needs}
@@ -22,7 +23,7 @@ widens : {z : ℤ} → SFits w16 z → SFits w64 (toZ w16 (ofZ w16 z))
 widens f = subst (SFits w64) (sym (toZ-ofZ f)) (sfits-widen {w = w16} tt f)
 
 both : {z : ℤ} → SFits w16 z → toZ w64 (ofZ w64 (toZ w16 (ofZ w16 z))) ≡ z
-both f = ap (λ (y : ℤ). toZ w64 (ofZ w64 y)) (toZ-ofZ f) ∙ toZ-ofZ {w = w64} (sfits-widen {w = w16} tt f)
+both {z} f = cast-back w16 w64 z (f .sfits) (omega (arith, f .sfits))
 
 negated : {z : ℤ} → SFits w64 (pos 0 -ℤ z) → SFits w16 z → toZ w64 (ofZ w64 (pos 0 -ℤ toZ w64 (ofZ w64 (toZ w16 (ofZ w16 z))))) ≡ pos 0 -ℤ z
 negated g f = ap (λ (y : ℤ). toZ w64 (ofZ w64 (pos 0 -ℤ y))) (both f) ∙ toZ-ofZ g

@@ -1,9 +1,9 @@
--- The pair's range, lent on. Assumes nothing.
-use Prim.Native.Nat.{ℕ, _+_, _-_, _≤_}
+-- The pair's range, lent on to `halves` or to `rotate`. Assumes nothing.
+use Prim.Native.Nat.{ℕ, _+_, _-_, _≤_, _<_}
 use native.Mathlib.Omega.{arith}
-use mathlib.Core.Path.{_≡_, ap, _∙_}
+use mathlib.Core.Path.{_≡_, sym, ap, _∙_}
 use mathlib.Core.List.{List}
-use mathlib.Core.Logic.{⊎-elim}
+use mathlib.Core.Logic.{_⊎_, inl, inr}
 use lib.ListN.{length, take, drop, length-drop}
 use lib.Seq.{length-take-le}
 use Rattle.rewrite.proofs.Rotations.{turned, put-back}
@@ -11,7 +11,11 @@ use borrow.Author.Needs.{needs}
 use Rattle.rewrite.proofs.exchange.Statement.{statement}
 use Rattle.rewrite.proofs.exchange.Tie as tie
 
--- two records of k bytes
+-- both records have k bytes, which `each` says where they are as long as each other
+both-long : {T E : Type 0} (a b e each k : ℕ) → (T → e - b ≡ b - a) → (T × (each ≡ b - a)) ⊎ (E × (each ≡ 0)) → each ≡ k → 0 < k → (e - b ≡ b - a) × (b - a ≡ k)
+both-long a b e each k f (inl (t, q)) s h = (f t, omega arith)
+both-long a b e each k f (inr (t, q)) s h = absurd (omega arith)
+
 two-long : (o : List ℕ) (a b e k : ℕ) → a ≤ b → b ≤ e → e ≤ length o → (e - b ≡ b - a) × (b - a ≡ k) → length (take (e - a) (drop a o)) ≡ k + k
 two-long o a b e k ab be eo h = length-take-le (e - a) (drop a o) (omega (arith, length-drop a o)) ∙ omega (arith, h .0, h .1)
 
@@ -32,7 +36,7 @@ part-halves-end c = search needs
 
 halves-requires : tie.Need-halves-requires
 halves-requires c κs = let s = c .before .before .before .before in let g = s .args in let t = c .before .match .keys1 in
-    two-long (g .output .now) (g .a) (g .b) (g .e) 3 (s .pre .0) (s .pre .1) (s .pre .2) (⊎-elim {C = (g .e - g .b ≡ g .b - g .a) × (g .b - g .a ≡ 3)} (λ w. (omega arith, omega arith)) (λ w. (omega (arith, w .1, t), omega (arith, w .1, t))) (c .before .before .if1 .came))
+    two-long (g .output .now) (g .a) (g .b) (g .e) 3 (s .pre .0) (s .pre .1) (s .pre .2) (both-long (g .a) (g .b) (g .e) _ 3 (λ w. w .taken) (c .before .before .if1 .came) t (omega arith))
 
 sub-halves-2 : tie.Need-sub-halves-2
 sub-halves-2 c = search needs
@@ -45,7 +49,7 @@ part-halves-end-2 c = search needs
 
 halves-requires-2 : tie.Need-halves-requires-2
 halves-requires-2 c κs = let s = c .before .before .before .before in let g = s .args in let t = c .before .match .keys2 in
-    two-long (g .output .now) (g .a) (g .b) (g .e) 5 (s .pre .0) (s .pre .1) (s .pre .2) (⊎-elim {C = (g .e - g .b ≡ g .b - g .a) × (g .b - g .a ≡ 5)} (λ w. (omega arith, omega arith)) (λ w. (omega (arith, w .1, t), omega (arith, w .1, t))) (c .before .before .if1 .came))
+    two-long (g .output .now) (g .a) (g .b) (g .e) 5 (s .pre .0) (s .pre .1) (s .pre .2) (both-long (g .a) (g .b) (g .e) _ 5 (λ w. w .taken) (c .before .before .if1 .came) t (omega arith))
 
 sub-rotate : tie.Need-sub-rotate
 sub-rotate c = search needs
@@ -65,7 +69,7 @@ same-length c = search needs
 returns : tie.Need-returns
 returns c = let s = c .before .before .before .before .before .before .before in let g = s .args in let t = c .before .before .before .before .match .keys1 in
     put-back (g .output .now) (c .before .before .halves .last .0) (g .a) (g .b) (g .e) (s .pre .0) (s .pre .1) (s .pre .2)
-    (c .before .before .halves .ensures ∙ ap (turned (take (g .e - g .a) (drop (g .a) (g .output .now)))) (⊎-elim {C = 3 ≡ g .b - g .a} (λ w. omega (arith, w .1, t)) (λ w. omega (arith, w .1, t)) (c .before .before .before .before .before .if1 .came)))
+    (c .before .before .halves .ensures ∙ ap (turned (take (g .e - g .a) (drop (g .a) (g .output .now)))) (sym (both-long (g .a) (g .b) (g .e) _ 3 (λ w. w .taken) (c .before .before .before .before .before .if1 .came) t (omega arith) .1)))
 
 same-length-2 : tie.Need-same-length-2
 same-length-2 c = search needs
@@ -73,7 +77,7 @@ same-length-2 c = search needs
 returns-2 : tie.Need-returns-2
 returns-2 c = let s = c .before .before .before .before .before .before .before in let g = s .args in let t = c .before .before .before .before .match .keys2 in
     put-back (g .output .now) (c .before .before .halves2 .last .0) (g .a) (g .b) (g .e) (s .pre .0) (s .pre .1) (s .pre .2)
-    (c .before .before .halves2 .ensures ∙ ap (turned (take (g .e - g .a) (drop (g .a) (g .output .now)))) (⊎-elim {C = 5 ≡ g .b - g .a} (λ w. omega (arith, w .1, t)) (λ w. omega (arith, w .1, t)) (c .before .before .before .before .before .if1 .came)))
+    (c .before .before .halves2 .ensures ∙ ap (turned (take (g .e - g .a) (drop (g .a) (g .output .now)))) (sym (both-long (g .a) (g .b) (g .e) _ 5 (λ w. w .taken) (c .before .before .before .before .before .if1 .came) t (omega arith) .1)))
 
 same-length-3 : tie.Need-same-length-3
 same-length-3 c = search needs

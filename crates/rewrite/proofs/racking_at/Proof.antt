@@ -8,7 +8,7 @@ use mir.Syntax.{w8}
 use Rattle.machine.proofs.Signed.{back}
 use Rattle.rewrite.specs.Programs.{recordsOf}
 use Rattle.rewrite.specs.Laid.{rackByte}
-use Rattle.rewrite.proofs.Laying.{work-length, few}
+use Rattle.rewrite.proofs.Laying.{work-length, work-short}
 use Rattle.rewrite.proofs.Rackings.{racked, rack-on}
 use borrow.Author.Needs.{needs}
 use Rattle.rewrite.proofs.racking_at.Statement.{statement}
@@ -19,7 +19,7 @@ mul-racking-after c = search needs
 
 shared-slice-read-racking-after : tie.Need-shared-slice-read-racking-after
 shared-slice-read-racking-after c = let k = c .before .before .before .before in let p = k .args .program .now in let w = k .args .work .now in
-    omega (arith, k .pre .1 .long, k .pre .2, work-length p w (k .pre .0), few p w (k .pre .0), k .pre .0 .sound .short)
+    omega (arith, k .pre .1 .long, k .pre .2, work-short p w (k .pre .0))
 
 racking-after-requires : tie.Need-racking-after-requires
 racking-after-requires c κs = search needs

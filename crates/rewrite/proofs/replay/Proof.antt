@@ -9,7 +9,7 @@ use Rattle.rewrite.specs.Programs.{flat, recordsOf, startsOf}
 use Rattle.rewrite.specs.Rewrite.{swapOf, Replay, ended, replay}
 use Rattle.rewrite.specs.Laid.{Laid, Marked, swapNo, leftBy}
 use Rattle.rewrite.proofs.Records.{records-flat}
-use Rattle.rewrite.proofs.Logs.{log-end, log-short, log-kind, log-swap, swap-refused, swap-made, records-after, length-after, work-after, laid-after, marked-after}
+use Rattle.rewrite.proofs.Logs.{log-end, log-short, log-kind, log-swap, swap-refused, swap-made, after-swap}
 use borrow.Author.Needs.{needs}
 use Rattle.rewrite.proofs.replay.Statement.{statement}
 use Rattle.rewrite.proofs.replay.Tie as tie
@@ -110,13 +110,13 @@ loop-again c = let k = c .before .before .before .before .before .before .before
     let l = recordsOf (v .output) in let table = k .args .table .now in
     let more : List (List ℕ) → Replay = λ m. replay (drop (v .at + 3) (k .args .log .now)) (v .at + 3) m in
     let done = swap-made (swapOf (g .result) l) (v .at) (w .result) l more (w .ensures .0) (c .if3 .left) in
-    let m = leftBy (swapOf (g .result) l) l in (
-      laid-after (v .output) (v .work) table (v .inv .0) (v .inv .1) (g .result) m (done .1) _ _ (w .ensures .1 .0) (w .ensures .1 .1),
-      marked-after (v .output) (v .work) table (v .inv .0) (v .inv .1) (g .result) m (done .1) _ _ (w .ensures .1 .0) (w .ensures .1 .1),
+    let now = after-swap (v .output) (v .work) table (v .inv .0) (v .inv .1) (g .result) (leftBy (swapOf (g .result) l) l) (done .1) _ _ (w .ensures .1 .0) (w .ensures .1 .1) in (
+      now .laid,
+      now .marked,
       v .inv .2 ∙ log-swap (k .args .log .now) (v .at) l (omega (arith, c .before .before .before .before .before .before .before .before .before .before .before .if1 .left)) (g .result) (g .ensures .0) (c .before .before .before .before .before .before .before .before .before .if2 .left)
-          ∙ done .0 ∙ ap more (sym (records-after (v .output) (v .work) table (v .inv .0) (v .inv .1) (g .result) m (done .1) _ _ (w .ensures .1 .0) (w .ensures .1 .1))),
-      length-after (v .output) (v .work) table (v .inv .0) (v .inv .1) (g .result) m (done .1) _ _ (w .ensures .1 .0) (w .ensures .1 .1) ∙ v .inv .3,
-      work-after (v .output) (v .work) table (v .inv .0) (v .inv .1) (g .result) m (done .1) _ _ (w .ensures .1 .0) (w .ensures .1 .1) ∙ v .inv .4,
+          ∙ done .0 ∙ ap more (sym (now .records)),
+      now .bytes ∙ v .inv .3,
+      now .entries ∙ v .inv .4,
       omega (arith, c .before .before .before .before .before .before .before .before .before .before .before .if1 .left),
     )
 

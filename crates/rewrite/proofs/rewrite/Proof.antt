@@ -35,32 +35,32 @@ copy-requires : tie.Need-copy-requires
 copy-requires c κs = enough _ _ _ _ (sym (c .before .before .before .before .before .lent .ensures) ∙ c .before .before .before .before .if1 .left) .room
 
 starts-requires : tie.Need-starts-requires
-starts-requires c κs = let k = c .before .before .before .before .before .before .before .before .before .before .before .before .before .before in let p = k .args .program .now in let out = k .args .output .now in let w = k .args .work .now in (sound-run p (enough _ _ _ _ (sym (c .before .before .before .before .before .before .before .before .before .lent .ensures) ∙ c .before .before .before .before .before .before .before .before .if1 .left) .short) (sym (ap (λ (b : Answer). b .number) (c .before .before .before .before .before .before .before .run .ensures)) ∙ c .before .before .before .before .before .if2 .left), enough _ _ _ _ (sym (c .before .before .before .before .before .before .before .before .before .lent .ensures) ∙ c .before .before .before .before .before .before .before .before .if1 .left) .entries)
+starts-requires c κs = let k = c .before .before .before .before .before .before .before .before .before .before .before .before .before .before in let p = k .args .program .now in (sound-run p (enough _ _ _ _ (sym (c .before .before .before .before .before .before .before .before .before .lent .ensures) ∙ c .before .before .before .before .before .before .before .before .if1 .left) .short) (sym (ap (λ (b : Answer). b .number) (c .before .before .before .before .before .before .before .run .ensures)) ∙ c .before .before .before .before .before .if2 .left), enough _ _ _ _ (sym (c .before .before .before .before .before .before .before .before .before .lent .ensures) ∙ c .before .before .before .before .before .before .before .before .if1 .left) .entries)
 
 slice-reshare-prefix-marks : tie.Need-slice-reshare-prefix-marks
-slice-reshare-prefix-marks c = let k = c .before .before .before .before .before .before .before .before .before .before .before .before .before .before .before .before .before in let p = k .args .program .now in let out = k .args .output .now in let w = k .args .work .now in starts-enough p w _ (c .before .before .starts .result) (c .before .before .starts .ensures .0) (c .before .before .starts .ensures .1)
+slice-reshare-prefix-marks c = let k = c .before .before .before .before .before .before .before .before .before .before .before .before .before .before .before .before .before in let p = k .args .program .now in let w = k .args .work .now in starts-enough p w _ (c .before .before .starts .result) (c .before .before .starts .ensures .0) (c .before .before .starts .ensures .1)
 
 slice-aggregate-marks : tie.Need-slice-aggregate-marks
-slice-aggregate-marks c = let k = c .before .before .before .before .before .before .before .before .before .before .before .before .before .before .before .before .before .before in let p = k .args .program .now in let out = k .args .output .now in let w = k .args .work .now in sym (length-take-le _ _ (starts-enough p w _ (c .before .before .before .starts .result) (c .before .before .before .starts .ensures .0) (c .before .before .before .starts .ensures .1)))
+slice-aggregate-marks c = let k = c .before .before .before .before .before .before .before .before .before .before .before .before .before .before .before .before .before .before in let p = k .args .program .now in let w = k .args .work .now in sym (length-take-le _ _ (starts-enough p w _ (c .before .before .before .starts .result) (c .before .before .before .starts .ensures .0) (c .before .before .before .starts .ensures .1)))
 
 slice-aggregate-marks-2 : tie.Need-slice-aggregate-marks-2
 slice-aggregate-marks-2 c = search needs
 
 marks-requires : tie.Need-marks-requires
-marks-requires c κs = let k = c .before .before .before .before .before .before .before .before .before .before .before .before .before .before .before .before .before .before .before in let p = k .args .program .now in let out = k .args .output .now in let w = k .args .work .now in let s = c .before .before .before .before .starts in
+marks-requires c κs = let k = c .before .before .before .before .before .before .before .before .before .before .before .before .before .before .before .before .before .before .before in let p = k .args .program .now in let w = k .args .work .now in let s = c .before .before .before .before .starts in
     (laid-parts p p _ (sound-run p (enough _ _ _ _ (sym (c .before .before .before .before .before .before .before .before .before .before .before .before .before .before .lent .ensures) ∙ c .before .before .before .before .before .before .before .before .before .before .before .before .before .if1 .left) .short) (sym (ap (λ (b : Answer). b .number) (c .before .before .before .before .before .before .before .before .before .before .before .before .run .ensures)) ∙ c .before .before .before .before .before .before .before .before .before .before .if2 .left)) refl (starts-front p w _ (s .result) (s .ensures .0) (s .ensures .1)), refl)
 
 slice-relend-prefix-replay : tie.Need-slice-relend-prefix-replay
-slice-relend-prefix-replay c = let k = c .before .before .before .before .before .before .before .before .before .before .before .before .before .before .before .before .before .before .before .before .before in let p = k .args .program .now in let out = k .args .output .now in let w = k .args .work .now in copy-length p out _ (enough _ _ _ _ (sym (c .before .before .before .before .before .before .before .before .before .before .before .before .before .before .before .before .lent .ensures) ∙ c .before .before .before .before .before .before .before .before .before .before .before .before .before .before .before .if1 .left) .room) (c .before .before .before .before .before .before .before .before .before .before .copy .ensures .1)
+slice-relend-prefix-replay c = let k = c .before .before .before .before .before .before .before .before .before .before .before .before .before .before .before .before .before .before .before .before .before in let p = k .args .program .now in let out = k .args .output .now in copy-length p out _ (enough _ _ _ _ (sym (c .before .before .before .before .before .before .before .before .before .before .before .before .before .before .before .before .lent .ensures) ∙ c .before .before .before .before .before .before .before .before .before .before .before .before .before .before .before .if1 .left) .room) (c .before .before .before .before .before .before .before .before .before .before .copy .ensures .1)
 
 slice-aggregate-replay : tie.Need-slice-aggregate-replay
-slice-aggregate-replay c = let k = c .before .before .before .before .before .before .before .before .before .before .before .before .before .before .before .before .before .before .before .before .before .before in let p = k .args .program .now in let out = k .args .output .now in let w = k .args .work .now in sym (length-take-le _ _ (copy-length p out _ (enough _ _ _ _ (sym (c .before .before .before .before .before .before .before .before .before .before .before .before .before .before .before .before .before .lent .ensures) ∙ c .before .before .before .before .before .before .before .before .before .before .before .before .before .before .before .before .if1 .left) .room) (c .before .before .before .before .before .before .before .before .before .before .before .copy .ensures .1)))
+slice-aggregate-replay c = let k = c .before .before .before .before .before .before .before .before .before .before .before .before .before .before .before .before .before .before .before .before .before .before in let p = k .args .program .now in let out = k .args .output .now in sym (length-take-le _ _ (copy-length p out _ (enough _ _ _ _ (sym (c .before .before .before .before .before .before .before .before .before .before .before .before .before .before .before .before .before .lent .ensures) ∙ c .before .before .before .before .before .before .before .before .before .before .before .before .before .before .before .before .if1 .left) .room) (c .before .before .before .before .before .before .before .before .before .before .before .copy .ensures .1)))
 
 slice-relend-prefix-replay-2 : tie.Need-slice-relend-prefix-replay-2
-slice-relend-prefix-replay-2 c = let k = c .before .before .before .before .before .before .before .before .before .before .before .before .before .before .before .before .before .before .before .before .before .before in let p = k .args .program .now in let out = k .args .output .now in let w = k .args .work .now in let s = c .before .before .before .before .before .before .before .starts in starts-enough p w _ (s .result) (s .ensures .0) (s .ensures .1)
+slice-relend-prefix-replay-2 c = let k = c .before .before .before .before .before .before .before .before .before .before .before .before .before .before .before .before .before .before .before .before .before .before in let p = k .args .program .now in let w = k .args .work .now in let s = c .before .before .before .before .before .before .before .starts in starts-enough p w _ (s .result) (s .ensures .0) (s .ensures .1)
 
 slice-aggregate-replay-2 : tie.Need-slice-aggregate-replay-2
-slice-aggregate-replay-2 c = let k = c .before .before .before .before .before .before .before .before .before .before .before .before .before .before .before .before .before .before .before .before .before .before .before in let p = k .args .program .now in let out = k .args .output .now in let w = k .args .work .now in let s = c .before .before .before .before .before .before .before .before .starts in sym (length-take-le _ _ (starts-enough p w _ (s .result) (s .ensures .0) (s .ensures .1)))
+slice-aggregate-replay-2 c = let k = c .before .before .before .before .before .before .before .before .before .before .before .before .before .before .before .before .before .before .before .before .before .before .before in let p = k .args .program .now in let w = k .args .work .now in let s = c .before .before .before .before .before .before .before .before .starts in sym (length-take-le _ _ (starts-enough p w _ (s .result) (s .ensures .0) (s .ensures .1)))
 
 slice-aggregate-replay-3 : tie.Need-slice-aggregate-replay-3
 slice-aggregate-replay-3 c = search needs

@@ -4,7 +4,7 @@ use native.Mathlib.Omega.{arith}
 use mathlib.Core.Path.{_≡_, refl, sym, subst, _∙_}
 use lib.ListN.{length, take, drop, length-set}
 use Rattle.rewrite.specs.Programs.{recordsOf, startsOf}
-use Rattle.rewrite.proofs.Laying.{Upto, few-starts, not-yet, all-written, next-size, upto-next, starts-next, upto-none, past-next, starts-all}
+use Rattle.rewrite.proofs.Laying.{Upto, next-entry, all-written, next-size, upto-next, starts-next, upto-none, past-next, starts-all}
 use borrow.Author.Needs.{needs}
 use Rattle.rewrite.proofs.starts.Statement.{statement}
 use Rattle.rewrite.proofs.starts.Tie as tie
@@ -24,15 +24,15 @@ cast-work c = let k = c .before .before .before .before in omega (arith, c .loop
 
 mul-work : tie.Need-mul-work Inv-loop μ-loop
 mul-work c = let k = c .before .before .before .before in let v = c .before .loop in
-    omega (arith, not-yet (k .args .program .now) (k .pre .0) (v .n) (v .at) (v .inv .0) (c .loop-test .taken), few-starts (k .args .program .now) (k .pre .0) (v .n) (v .at) (v .inv .0), k .pre .0 .short)
+    omega (arith, next-entry (k .args .program .now) (k .pre .0) (v .n) (v .at) (v .inv .0) (c .loop-test .taken), k .pre .0 .short)
 
 slice-write-work : tie.Need-slice-write-work Inv-loop μ-loop
 slice-write-work c = let k = c .before .before .before .before in let v = c .before .loop in
-    omega (arith, not-yet (k .args .program .now) (k .pre .0) (v .n) (v .at) (v .inv .0) (c .loop-test .taken), few-starts (k .args .program .now) (k .pre .0) (v .n) (v .at) (v .inv .0), k .pre .1, v .inv .1)
+    omega (arith, next-entry (k .args .program .now) (k .pre .0) (v .n) (v .at) (v .inv .0) (c .loop-test .taken), k .pre .1, v .inv .1)
 
 add-n : tie.Need-add-n Inv-loop μ-loop
 add-n c = let k = c .before .before .before .before in let v = c .before .loop in
-    omega (arith, not-yet (k .args .program .now) (k .pre .0) (v .n) (v .at) (v .inv .0) (c .loop-test .taken), few-starts (k .args .program .now) (k .pre .0) (v .n) (v .at) (v .inv .0), k .pre .0 .short)
+    omega (arith, next-entry (k .args .program .now) (k .pre .0) (v .n) (v .at) (v .inv .0) (c .loop-test .taken), k .pre .0 .short)
 
 shared-slice-read-size-of : tie.Need-shared-slice-read-size-of Inv-loop μ-loop
 shared-slice-read-size-of c = search needs
@@ -52,7 +52,7 @@ loop-again : tie.Need-loop-again Inv-loop μ-loop
 loop-again c = let k = c .before .before .before .before .before .before in let v = c .before .before .before .loop in let p = k .args .program .now in let i = c .before .before .loop-test .taken in (
   subst (λ (z : ℕ). Upto p (v .n + 1) (v .at + z)) (sym (c .size-of .ensures)) (upto-next p (k .pre .0) (v .n) (v .at) (v .inv .0) i),
   length-set (v .work) (v .n) (v .at) ∙ v .inv .1,
-  starts-next p (k .pre .0) (v .n) (v .at) (v .inv .0) i (v .work) (omega (arith, not-yet p (k .pre .0) (v .n) (v .at) (v .inv .0) i, few-starts p (k .pre .0) (v .n) (v .at) (v .inv .0), k .pre .1, v .inv .1)) (v .inv .2),
+  starts-next p (k .pre .0) (v .n) (v .at) (v .inv .0) i (v .work) (omega (arith, next-entry p (k .pre .0) (v .n) (v .at) (v .inv .0) i, k .pre .1, v .inv .1)) (v .inv .2),
   past-next (v .work) (k .args .work .now) (v .n) (v .at) (v .inv .3),
 )
 

@@ -1,15 +1,14 @@
 -- Two neighbours looked at, and exchanged or left. Assumes nothing.
-use Prim.Native.Nat.{ℕ, _+_, _<_}
+use Prim.Native.Nat.{ℕ}
 use native.Mathlib.Omega.{arith}
-use mathlib.Core.Path.{_≡_, refl, sym, ap, _∙_}
+use mathlib.Core.Path.{_≡_, refl, sym, _∙_}
 use mathlib.Core.List.{List}
-use lib.ListN.{length, getD}
 use Rattle.trace.specs.Swaps.{Outcome, no-pair, is-tied, made}
 use Rattle.rewrite.specs.Programs.{flat, recordsOf, startsOf}
 use Rattle.rewrite.specs.Rewrite.{swapOf}
 use Rattle.rewrite.specs.Laid.{Laid, swapNo, leftBy}
 use Rattle.rewrite.proofs.Records.{records-flat}
-use Rattle.rewrite.proofs.Pairs.{second, second-size, placed, first-between, second-between, pair-bytes, pair-starts, pair-tied, pair-made, pair-none}
+use Rattle.rewrite.proofs.Pairs.{second-size, second-end, placed, first-between, second-between, pair-bytes, pair-starts, pair-tied, pair-made, pair-none}
 use borrow.Author.Needs.{needs}
 use Rattle.rewrite.proofs.swap.Statement.{statement}
 use Rattle.rewrite.proofs.swap.Tie as tie
@@ -49,7 +48,7 @@ slice-read-a : tie.Need-slice-read-a
 slice-read-a c = search needs
 
 cast-a : tie.Need-cast-a
-cast-a c = let k = c .before .before .before .before .before in let p = k .args .output .now in let w = k .args .work .now in let i = k .args .i in let g = k .pre .0 in let h : i + 1 < length w = omega (arith, c .before .if1 .left) in let q = placed p w g i h in
+cast-a c = let k = c .before .before .before .before .before in let p = k .args .output .now in let w = k .args .work .now in let i = k .args .i in let g = k .pre .0 in let h = c .before .if1 .left in let q = placed p w g i h in
     omega (arith, q .first-long, q .second-long, q .ends, g .sound .short)
 
 add-b : tie.Need-add-b
@@ -62,22 +61,22 @@ slice-read-b : tie.Need-slice-read-b
 slice-read-b c = search needs
 
 cast-b : tie.Need-cast-b
-cast-b c = let k = c .before .before .before .before .before .before in let p = k .args .output .now in let w = k .args .work .now in let i = k .args .i in let g = k .pre .0 in let h : i + 1 < length w = omega (arith, c .before .before .if1 .left) in let q = placed p w g i h in
+cast-b c = let k = c .before .before .before .before .before .before in let p = k .args .output .now in let w = k .args .work .now in let i = k .args .i in let g = k .pre .0 in let h = c .before .before .if1 .left in let q = placed p w g i h in
     omega (arith, q .second-long, q .ends, g .sound .short)
 
 slice-read-size-of : tie.Need-slice-read-size-of
-slice-read-size-of c = let k = c .before .before .before .before .before .before .before in let p = k .args .output .now in let w = k .args .work .now in let i = k .args .i in let g = k .pre .0 in let h : i + 1 < length w = omega (arith, c .before .before .before .if1 .left) in let q = placed p w g i h in
+slice-read-size-of c = let k = c .before .before .before .before .before .before .before in let p = k .args .output .now in let w = k .args .work .now in let i = k .args .i in let g = k .pre .0 in let h = c .before .before .before .if1 .left in let q = placed p w g i h in
     omega (arith, q .second-long, q .ends)
 
 size-of-requires : tie.Need-size-of-requires
 size-of-requires c κs = search needs
 
 add-e : tie.Need-add-e
-add-e c = let k = c .before .before .before .before .before .before .before .before in let p = k .args .output .now in let w = k .args .work .now in let i = k .args .i in let g = k .pre .0 in let h : i + 1 < length w = omega (arith, c .before .before .before .before .if1 .left) in let q = placed p w g i h in
-    omega (arith, c .size-of .ensures, second-size p w g i h, q .ends, g .sound .short)
+add-e c = let k = c .before .before .before .before .before .before .before .before in let p = k .args .output .now in let w = k .args .work .now in let i = k .args .i in let g = k .pre .0 in let h = c .before .before .before .before .if1 .left in let q = placed p w g i h in
+    omega (arith, second-size p w g i h _ (c .size-of .ensures), q .ends, g .sound .short)
 
 tied-requires : tie.Need-tied-requires
-tied-requires c κs = let k = c .before .before .before .before .before .before .before .before .before .before in let p = k .args .output .now in let w = k .args .work .now in let i = k .args .i in let g = k .pre .0 in let h : i + 1 < length w = omega (arith, c .before .before .before .before .before .before .if1 .left) in let e : getD w (i + 1) 0 + c .before .before .size-of .result ≡ getD w (i + 1) 0 + length (second p w g i h) = ap (λ (n : ℕ). getD w (i + 1) 0 + n) (c .before .before .size-of .ensures ∙ second-size p w g i h) in
+tied-requires c κs = let k = c .before .before .before .before .before .before .before .before .before .before in let p = k .args .output .now in let w = k .args .work .now in let i = k .args .i in let g = k .pre .0 in let h = c .before .before .before .before .before .before .if1 .left in let e = second-end p w g i h _ (c .before .before .size-of .ensures) in
     (g, k .pre .1, omega arith, first-between p w g i h _ e, second-between p w g i h _ e)
 
 same-length : tie.Need-same-length
@@ -88,23 +87,23 @@ same-length-2 c = search needs
 
 returns-2 : tie.Need-returns-2
 unfolding Left
-returns-2 c = let k = c .before .before .before .before .before .before .before .before .before .before .before .before in let p = k .args .output .now in let w = k .args .work .now in let i = k .args .i in let g = k .pre .0 in let h : i + 1 < length w = omega (arith, c .before .before .before .before .before .before .before .before .if1 .left) in let e : getD w (i + 1) 0 + c .before .before .before .before .size-of .result ≡ getD w (i + 1) 0 + length (second p w g i h) = ap (λ (n : ℕ). getD w (i + 1) 0 + n) (c .before .before .before .before .size-of .ensures ∙ second-size p w g i h) in
+returns-2 c = let k = c .before .before .before .before .before .before .before .before .before .before .before .before in let p = k .args .output .now in let w = k .args .work .now in let i = k .args .i in let g = k .pre .0 in let h = c .before .before .before .before .before .before .before .before .if1 .left in let e = second-end p w g i h _ (c .before .before .before .before .size-of .ensures) in
     tied-left p w g i (pair-tied p w g i h _ e (sym (c .before .tied .ensures) ∙ c .if2 .taken))
 
 exchange-requires : tie.Need-exchange-requires
-exchange-requires c κs = let k = c .before .before .before .before .before .before .before .before .before .before .before .before .before in let p = k .args .output .now in let w = k .args .work .now in let i = k .args .i in let g = k .pre .0 in let h : i + 1 < length w = omega (arith, c .before .before .before .before .before .before .before .before .before .if1 .left) in let q = placed p w g i h in let e : getD w (i + 1) 0 + c .before .before .before .before .before .size-of .result ≡ getD w (i + 1) 0 + length (second p w g i h) = ap (λ (n : ℕ). getD w (i + 1) 0 + n) (c .before .before .before .before .before .size-of .ensures ∙ second-size p w g i h) in
+exchange-requires c κs = let k = c .before .before .before .before .before .before .before .before .before .before .before .before .before in let p = k .args .output .now in let w = k .args .work .now in let i = k .args .i in let g = k .pre .0 in let h = c .before .before .before .before .before .before .before .before .before .if1 .left in let q = placed p w g i h in let e = second-end p w g i h _ (c .before .before .before .before .before .size-of .ensures) in
     (omega (arith, q .first-long), omega (arith, e, q .second-long), omega (arith, e, q .ends), omega (arith, e, q .short))
 
 sub-work : tie.Need-sub-work
 sub-work c = search needs
 
 add-work : tie.Need-add-work
-add-work c = let k = c .before .before .before .before .before .before .before .before .before .before .before .before .before .before .before .before in let p = k .args .output .now in let w = k .args .work .now in let i = k .args .i in let g = k .pre .0 in let h : i + 1 < length w = omega (arith, c .before .before .before .before .before .before .before .before .before .before .before .before .if1 .left) in let q = placed p w g i h in
-    omega (arith, c .before .before .before .before .before .before .before .before .size-of .ensures, second-size p w g i h, q .first-long, q .ends, g .sound .short)
+add-work c = let k = c .before .before .before .before .before .before .before .before .before .before .before .before .before .before .before .before in let p = k .args .output .now in let w = k .args .work .now in let i = k .args .i in let g = k .pre .0 in let h = c .before .before .before .before .before .before .before .before .before .before .before .before .if1 .left in let q = placed p w g i h in
+    omega (arith, second-size p w g i h _ (c .before .before .before .before .before .before .before .before .size-of .ensures), q .first-long, q .ends, g .sound .short)
 
 cast-work : tie.Need-cast-work
-cast-work c = let k = c .before .before .before .before .before .before .before .before .before .before .before .before .before .before .before .before in let p = k .args .output .now in let w = k .args .work .now in let i = k .args .i in let g = k .pre .0 in let h : i + 1 < length w = omega (arith, c .before .before .before .before .before .before .before .before .before .before .before .before .if1 .left) in let q = placed p w g i h in
-    omega (arith, c .before .before .before .before .before .before .before .before .size-of .ensures, second-size p w g i h, q .first-long, q .ends, g .sound .short)
+cast-work c = let k = c .before .before .before .before .before .before .before .before .before .before .before .before .before .before .before .before in let p = k .args .output .now in let w = k .args .work .now in let i = k .args .i in let g = k .pre .0 in let h = c .before .before .before .before .before .before .before .before .before .before .before .before .if1 .left in let q = placed p w g i h in
+    omega (arith, second-size p w g i h _ (c .before .before .before .before .before .before .before .before .size-of .ensures), q .first-long, q .ends, g .sound .short)
 
 add-work-2 : tie.Need-add-work-2
 add-work-2 c = search needs
@@ -123,7 +122,7 @@ same-length-4 c = search needs
 
 returns-3 : tie.Need-returns-3
 unfolding Left
-returns-3 c = let k = c .before .before .before .before .before .before .before .before .before .before .before .before .before .before .before .before in let p = k .args .output .now in let w = k .args .work .now in let i = k .args .i in let g = k .pre .0 in let h : i + 1 < length w = omega (arith, c .before .before .before .before .before .before .before .before .before .before .before .before .if1 .left) in let e : getD w (i + 1) 0 + c .before .before .before .before .before .before .before .before .size-of .result ≡ getD w (i + 1) 0 + length (second p w g i h) = ap (λ (n : ℕ). getD w (i + 1) 0 + n) (c .before .before .before .before .before .before .before .before .size-of .ensures ∙ second-size p w g i h) in
+returns-3 c = let k = c .before .before .before .before .before .before .before .before .before .before .before .before .before .before .before .before in let p = k .args .output .now in let w = k .args .work .now in let i = k .args .i in let g = k .pre .0 in let h = c .before .before .before .before .before .before .before .before .before .before .before .before .if1 .left in let e = second-end p w g i h _ (c .before .before .before .before .before .before .before .before .size-of .ensures) in
     made-left p w g i (pair-made p w g i h _ e (sym (c .before .before .before .before .before .tied .ensures) ∙ c .before .before .before .before .if2 .left))
     (c .before .before .exchange .ensures ∙ pair-bytes p w g i h _ e) (pair-starts p w g i h _ e)
 
