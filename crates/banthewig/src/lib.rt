@@ -20,7 +20,7 @@ fn word(number: u8, place: usize) -> u64
 pub extern "C" fn knitout_run(program: &[u8]) -> u64
     ensures { λ n. ⌜ n ≡ packed (runOf (now (program .entry))) ⌝ }
 {
-    let a = run::run(program);
+    let a = run::outcome(program);
     word(a.number, a.place)
 }
 

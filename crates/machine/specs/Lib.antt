@@ -2,3 +2,4 @@
 pub mod Machine
 pub mod Geometry
 pub mod Range
+pub mod Looks

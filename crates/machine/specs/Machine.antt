@@ -1,10 +1,9 @@
 -- The machine of document 01, 'Machine': needles, carriers and the machine state (000, Definition 5.3: r, L, and Y with A as the carriers).
 use Prim.Native.Nat.{ℕ, _+_, _-_, _*_, _<_}
-use mathlib.Core.Path.{_≡_}
 use mathlib.Core.Bool.{Bool, true, _&&_, not, cond}
 use mathlib.Core.List.{List, [], _∷_}
 use lib.IntN.{pos}
-use lib.Dec.{eqb, leb}
+use lib.Dec.{eqb}
 use lib.ListN.{getD, replicate}
 use Rattle.machine.specs.Geometry.{eqZ}
 use Rattle.machine.specs.declared.Needle.{Needle}
@@ -43,9 +42,10 @@ unfoldable pub all : {A : Type 0} → (A → Bool) → List A → Bool
 all p [] = true
 all p (x ∷ l) = p x && all p l
 
--- the largest of a list, 0 of none: it is at most b exactly if every element is
-abbrev pub Most : List ℕ → ℕ → Type 0
-Most l m = (b : ℕ) → all (λ (n : ℕ). leb n b) l ≡ leb m b
+-- the same of a statement
+abbrev pub Each : {A : Type 0} → (A → Type 0) → List A → Type 0
+Each P [] = Unit {0}
+Each P (x ∷ l) = P x × Each P l
 
 -- attached at a needle; an attachment at one needle goes to another, its side kept
 unfoldable pub attachedAt : Needle → Carrier → Bool
@@ -53,10 +53,6 @@ attachedAt n c = not (eqb (c .side) 0) && sameNeedle (c .needle) n
 
 unfoldable pub movedTo : Needle → Needle → Carrier → Carrier
 movedTo from to c = cond (attachedAt from c) (record { active = c .active; side = c .side; slot = c .slot; needle = to }) c
-
--- whether a carrier names a needle of this number, on either bed, attached or not: where none does, code need not move attachments
-abbrev pub anyBeside : Needle → List Carrier → Bool
-anyBeside n l = not (all (λ (c : Carrier). not (eqb (c .needle .1) (n .1))) l)
 
 -- no loop on any hook; every carrier the inactive one, 0 in every field
 abbrev pub noLoops : List ℕ → Bool

@@ -4,8 +4,9 @@ ghost use Prim.Native.Nat.{ℕ};
 ghost use mathlib.Core.Bool.{cond};
 ghost use mathlib.Core.List.{map};
 ghost use lib.Dec.{leb, ltb};
-ghost use Rattle.machine.specs.Machine.{OnBed, inactive, emptyState, hookOf, sameNeedle, attachedAt, movedTo, anyBeside, all, Most, noLoops, inactiveCarrier, allInactive, completeOf};
+ghost use Rattle.machine.specs.Machine.{OnBed, inactive, emptyState, hookOf, sameNeedle, attachedAt, movedTo, all, noLoops, inactiveCarrier, allInactive, completeOf};
 ghost use Rattle.machine.specs.Geometry.{columnOf, entryOf, exitOf, sameColumn, withinFloat};
+ghost use Rattle.machine.specs.Looks.{Most, anyBeside};
 ghost use Rattle.machine.specs.Range.{rackingOk, slotOk, onBed, attachmentOk, carrierOk, stateOk};
 
 // A needle by its bed (0 front, 1 back) and its number there: where a program says it is.

@@ -5,7 +5,7 @@ use mathlib.Core.List.{List, [], _∷_}
 use lib.IntN.{ℤ, pos, negsuc}
 use lib.ListN.{set}
 use Rattle.machine.specs.declared.State.{State}
-use Rattle.machine.specs.Machine.{emptyState}
+use Rattle.machine.specs.Machine.{emptyState, Each}
 use Rattle.panel.specs.Panel.{panelStep}
 
 -- the empty state but for its racking, for one hook, for carrier 10
@@ -38,10 +38,6 @@ abbrev pub inside : List State
 inside =
     withRacking (pos 8) ∷ withRacking (negsuc 7) ∷ withHook 0 8 ∷ withHook 499 8
     ∷ with 1 0 (pos 258) 0 0 ∷ with 1 0 (negsuc 7) 0 0 ∷ with 1 1 (pos 0) 0 0 ∷ with 1 2 (pos 258) 1 249 ∷ []
-
-abbrev pub Each : {A : Type 0} → (A → Type 0) → List A → Type 0
-Each P [] = Unit {0}
-Each P (x ∷ l) = P x × Each P l
 
 -- with no byte to step by, 15 for the former and 4 for the latter
 pub record RangeRows : Type 0 where

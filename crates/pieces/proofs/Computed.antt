@@ -11,7 +11,7 @@ use Rattle.machine.proofs.Laws.{and-two}
 use Rattle.machine.specs.declared.Needle.{Needle}
 use Rattle.machine.specs.declared.Carrier.{Carrier}
 use Rattle.machine.specs.declared.State.{State}
-use Rattle.machine.specs.Machine.{loopsOn, carrierOf, emptyState, completeOf, all, inactiveCarrier, movedTo, attachedAt, sameNeedle}
+use Rattle.machine.specs.Machine.{loopsOn, carrierOf, emptyState, completeOf, all, inactiveCarrier, movedTo, attachedAt, sameNeedle, Each}
 use Rattle.machine.specs.Geometry.{eqZ, columnOf, entryOf, exitOf, sameColumn, withinFloat}
 use Rattle.record.specs.Format.{sizeOf, decodeOf, whole, ranged, refusedAs, rackOk, needleOk, workOk, signedOf}
 use Rattle.record.specs.Names.{needleCount, carrierCount, needlesOf, carriersOf}
@@ -23,7 +23,7 @@ use Rattle.rewrite.specs.Programs.{cut, startsOf, sameBytes, knitting}
 use Rattle.rewrite.specs.Rewrite.{rackingZero, replay, lentNo, rewriteOf}
 use Rattle.rewrite.proofs.Lawful.{lawful}
 use Rattle.pieces.specs.Rows.{Row, rows, Swap, swaps, Pair, pairs}
-use Rattle.pieces.specs.Pieces.{Each, Holds, front, rewritten, Rewrites, Ties, PiecesHold}
+use Rattle.pieces.specs.Pieces.{Holds, front, rewritten, Rewrites, Ties, PiecesHold}
 
 -- the test that is computed, and that it says so
 sameBool : Bool → Bool → Bool

@@ -5,17 +5,12 @@ use mathlib.Core.List.{List, [], _∷_, _++_}
 use lib.ListN.{length, drop, replicate}
 use Rattle.machine.specs.declared.Needle.{Needle}
 use Rattle.machine.specs.declared.Carrier.{Carrier}
-use Rattle.machine.specs.Machine.{loopsOn, carrierOf}
+use Rattle.machine.specs.Machine.{loopsOn, carrierOf, Each}
 use Rattle.run.specs.Run.{runOf}
 use Rattle.trace.specs.Records.{tied}
 use Rattle.rewrite.specs.Programs.{knitting}
 use Rattle.rewrite.specs.Rewrite.{rackingZero, Rewritten, rewriteOf}
 use Rattle.pieces.specs.Rows.{Row, rows, Swap, swaps, Pair, pairs}
-
--- true of each element
-abbrev pub Each : {A : Type 0} → (A → Type 0) → List A → Type 0
-Each P [] = Unit {0}
-Each P (x ∷ l) = P x × Each P l
 
 pub record Holds (r : Row) : Type 0 where
   pub number : runOf (r .program) .number ≡ r .number

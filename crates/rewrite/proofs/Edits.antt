@@ -4,12 +4,8 @@ use mathlib.Core.Path.{_≡_, refl, sym, ap, _∙_}
 use mathlib.Core.List.{List, [], _∷_, map}
 use lib.ListN.{getD, set}
 use lib.Seq.{getD-set-other, set-comm}
+use Rattle.machine.specs.Machine.{Each}
 use Rattle.run.specs.Step.{edit}
-
--- all of a list
-abbrev pub Each : {A : Type 0} → (A → Type 0) → List A → Type 0
-Each P [] = Unit {0}
-Each P (x ∷ l) = P x × Each P l
 
 -- a place that is not listed, and lists with no place in common
 abbrev pub Away : ℕ → List ℕ → Type 0

@@ -13,7 +13,7 @@ use borrow.Author.Tests.{ne-eqb, eqb-false, leb-true, leb-false, le-leb, lt-leb}
 use Rattle.machine.specs.declared.Needle.{Needle}
 use Rattle.machine.specs.declared.Column.{Column}
 use Rattle.machine.specs.declared.Racking.{Racking}
-use Rattle.machine.specs.Machine.{OnBed, hookOf}
+use Rattle.machine.specs.Machine.{OnBed, hookOf, Each}
 use Rattle.machine.specs.Geometry.{columnOf}
 use Rattle.machine.proofs.Laws.{and-two}
 use Rattle.record.specs.declared.Record.{Record}
@@ -22,7 +22,7 @@ use Rattle.record.proofs.Ranges.{InRange}
 use Rattle.record.proofs.Forms.{cond-cases}
 use Rattle.rewrite.specs.declared.Extent.{Extent}
 use Rattle.rewrite.specs.Extents.{halfColumn, layerOf, narrow, broad, formExtent, extentOf, Covers, Share, meets, member, common, shareCarrier}
-use Rattle.rewrite.proofs.Edits.{Each, Away, Apart}
+use Rattle.rewrite.proofs.Edits.{Away, Apart}
 use Rattle.rewrite.proofs.Signed.{le-trans, le-self, le-next, le-before, later, higher}
 
 -- ---- extents that meet

@@ -13,7 +13,7 @@ use borrow.Author.Tests.{eq-eqb, ne-eqb, eqb-true, eqb-false}
 use Rattle.machine.specs.declared.Needle.{Needle}
 use Rattle.machine.specs.declared.Racking.{Racking}
 use Rattle.machine.specs.declared.State.{State}
-use Rattle.machine.specs.Machine.{sameNeedle}
+use Rattle.machine.specs.Machine.{sameNeedle, Each}
 use Rattle.machine.proofs.Signed.{eqZ-yes, eqZ-true}
 use Rattle.machine.proofs.Laws.{and-two}
 use Rattle.record.specs.declared.Record.{Record}
@@ -33,7 +33,6 @@ use Rattle.rewrite.specs.Claims.{Tied, TiedExactly}
 use Rattle.rewrite.specs.Laid.{whole}
 use Rattle.rewrite.proofs.Machine.{machine, had, Good}
 use Rattle.rewrite.proofs.Records.{whole-form}
-use Rattle.rewrite.proofs.Edits.{Each}
 use Rattle.rewrite.proofs.Footprints.{footprint, some-layer, share-meets, meets-share, Settled, Inside, inside, inside-meets}
 use Rattle.rewrite.proofs.Commute.{needle-eq, racking-left, number-settled, racking-applied, untied-commute}
 

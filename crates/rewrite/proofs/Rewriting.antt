@@ -14,7 +14,7 @@ use Rattle.run.specs.Run.{reached, answerOf, runOf}
 use Rattle.record.proofs.Forms.{cond-cases}
 use Rattle.run.proofs.Answers.{FullSize, answered, answer-size, empty-size}
 use Rattle.run.proofs.Demand.{place-bound}
-use Rattle.rewrite.specs.declared.Replayed.{Replayed}
+use Rattle.run.specs.declared.Ended.{Ended}
 use Rattle.rewrite.specs.Programs.{flat, recordsOf, startsOf}
 use Rattle.rewrite.specs.Rewrite.{replay, lentNo, Rewritten, refused, written, rewriteOf}
 use Rattle.rewrite.specs.Laid.{Sound, Laid, Marked}
@@ -143,7 +143,7 @@ module _ (p log output work : List ℕ) where
         let none : runOf p .number ≡ 0 → ⊥ = λ q. d (ap (λ (b : Answer). b .number) ran ∙ q) in
         subst (λ (b : Answer). Gives b output work) (sym ran) (gives (refused (runOf p) output work) (refused-call lent none))
 
-    pub gives-written : a .number ≡ 0 → (d : Replayed) (q v o w : List ℕ) (n : ℕ) → n ≡ length (recordsOf p) → drop (length p) o ≡ drop (length p) output → drop n w ≡ drop n work
+    pub gives-written : a .number ≡ 0 → (d : Ended) (q v o w : List ℕ) (n : ℕ) → n ≡ length (recordsOf p) → drop (length p) o ≡ drop (length p) output → drop n w ≡ drop n work
         → (d .number ≡ replay log 0 (recordsOf p) .number) × (d .place ≡ replay log 0 (recordsOf p) .place) → q ≡ flat (replay log 0 (recordsOf p) .left) → v ≡ startsOf 0 (replay log 0 (recordsOf p) .left)
         → Gives (record { number = d .number; place = d .place; complete = a .complete; state = a .state }) (q ++ drop (length p) o) (v ++ drop n w)
     unfolding Gives

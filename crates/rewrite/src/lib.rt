@@ -13,6 +13,7 @@ use machine::Racking;
 use machine::State;
 use record::Record;
 use run::Answer;
+use run::Ended;
 
 // What a record covers: half columns from left to right, layers from low to high.
 pub struct Extent {
@@ -20,12 +21,6 @@ pub struct Extent {
     pub right: i32,
     pub low: u8,
     pub high: u8,
-}
-
-// Where a log ended: the refusal's number and the log record's start, or 0 and 0.
-struct Replayed {
-    pub number: u8,
-    pub place: usize,
 }
 
 // The numbers of refusals, besides those of the run; 01's word for 2 is no bench.
@@ -338,15 +333,8 @@ fn position(log: &[u8], at: usize) -> usize
     wide(log[at + 1]) * 256 + wide(log[at + 2])
 }
 
-// A log that ends with a number at a place.
-fn ended(number: u8, place: usize) -> Replayed
-    ensures { λ d. ⌜ d ≡ record { number = number; place = place } ⌝ }
-{
-    Replayed { number, place }
-}
-
 // Makes the swaps of a log in order, up to the first that it refuses.
-fn replay(log: &[u8], output: &mut [u8], work: &mut [u16], table: &[u8]) -> Replayed
+fn replay(log: &[u8], output: &mut [u8], work: &mut [u16], table: &[u8]) -> Ended
     requires { ⌜ (Laid (now output) (now work)) × (Marked (now output) (now table)) ⌝ }
     ensures number { λ d. ⌜ (d .number ≡ replay (now (log .entry)) 0 (recordsOf (now (output .entry))) .number) × (d .place ≡ replay (now (log .entry)) 0 (recordsOf (now (output .entry))) .place) ⌝ }
     ensures bytes { λ _. ⌜ now (output .exit) ≡ flat (replay (now (log .entry)) 0 (recordsOf (now (output .entry))) .left) ⌝ }
@@ -355,19 +343,19 @@ fn replay(log: &[u8], output: &mut [u8], work: &mut [u16], table: &[u8]) -> Repl
     let mut at: usize = 0;
     while at < log.len() {
         if log.len() - at < SWAP_SIZE {
-            return ended(TORN_LOG, at);
+            return run::end_at(TORN_LOG, at);
         }
         if log[at] != SWAP {
-            return ended(TORN_LOG, at);
+            return run::end_at(TORN_LOG, at);
         }
         let i = position(log, at);
         let number = swap(output, work, table, i);
         if number != 0 {
-            return ended(number, at);
+            return run::end_at(number, at);
         }
         at += SWAP_SIZE;
     }
-    ended(0, 0)
+    run::end_at(0, 0)
 }
 
 // Whether the lent areas will do, by their lengths: 0, or 1 or 2.

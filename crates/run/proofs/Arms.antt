@@ -10,7 +10,8 @@ use Rattle.machine.specs.declared.Needle.{Needle}
 use Rattle.machine.specs.declared.Racking.{Racking}
 use Rattle.machine.specs.declared.Carrier.{Carrier}
 use Rattle.machine.specs.declared.State.{State}
-use Rattle.machine.specs.Machine.{inactive, hookOf, loopsOn, carrierOf, movedTo, anyBeside}
+use Rattle.machine.specs.Machine.{inactive, hookOf, loopsOn, carrierOf, movedTo}
+use Rattle.machine.specs.Looks.{anyBeside}
 use Rattle.machine.proofs.Laws.{none-moved}
 use Rattle.record.specs.declared.Record.{Record}
 use Rattle.record.proofs.Ranges.{InRange, four}

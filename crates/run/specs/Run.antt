@@ -44,5 +44,8 @@ unfoldable pub answerOf : Reached → Answer
 answerOf r = record { number = r .number; place = r .place; complete = completeOf (r .state); state = r .state }
 
 -- 1 (too long) comes first
+abbrev pub reachedOf : List ℕ → Reached
+reachedOf p = cond (leb (length p) 32768) (runFrom 0 p 0 emptyState) (reached 1 0 emptyState)
+
 unfoldable pub runOf : List ℕ → Answer
-runOf p = answerOf (cond (leb (length p) 32768) (runFrom 0 p 0 emptyState) (reached 1 0 emptyState))
+runOf p = answerOf (reachedOf p)

@@ -7,7 +7,7 @@ ghost use Rattle.machine.specs.Geometry.{columnOf, entryOf, exitOf};
 ghost use Rattle.run.specs.Relation.{unattached, reparked, attached};
 ghost use Rattle.run.specs.Step.{lookOf, parkedNo, floatNo, orNumber, askedNo};
 ghost use Rattle.run.specs.Loops.{tuckNo, tucked, transferNo, transferredLoops};
-ghost use Rattle.run.specs.Run.{reached, runFrom, answerOf, runOf, stay, stepOf};
+ghost use Rattle.run.specs.Run.{reached, runFrom, reachedOf, answerOf, runOf, stay, stepOf};
 use machine::Carrier;
 use machine::Needle;
 use machine::Racking;
@@ -21,7 +21,13 @@ pub struct Reached {
     pub state: State,
 }
 
-// The same with whether the state is the empty one.
+// Where a run or a log ended: number and place alone.
+pub struct Ended {
+    pub number: u8,
+    pub place: usize,
+}
+
+// All of it, with whether the state is the empty one.
 pub struct Answer {
     pub number: u8,
     pub place: usize,
@@ -355,15 +361,37 @@ pub fn refused(number: u8) -> Answer
     answered(stop(number, 0, state))
 }
 
-// The run of a program from the empty state.
+// Where the run of a program from the empty state stops.
+fn from_empty(program: &[u8]) -> Reached
+    ensures { λ a. ⌜ a ≡ reachedOf (now (program .entry)) ⌝ }
+{
+    let state = State::empty();
+    if State::PROGRAM_MOST < program.len() {
+        return stop(TOO_LONG, 0, state);
+    }
+    run_from(state, program)
+}
+
+// The run of a program.
 pub fn run(program: &[u8]) -> Answer
     ensures { λ a. ⌜ a ≡ runOf (now (program .entry)) ⌝ }
 {
-    if State::PROGRAM_MOST < program.len() {
-        return refused(TOO_LONG);
-    }
-    let state = State::empty();
-    answered(run_from(state, program))
+    answered(from_empty(program))
+}
+
+// A number and a place.
+pub fn end_at(number: u8, place: usize) -> Ended
+    ensures { λ e. ⌜ e ≡ record { number = number; place = place } ⌝ }
+{
+    Ended { number, place }
+}
+
+// Number and place of a run: its state is not looked at.
+pub fn outcome(program: &[u8]) -> Ended
+    ensures { λ e. ⌜ (e .number ≡ runOf (now (program .entry)) .number) × (e .place ≡ runOf (now (program .entry)) .place) ⌝ }
+{
+    let a = from_empty(program);
+    end_at(a.number, a.place)
 }
 
 // A step that is refused keeps the state.

@@ -6,7 +6,8 @@ use mathlib.Core.Path.{_≡_, refl, sym, ap, _∙_}
 use Prim.Native.Nat.{_-_, _≤_}
 use mathlib.Core.Bool.{not}
 use lib.ListN.{length, drop}
-use Rattle.machine.specs.Machine.{inactive, anyBeside}
+use Rattle.machine.specs.Machine.{inactive}
+use Rattle.machine.specs.Looks.{anyBeside}
 use Rattle.machine.proofs.Laws.{all-next, all-end, other}
 use Rattle.machine.proofs.any_beside.Statement.{statement}
 use Rattle.machine.proofs.any_beside.Tie as tie

@@ -4,7 +4,7 @@ use native.Mathlib.Omega.{arith}
 use mathlib.Core.Path.{_≡_, refl, sym, ap, _∙_}
 use mathlib.Core.List.{List}
 use lib.ListN.{length, drop}
-use Rattle.rewrite.specs.declared.Replayed.{Replayed}
+use Rattle.run.specs.declared.Ended.{Ended}
 use Rattle.rewrite.specs.Programs.{flat, recordsOf, startsOf}
 use Rattle.rewrite.specs.Rewrite.{swapOf, Replay, ended, replay}
 use Rattle.rewrite.specs.Laid.{Laid, Marked, swapNo, leftBy}
@@ -22,10 +22,10 @@ abbrev μ-loop : tie.MeasureT-loop
 μ-loop log output₀ work₀ table at₀ output work at = length log - at
 
 -- what is answered and left where the log ended
-Left : Replay → Replayed → List ℕ → List ℕ → Type 0
+Left : Replay → Ended → List ℕ → List ℕ → Type 0
 Left r d q v = ((d .number ≡ r .number) × (d .place ≡ r .place)) × ((q ≡ flat (r .left)) × (v ≡ startsOf 0 (r .left)))
 
-left-as : (r : Replay) (d : Replayed) (n at : ℕ) (l : List (List ℕ)) (q v : List ℕ) → r ≡ ended n at l → d ≡ record { number = n; place = at } → q ≡ flat l → v ≡ startsOf 0 l → Left r d q v
+left-as : (r : Replay) (d : Ended) (n at : ℕ) (l : List (List ℕ)) (q v : List ℕ) → r ≡ ended n at l → d ≡ record { number = n; place = at } → q ≡ flat l → v ≡ startsOf 0 l → Left r d q v
 unfolding Left
 left-as r d n at l q v e f a b = rw (e, f) ((refl, refl), (a, b))
 
@@ -39,8 +39,8 @@ loop-holds c = let k = c .before .before .before .before in (k .pre .0, k .pre .
 sub-if1 : tie.Need-sub-if1 Inv-loop μ-loop
 sub-if1 c = search needs
 
-ended-requires : tie.Need-ended-requires Inv-loop μ-loop
-ended-requires c κs = search needs
+end-at-requires : tie.Need-end-at-requires Inv-loop μ-loop
+end-at-requires c κs = search needs
 
 same-length : tie.Need-same-length Inv-loop μ-loop
 same-length c = c .before .before .before .loop .inv .3
@@ -52,13 +52,13 @@ returns : tie.Need-returns Inv-loop μ-loop
 unfolding Left
 returns c = let k = c .before .before .before .before .before .before .before .before in let v = c .before .before .before .loop in
     left-as _ _ 14 (v .at) (recordsOf (v .output)) (v .output) (v .work)
-    (v .inv .2 ∙ log-short (k .args .log .now) (v .at) (recordsOf (v .output)) (c .before .before .loop-test .taken) (c .before .if1 .taken)) (c .ended .ensures) (sym (records-flat (v .output))) (v .inv .0 .starts)
+    (v .inv .2 ∙ log-short (k .args .log .now) (v .at) (recordsOf (v .output)) (c .before .before .loop-test .taken) (c .before .if1 .taken)) (c .end-at .ensures) (sym (records-flat (v .output))) (v .inv .0 .starts)
 
 shared-slice-read-if2 : tie.Need-shared-slice-read-if2 Inv-loop μ-loop
 shared-slice-read-if2 c = search needs
 
-ended-requires-2 : tie.Need-ended-requires-2 Inv-loop μ-loop
-ended-requires-2 c κs = search needs
+end-at-requires-2 : tie.Need-end-at-requires-2 Inv-loop μ-loop
+end-at-requires-2 c κs = search needs
 
 same-length-3 : tie.Need-same-length-3 Inv-loop μ-loop
 same-length-3 c = c .before .before .before .before .before .loop .inv .3
@@ -70,7 +70,7 @@ returns-2 : tie.Need-returns-2 Inv-loop μ-loop
 unfolding Left
 returns-2 c = let k = c .before .before .before .before .before .before .before .before .before .before in let v = c .before .before .before .before .before .loop in
     left-as _ _ 14 (v .at) (recordsOf (v .output)) (v .output) (v .work)
-    (v .inv .2 ∙ log-kind (k .args .log .now) (v .at) (recordsOf (v .output)) (omega (arith, c .before .before .before .if1 .left)) (c .before .if2 .taken)) (c .ended2 .ensures) (sym (records-flat (v .output))) (v .inv .0 .starts)
+    (v .inv .2 ∙ log-kind (k .args .log .now) (v .at) (recordsOf (v .output)) (omega (arith, c .before .before .before .if1 .left)) (c .before .if2 .taken)) (c .end-at2 .ensures) (sym (records-flat (v .output))) (v .inv .0 .starts)
 
 position-requires : tie.Need-position-requires Inv-loop μ-loop
 position-requires c κs = omega (arith, c .before .before .if1 .left)
@@ -78,8 +78,8 @@ position-requires c κs = omega (arith, c .before .before .if1 .left)
 swap-requires : tie.Need-swap-requires Inv-loop μ-loop
 swap-requires c κs = let v = c .before .before .before .before .before .before .before .loop in (v .inv .0, v .inv .1, c .before .before .position .ensures .1)
 
-ended-requires-3 : tie.Need-ended-requires-3 Inv-loop μ-loop
-ended-requires-3 c κs = search needs
+end-at-requires-3 : tie.Need-end-at-requires-3 Inv-loop μ-loop
+end-at-requires-3 c κs = search needs
 
 same-length-5 : tie.Need-same-length-5 Inv-loop μ-loop
 same-length-5 c = let v = c .before .before .before .before .before .before .before .before .before .before .before .before .before .before .loop in let w = c .before .before .before .before .before .before .swap in
@@ -97,7 +97,7 @@ returns-3 c = let k = c .before .before .before .before .before .before .before 
     left-as _ _ (w .result) (v .at) l _ _
     (v .inv .2 ∙ log-swap (k .args .log .now) (v .at) l (omega (arith, c .before .before .before .before .before .before .before .before .before .before .before .before .if1 .left)) (g .result) (g .ensures .0) (c .before .before .before .before .before .before .before .before .before .before .if2 .left)
     ∙ swap-refused (swapOf (g .result) l) (v .at) (w .result) l _ (w .ensures .0) (c .before .if3 .taken) .0)
-    (c .ended3 .ensures) (w .ensures .1 .0 ∙ ap flat stay) (w .ensures .1 .1 ∙ ap (startsOf 0) stay)
+    (c .end-at3 .ensures) (w .ensures .1 .0 ∙ ap flat stay) (w .ensures .1 .1 ∙ ap (startsOf 0) stay)
 
 add-at : tie.Need-add-at Inv-loop μ-loop
 add-at c = search needs
@@ -120,8 +120,8 @@ loop-again c = let k = c .before .before .before .before .before .before .before
       omega (arith, c .before .before .before .before .before .before .before .before .before .before .before .if1 .left),
     )
 
-ended-requires-4 : tie.Need-ended-requires-4 Inv-loop μ-loop
-ended-requires-4 c κs = search needs
+end-at-requires-4 : tie.Need-end-at-requires-4 Inv-loop μ-loop
+end-at-requires-4 c κs = search needs
 
 same-length-7 : tie.Need-same-length-7 Inv-loop μ-loop
 same-length-7 c = c .before .before .loop .inv .3
@@ -133,7 +133,7 @@ returns-4 : tie.Need-returns-4 Inv-loop μ-loop
 unfolding Left
 returns-4 c = let k = c .before .before .before .before .before .before .before in let v = c .before .before .loop in
     left-as _ _ 0 0 (recordsOf (v .output)) (v .output) (v .work)
-    (v .inv .2 ∙ log-end (k .args .log .now) (v .at) (recordsOf (v .output)) (c .before .loop-test .left)) (c .ended4 .ensures) (sym (records-flat (v .output))) (v .inv .0 .starts)
+    (v .inv .2 ∙ log-end (k .args .log .now) (v .at) (recordsOf (v .output)) (c .before .loop-test .left)) (c .end-at4 .ensures) (sym (records-flat (v .output))) (v .inv .0 .starts)
 
 pub replay-spec : {M : Type 1} → statement M
 replay-spec =
@@ -143,25 +143,25 @@ replay-spec =
     μ-loop
     loop-holds
     sub-if1
-    ended-requires
+    end-at-requires
     same-length
     same-length-2
     returns
     shared-slice-read-if2
-    ended-requires-2
+    end-at-requires-2
     same-length-3
     same-length-4
     returns-2
     position-requires
     swap-requires
-    ended-requires-3
+    end-at-requires-3
     same-length-5
     same-length-6
     returns-3
     add-at
     loop-less
     loop-again
-    ended-requires-4
+    end-at-requires-4
     same-length-7
     same-length-8
     returns-4)

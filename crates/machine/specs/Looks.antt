@@ -1,0 +1,17 @@
+-- What the code's small looks at a state promise. Theorems need them, a reader of document 01 does not.
+use Prim.Native.Nat.{ℕ}
+use mathlib.Core.Path.{_≡_}
+use mathlib.Core.Bool.{Bool, not}
+use mathlib.Core.List.{List}
+use lib.Dec.{eqb, leb}
+use Rattle.machine.specs.declared.Needle.{Needle}
+use Rattle.machine.specs.declared.Carrier.{Carrier}
+use Rattle.machine.specs.Machine.{all}
+
+-- the largest of a list, 0 of none: it is at most b exactly if every element is
+abbrev pub Most : List ℕ → ℕ → Type 0
+Most l m = (b : ℕ) → all (λ (n : ℕ). leb n b) l ≡ leb m b
+
+-- whether a carrier names a needle of this number, on either bed, attached or not: where none does, code need not move attachments
+abbrev pub anyBeside : Needle → List Carrier → Bool
+anyBeside n l = not (all (λ (c : Carrier). not (eqb (c .needle .1) (n .1))) l)
