@@ -3,4 +3,5 @@ pub mod Grow
 pub mod Digits
 pub mod Lines
 pub mod Longest
+pub mod Read
 pub mod Printed

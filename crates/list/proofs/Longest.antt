@@ -1,6 +1,6 @@
--- A text of 90,000 bytes holds every listing whole, so that nothing is cut off. Assumes nothing.
-use Prim.Native.Nat.{ℕ, zero, suc, _+_, _*_, _/_, _%_, _≤_, _<_}
-use mathlib.Core.Path.{ap}
+-- A text of 88,307 bytes holds every listing whole, so that nothing is cut off. Assumes nothing.
+use Prim.Native.Nat.{ℕ, zero, suc, _+_, _*_, _/_, _%_, _≤_}
+use mathlib.Core.Path.{_≡_, ap}
 use mathlib.Core.Bool.{Bool, true, false, cond}
 use mathlib.Core.List.{List, [], _∷_, _++_}
 use native.Mathlib.Omega.{arith}
@@ -107,8 +107,9 @@ unfolding listingOf
 longest a l h k n =
     join (number (a .number)) (join (some 1 (32 ∷ []) (omega arith)) (join (number (a .place)) (join (some 3 (32 ∷ flagOf (a .complete) ∷ 10 ∷ []) (omega arith)) (join (state (a .state) h k) (program l n)))))
 
--- so that 90,000 bytes hold the listing of every call whose output has 32,768
-pub uncut : (program log output work old new : List ℕ) (end : ℕ) → Grown old 0 (listedOf program log output work) new end → length output ≤ 32768 → 90000 ≤ length old → end < 90000
+-- so that a text of 88,307 bytes holds the listing of every call whose output has 32,768
+pub uncut : (program log output work old new : List ℕ) (end : ℕ) → Grown old 0 (listedOf program log output work) new end → length output ≤ 32768 → 88307 ≤ length old
+    → end ≡ length (listedOf program log output work)
 unfolding listedOf
 uncut program log output work old new end g h r =
     let w = rewriteOf program log output work in
