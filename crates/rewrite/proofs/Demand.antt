@@ -19,14 +19,14 @@ use Rattle.trace.proofs.Swaps.{swaps-append, equals-are-tied}
 use Rattle.rewrite.specs.Programs.{flat, recordsOf, knitting, needle, carrier, names}
 use Rattle.rewrite.specs.Rewrite.{rackingZero, swapOf, Replay, ended, replay, Rewritten, written}
 use Rattle.rewrite.specs.Calls.{Call, callOf, numberOf, handedOn, after, logOf, AllAccepted}
-use Rattle.rewrite.specs.Claims.{RecordsEndToEnd, EachEncodes, RecordsEncode, TiedExactly, EqualRecordsTied, RewritePlaceIsSmall, SameProgram, Keeps, Lent, ComesTo, SwapExactly, Demand3}
+use Rattle.rewrite.specs.Claims.{RecordsEndToEnd, EachEncodes, RecordsEncode, TiedExactly, EqualRecordsTied, RewritePlaceIsSmall, SameProgram, Keeps, LentTo, ComesTo, SwapExactly, Demand3}
 use Rattle.rewrite.specs.Laid.{Whole}
 use Rattle.rewrite.proofs.Machine.{machine, Good}
 use Rattle.rewrite.proofs.Lawful.{lawful, orderly, tied-exactly}
 use Rattle.rewrite.proofs.Records.{records-flat, whole-form, steps-whole}
 use Rattle.rewrite.proofs.Joined.{valid-ends, ends-valid}
 use Rattle.rewrite.proofs.Replays.{swaps-moved, replay-made, replay-tied, replay-place, replay-front, replay-log}
-use Rattle.rewrite.proofs.Rewriting.{place-small}
+use Rattle.rewrite.proofs.Rewriting.{all-lent, place-small}
 use Rattle.rewrite.proofs.Handed.{call-written, moved-length, handed-on, call-of-swap}
 
 -- ---- a swap that a log comes to
@@ -39,7 +39,7 @@ module _ {p : List ℕ} {t : State} (w : Valid p t) (c : Call) (is rest : List �
   up-to =
       let swap : List ℕ = 64 ∷ h .high ∷ h .low ∷ rest in
       let e : 0 + length front ≡ length front = omega arith in
-      call-written w c (h .lent)
+      call-written w c (all-lent _ _ _ _ (h .lent))
       ∙ ap (λ (r : Replay). written p r (c .output) (c .work))
       (ap (λ (log : List ℕ). replay log 0 (recordsOf p)) (h .log)
       ∙ replay-front front swap 0 0 (recordsOf p) (u ++ x ∷ y ∷ v) (replay-log (h .before) 0)
@@ -80,10 +80,10 @@ module _ {p : List ℕ} {t : State} (w : Valid p t) (c : Call) (is rest : List �
       }
 
 -- a log of swaps that are made
-log-done : {p : List ℕ} {t : State} → Valid p t → (c : Call) (is : List ℕ) (m : List (List ℕ)) → Lent p c → c .log ≡ logOf is → Swaps knitting rackingZero is (recordsOf p) m
+log-done : {p : List ℕ} {t : State} → Valid p t → (c : Call) (is : List ℕ) (m : List (List ℕ)) → LentTo p c → c .log ≡ logOf is → Swaps knitting rackingZero is (recordsOf p) m
     → callOf p c ≡ written p (ended 0 0 m) (c .output) (c .work)
 log-done {p} w c is m lent e s =
-    call-written w c lent ∙ ap (λ (r : Replay). written p r (c .output) (c .work)) (ap (λ (log : List ℕ). replay log 0 (recordsOf p)) e ∙ replay-log s 0)
+    call-written w c (all-lent _ _ _ _ lent) ∙ ap (λ (r : Replay). written p r (c .output) (c .work)) (ap (λ (log : List ℕ). replay log 0 (recordsOf p)) e ∙ replay-log s 0)
 
 -- ---- every list of calls
 -- every program starts at racking 0

@@ -2,13 +2,13 @@
 use borrow.Table.Steps.{cases}
 use Prim.Native.Nat.{ℕ, zero, suc, _/_, _≤_, _<_}
 use mathlib.Core.Path.{_≡_, refl, ap, _∙_}
-use mathlib.Core.Bool.{false, _&&_, _||_}
+use mathlib.Core.Bool.{true, _||_}
 use mathlib.Core.List.{List, [], _∷_}
 use native.Mathlib.Omega.{arith}
-use lib.Dec.{leb, ltb}
+use lib.Dec.{ltb}
 use lib.ListN.{length, take, drop, replicate, length-replicate}
 use lib.Seq.{take-at}
-use borrow.Author.Tests.{le-leb, le-ltb}
+use borrow.Author.Tests.{ne-eqb, le-ltb}
 use Rattle.machine.specs.declared.State.{State}
 use Rattle.run.specs.Relation.{Valid}
 use Rattle.run.specs.Run.{answerOf}
@@ -16,12 +16,12 @@ use Rattle.run.proofs.Premises.{is}
 use Rattle.run.proofs.Demand.{final}
 use Rattle.trace.specs.Swaps.{made, Swaps, no-swap, swap-first}
 use Rattle.rewrite.specs.Programs.{flat, recordsOf, knitting}
-use Rattle.rewrite.specs.Rewrite.{rackingZero, swapOf, Replay, ended, replay, lentNo, Rewritten, written}
+use Rattle.rewrite.specs.Rewrite.{rackingZero, swapOf, Replay, ended, replay, lentNo, writes, Rewritten, written}
 use Rattle.rewrite.specs.Calls.{Below, Call, callOf, numberOf, handedOn, logOf, Accepted}
 use Rattle.rewrite.specs.Laid.{Whole}
 use Rattle.rewrite.proofs.Records.{records-flat, flat-records, steps-whole, whole-length}
 use Rattle.rewrite.proofs.Rewriting.{lent-call, written-call}
-use Rattle.rewrite.proofs.Replays.{Moved, swaps-moved, made-pair, replay-swaps, replay-moved, replay-number, replay-log}
+use Rattle.rewrite.proofs.Replays.{Moved, swaps-moved, made-pair, replay-swaps, replay-moved, replay-writes, replay-log}
 
 -- ---- one call on a valid program
 -- 1 or 2 by the lengths of what it is lent, or 0
@@ -35,13 +35,16 @@ lent-number p c =
     (λ a. cases (ltb (length (c .output)) (length p) || ltb (length (c .work)) (length p / 2)) (λ b. simp (a, b) (omega arith)) (λ b. simp (a, b) (omega arith)))
 
 -- 1 and 2 hand the same program on
-
 refused-number : (p : List ℕ) (c : Call) → (lent p c ≡ 0 → ⊥) → numberOf p c ≡ lent p c
 unfolding answerOf
 refused-number p c h = ap (λ (w : Rewritten). w .answer .number) (lent-call p (c .log) (c .output) (c .work) h)
 
 kept-program : (p : List ℕ) (c : Call) → (lent p c ≡ 0 → ⊥) → handedOn p c ≡ p
-kept-program p c h = simp (refused-number p c h, le-leb 1 (lent p c) (omega arith), le-leb (lent p c) 11 (omega (arith, lent-number p c)))
+unfolding writes
+kept-program p c h =
+    let n = lent p c in
+    let low = lent-number p c in
+    simp (refused-number p c h, ne-eqb n 0 h, ne-eqb n 12 (λ e. omega arith), ne-eqb n 13 (λ e. omega arith), ne-eqb n 14 (λ e. omega arith))
 
 module _ {p : List ℕ} {t : State} (v : Valid p t) where
   -- with 0 the log is replayed
@@ -61,7 +64,7 @@ module _ {p : List ℕ} {t : State} (v : Valid p t) where
       let r = replay (c .log) 0 (recordsOf p) in
       let f = call-written c e in
       let n : numberOf p c ≡ r .number = ap (λ (w : Rewritten). w .answer .number) f in
-      let test : (leb 1 (numberOf p c) && leb (numberOf p c) 11) ≡ false = rw n (replay-number (c .log) 0 (recordsOf p)) in
+      let test : writes (numberOf p c) ≡ true = rw n (replay-writes (c .log) 0 (recordsOf p)) in
       simp test
       (ap (λ (w : Rewritten). take (length p) (w .output)) f
       ∙ take-at (flat (r .left)) (drop (length p) (c .output)) (length p) (moved-length (replay-moved (c .log) 0 (recordsOf p))))

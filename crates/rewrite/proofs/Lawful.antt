@@ -29,7 +29,8 @@ use Rattle.trace.proofs.Swaps.{untied}
 use Rattle.rewrite.specs.declared.Extent.{Extent}
 use Rattle.rewrite.specs.Extents.{halfColumn, extentOf, Share, meets, member, common, shareCarrier, isRack, rackingAfter}
 use Rattle.rewrite.specs.Programs.{what, sameBytes, knitting, memberNeedle, Named, needle, carrier, names}
-use Rattle.rewrite.specs.Claims.{Tied, TiedExactly}
+use Rattle.rewrite.specs.Claims.{TiedExactly}
+use Rattle.rewrite.specs.Exact.{Tied}
 use Rattle.rewrite.specs.Laid.{whole}
 use Rattle.rewrite.proofs.Machine.{machine, had, Good}
 use Rattle.rewrite.proofs.Records.{whole-form}

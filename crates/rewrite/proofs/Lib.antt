@@ -18,3 +18,4 @@ pub mod Rackings
 pub mod Pairs
 pub mod Logs
 pub mod Rewriting
+pub mod Exact

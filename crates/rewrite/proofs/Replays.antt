@@ -2,18 +2,18 @@
 use borrow.Table.Steps.{cases}
 use Prim.Native.Nat.{ℕ, suc, _+_, _*_, _/_, _%_, _≤_, _<_}
 use mathlib.Core.Path.{_≡_, refl, ap, _∙_}
-use mathlib.Core.Bool.{false, true≢false, _&&_}
+use mathlib.Core.Bool.{true, true≢false}
 use mathlib.Core.List.{List, [], _∷_, _++_}
 use native.Mathlib.Omega.{arith}
 use native.Mathlib.Nat.{div-add-mod', lt-of-not-le}
-use lib.Dec.{eqb, leb}
+use lib.Dec.{eqb}
 use lib.ListN.{length, length-append}
-use borrow.Author.Tests.{eqb-true, le-leb, lt-leb}
+use borrow.Author.Tests.{eqb-true}
 use Rattle.trace.specs.Records.{Records}
 use Rattle.trace.specs.Swaps.{Outcome, no-pair, is-tied, made, swapAt, Swaps, no-swap, swap-first}
 use Rattle.trace.proofs.Swaps.{Made, made-is, short-no-pair}
 use Rattle.rewrite.specs.Programs.{flat, knitting}
-use Rattle.rewrite.specs.Rewrite.{rackingZero, swapOf, Replay, ended, onOutcome, replay}
+use Rattle.rewrite.specs.Rewrite.{rackingZero, swapOf, Replay, ended, onOutcome, replay, writes}
 use Rattle.rewrite.specs.Calls.{logOf}
 use Rattle.rewrite.specs.Laid.{Whole}
 
@@ -69,21 +69,21 @@ replay-tied high low log at l e = rw e
 -- ---- every replay goes through its log or stops at a log record with 12, 13 or 14
 data Replayed : List ℕ → ℕ → List (List ℕ) → Replay → Type 0 where
   through : {at : ℕ} {l : List (List ℕ)} → Replayed [] at l (ended 0 0 l)
-  stopped : {k at : ℕ} {log : List ℕ} {l : List (List ℕ)} (n : ℕ) → 12 ≤ n → n ≤ 14 → Replayed (k ∷ log) at l (ended n at l)
+  stopped : {k at : ℕ} {log : List ℕ} {l : List (List ℕ)} (n : ℕ) → 0 < n → writes n ≡ true → Replayed (k ∷ log) at l (ended n at l)
   next : {high low at : ℕ} {log : List ℕ} {l m : List (List ℕ)} {r : Replay} → swapOf (high * 256 + low) l ≡ made m → Replayed log (at + 3) m r → Replayed (64 ∷ high ∷ low ∷ log) at l r
 
 replayed : (log : List ℕ) (at : ℕ) (l : List (List ℕ)) → Replayed log at l (replay log at l)
-unfolding replay
+unfolding replay writes
 replayed [] at l = Replayed.through
-replayed (k ∷ []) at l = Replayed.stopped 14 (omega arith) (omega arith)
-replayed (k ∷ high ∷ []) at l = Replayed.stopped 14 (omega arith) (omega arith)
+replayed (k ∷ []) at l = Replayed.stopped 14 (omega arith) refl
+replayed (k ∷ high ∷ []) at l = Replayed.stopped 14 (omega arith) refl
 replayed (k ∷ high ∷ low ∷ log) at l =
-    cases (eqb k 64) (λ e. rw (e, eqb-true k 64 e) (go (swapOf (high * 256 + low) l) refl (replayed log (at + 3)))) (λ e. rw e (Replayed.stopped 14 (omega arith) (omega arith)))
+    cases (eqb k 64) (λ e. rw (e, eqb-true k 64 e) (go (swapOf (high * 256 + low) l) refl (replayed log (at + 3)))) (λ e. rw e (Replayed.stopped 14 (omega arith) refl))
   where
     go : (o : Outcome (List ℕ)) → swapOf (high * 256 + low) l ≡ o → ((m : List (List ℕ)) → Replayed log (at + 3) m (replay log (at + 3) m))
         → Replayed (64 ∷ high ∷ low ∷ log) at l (onOutcome o at l (λ m. replay log (at + 3) m))
-    go no-pair e more = Replayed.stopped 12 (omega arith) (omega arith)
-    go is-tied e more = Replayed.stopped 13 (omega arith) (omega arith)
+    go no-pair e more = Replayed.stopped 12 (omega arith) refl
+    go is-tied e more = Replayed.stopped 13 (omega arith) refl
     go (made m) e more = Replayed.next e (more m)
 
 -- the records that it leaves are reached by swaps that are made
@@ -98,13 +98,14 @@ replay-swaps log at l = left-by-swaps (replayed log at l)
 pub replay-moved : (log : List ℕ) (at : ℕ) (l : List (List ℕ)) → Moved l (replay log at l .left)
 replay-moved log at l = swaps-moved knitting (replay-swaps log at l .1)
 
--- its number is 0, or 12 to 14; a number that is not 0 has its place in the log
-pub replay-number : (log : List ℕ) (at : ℕ) (l : List (List ℕ)) → (leb 1 (replay log at l .number) && leb (replay log at l .number) 11) ≡ false
-replay-number log at l = go (replayed log at l)
+-- its number is one that writes; one that is not 0 has its place in the log
+pub replay-writes : (log : List ℕ) (at : ℕ) (l : List (List ℕ)) → writes (replay log at l .number) ≡ true
+unfolding writes
+replay-writes log at l = go (replayed log at l)
   where
-    go : {log : List ℕ} {at : ℕ} {l : List (List ℕ)} {r : Replay} → Replayed log at l r → (leb 1 (r .number) && leb (r .number) 11) ≡ false
+    go : {log : List ℕ} {at : ℕ} {l : List (List ℕ)} {r : Replay} → Replayed log at l r → writes (r .number) ≡ true
     go Replayed.through = refl
-    go (Replayed.stopped n h i) = simp (le-leb 1 n (omega arith), lt-leb n 11 (omega arith))
+    go (Replayed.stopped n h i) = i
     go (Replayed.next e more) = go more
 
 pub replay-place : (log : List ℕ) (at : ℕ) (l : List (List ℕ)) → (replay log at l .number ≡ 0 → ⊥) → at ≤ replay log at l .place

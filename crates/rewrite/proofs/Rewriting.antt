@@ -17,6 +17,7 @@ use Rattle.run.proofs.Demand.{place-bound}
 use Rattle.run.specs.declared.Ended.{Ended}
 use Rattle.rewrite.specs.Programs.{flat, recordsOf, startsOf}
 use Rattle.rewrite.specs.Rewrite.{replay, lentNo, Rewritten, refused, written, rewriteOf}
+use Rattle.rewrite.specs.Exact.{Enough}
 use Rattle.rewrite.specs.Laid.{Sound, Laid, Marked}
 use Rattle.rewrite.proofs.Records.{accepted-whole, records-flat}
 use Rattle.rewrite.proofs.Laying.{starts-length}
@@ -46,16 +47,13 @@ module _ (program log output work : ℕ) where
     all-enough k m = simp (le-ltb 32768 program h, le-ltb 32768 log i, le-ltb output program k, le-ltb work (program / 2) m)
 
 -- what 0 says
-pub record Enough (program log output work : ℕ) : Type 0 where
-  pub short : program ≤ 32768
-  pub log-short : log ≤ 32768
-  pub room : program ≤ output
-  pub entries : program / 2 ≤ work
-
 neither : (a b : Bool) {m n : ℕ} → (n ≡ 0 → ⊥) → cond (a || b) n m ≡ 0 → (a ≡ false) × (b ≡ false) × (m ≡ 0)
 neither true b h e = absurd (h e)
 neither false true h e = absurd (h e)
 neither false false h e = (refl, refl, e)
+
+pub all-lent : (program log output work : ℕ) → Enough program log output work → lentNo program log output work ≡ 0
+all-lent program log output work e = all-enough program log output work (e .short) (e .log-short) (e .room) (e .entries)
 
 pub enough : (program log output work : ℕ) → lentNo program log output work ≡ 0 → Enough program log output work
 unfolding lentNo
@@ -115,7 +113,7 @@ module _ (p log output work : List ℕ) where
   unfolding rewriteOf
   lent-call d = simp (ne-eqb number 0 d)
 
-  refused-call : number ≡ 0 → (runOf p .number ≡ 0 → ⊥) → call ≡ refused (runOf p) output work
+  pub refused-call : number ≡ 0 → (runOf p .number ≡ 0 → ⊥) → call ≡ refused (runOf p) output work
   unfolding rewriteOf
   refused-call z d = simp (eq-eqb number 0 z, ne-eqb (runOf p .number) 0 d)
 

@@ -1,13 +1,12 @@
 -- Lists of rewriter calls (document 01, 'Extents and ties'): what each is lent, and the program that is handed on.
 use Prim.Native.Nat.{ℕ, _/_, _%_, _<_}
 use mathlib.Core.Path.{_≡_}
-use mathlib.Core.Bool.{cond, _&&_}
+use mathlib.Core.Bool.{cond}
 use mathlib.Core.List.{List, [], _∷_}
-use lib.Dec.{leb}
 use lib.ListN.{length, take}
 use Rattle.trace.specs.Swaps.{Swaps}
 use Rattle.rewrite.specs.Programs.{recordsOf, knitting}
-use Rattle.rewrite.specs.Rewrite.{rackingZero, Rewritten, rewriteOf}
+use Rattle.rewrite.specs.Rewrite.{rackingZero, writes, Rewritten, rewriteOf}
 
 -- every element is below n
 abbrev pub Below : ℕ → List ℕ → Type 0
@@ -30,9 +29,9 @@ callOf p c = rewriteOf p (c .log) (c .output) (c .work)
 abbrev pub numberOf : List ℕ → Call → ℕ
 numberOf p c = callOf p c .answer .number
 
--- the next call's program: 'the one at the front of the output that the last call wrote'; 'after a number that writes nothing' (1 to 11) 'it is the same program again'
+-- the next call's program: 'the one at the front of the output that the last call wrote'; 'after a number that writes nothing it is the same program again'
 abbrev pub handedOn : List ℕ → Call → List ℕ
-handedOn p c = cond (leb 1 (numberOf p c) && leb (numberOf p c) 11) p (take (length p) (callOf p c .output))
+handedOn p c = cond (writes (numberOf p c)) (take (length p) (callOf p c .output)) p
 
 -- the program after a list of calls; a call more or less is another list, so that what is said of every list is said after every call
 abbrev pub after : List ℕ → List Call → List ℕ

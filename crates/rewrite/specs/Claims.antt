@@ -13,9 +13,9 @@ use Rattle.run.specs.Relation.{Valid}
 use Rattle.trace.specs.Records.{tied}
 use Rattle.trace.specs.Swaps.{Swaps}
 use Rattle.trace.specs.Order.{inForce, SameRecords, SameOrder}
-use Rattle.rewrite.specs.Extents.{extentOf, Share}
 use Rattle.rewrite.specs.Programs.{flat, recordsOf, what, knitting, needle, carrier, names, historyOf}
-use Rattle.rewrite.specs.Rewrite.{rackingZero, ended, replay, lentNo, written, rewriteOf}
+use Rattle.rewrite.specs.Rewrite.{rackingZero, ended, replay, written, rewriteOf}
+use Rattle.rewrite.specs.Exact.{Lent, Tied}
 use Rattle.rewrite.specs.Calls.{Call, callOf, numberOf, after, logOf, AllAccepted}
 
 -- ---- the definitions in 01's words
@@ -31,13 +31,7 @@ EachEncodes (x ∷ l) = Encodes x (what x) × EachEncodes l
 abbrev pub RecordsEncode : Type 0
 RecordsEncode = (p : List ℕ) (t : State) → Valid p t → EachEncodes (recordsOf p)
 
--- 'Two records are tied if either is a rack, if they name one carrier, or if their extents meet': 'if they share a half column and a layer'
-pub data Tied (r : Racking) (x y : List ℕ) : Type 0 where
-  first-rack : what x .kind ≡ 1 → Tied r x y
-  second-rack : what y .kind ≡ 1 → Tied r x y
-  one-carrier : (k : ℕ) → names (carrier k) x ≡ true → names (carrier k) y ≡ true → Tied r x y
-  extents-meet : Share (extentOf r (what x)) (extentOf r (what y)) → Tied r x y
-
+-- the test for ties that the swaps of crate trace go by is the words of Exact.antt
 abbrev pub TiedExactly : Type 0
 TiedExactly = (r : Racking) (x y : List ℕ) → (tied knitting r x y ≡ true) ↔ Tied r x y
 
@@ -66,12 +60,12 @@ pub record Keeps (p : List ℕ) (t : State) (q : List ℕ) : Type 0 where
 
 -- ---- which swaps are made
 -- neither 1 nor 2
-abbrev pub Lent : List ℕ → Call → Type 0
-Lent p c = lentNo (length p) (length (c .log)) (length (c .output)) (length (c .work)) ≡ 0
+abbrev pub LentTo : List ℕ → Call → Type 0
+LentTo p c = Lent p (c .log) (c .output) (c .work)
 
 -- a call's log comes to a swap of x and y: what stands before it in the log are swaps that are made (at positions is), and x and y stand where it points
 pub record ComesTo (p : List ℕ) (c : Call) (is : List ℕ) (u : List (List ℕ)) (x y : List ℕ) (v : List (List ℕ)) (rest : List ℕ) : Type 0 where
-  pub lent : Lent p c
+  pub lent : LentTo p c
   pub before : Swaps knitting rackingZero is (recordsOf p) (u ++ x ∷ y ∷ v)
   pub high : ℕ
   pub low : ℕ
@@ -95,7 +89,7 @@ pub record EveryList (p : List ℕ) (t : State) : Type 0 where
   pub exactly : (cs : List Call) (c : Call) (is rest : List ℕ) (u v : List (List ℕ)) (x y : List ℕ)
       → ComesTo (after p cs) c is u x y v rest → SwapExactly (after p cs) c (length (logOf is)) u x y v rest
   -- a log of swaps that are made is gone through, with 0
-  pub done : (cs : List Call) (c : Call) (is : List ℕ) (m : List (List ℕ)) → Lent (after p cs) c → c .log ≡ logOf is → Swaps knitting rackingZero is (recordsOf (after p cs)) m
+  pub done : (cs : List Call) (c : Call) (is : List ℕ) (m : List (List ℕ)) → LentTo (after p cs) c → c .log ≡ logOf is → Swaps knitting rackingZero is (recordsOf (after p cs)) m
       → callOf (after p cs) c ≡ written (after p cs) (ended 0 0 m) (c .output) (c .work)
   -- the programs so reached are exactly these
   pub reached : (q : List ℕ) → ((cs : List Call) × (after p cs ≡ q)) ↔ SameProgram p q

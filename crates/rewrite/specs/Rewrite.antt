@@ -1,6 +1,6 @@
 -- The rewriter as a definition that computes (document 01, 'Calls'), which its contract cites: answer, output and work area, for every program, log and loan.
 use Prim.Native.Nat.{ℕ, _+_, _*_, _/_}
-use mathlib.Core.Bool.{cond, _||_}
+use mathlib.Core.Bool.{Bool, cond, _||_}
 use mathlib.Core.List.{List, [], _∷_, _++_}
 use lib.Dec.{eqb, ltb}
 use lib.IntN.{pos}
@@ -54,7 +54,11 @@ pub record Rewritten : Type 0 where
   pub output : List ℕ
   pub work : List ℕ
 
--- numbers 1 to 11 write nothing
+-- the numbers that write (01: 'Numbers 1 to 11 and 15 write nothing'): done, no pair, tied, torn log
+unfoldable pub writes : ℕ → Bool
+writes n = eqb n 0 || (eqb n 12 || (eqb n 13 || eqb n 14))
+
+-- all others write nothing
 abbrev pub refused : Answer → List ℕ → List ℕ → Rewritten
 refused a output work = record { answer = a; output = output; work = work }
 

@@ -5,7 +5,7 @@ ghost use Prim.Native.Nat.{_+_, _-_, _*_, _/_, _≤_, _<_};
 ghost use lib.ListN.{length, take, drop, getD};
 ghost use Rattle.rewrite.specs.Extents.{halfColumn, layerOf, narrow, broad, formExtent, extentOf, meets, shareCarrier};
 ghost use Rattle.rewrite.specs.Programs.{flat, recordsOf, startsOf, what};
-ghost use Rattle.rewrite.specs.Rewrite.{swapOf, replay, lentNo, rewriteOf};
+ghost use Rattle.rewrite.specs.Rewrite.{swapOf, replay, lentNo, writes, rewriteOf};
 ghost use Rattle.rewrite.specs.Laid.{boundTo, tiedAt, farApart, Sound, Laid, Marked, Between, rackByte, inForceAt, swapNo, leftBy, exchanged, part};
 use machine::Column;
 use machine::Needle;
@@ -375,6 +375,17 @@ fn lent(program: usize, log: usize, output: usize, work: usize) -> u8
         return run::NO_ROOM;
     }
     0
+}
+
+// Whether a call that answers this number has written: the program is then at the front of the output.
+pub fn writes(number: u8) -> bool
+    ensures { λ b. ⌜ b ≡ writes number ⌝ }
+{
+    match number {
+        0 => true,
+        12..=14 => true,
+        _ => false,
+    }
 }
 
 // Runs the program, copies it to the front of the output, writes its records' starts into the front of the work area

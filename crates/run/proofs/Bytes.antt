@@ -23,7 +23,7 @@ use Rattle.run.proofs.Sound.{reason-above, step-only, step-sound, numbe
 use Rattle.run.proofs.Least.{number-least}
 
 -- ---- the three reasons of bytes
-fields-ok : {l : List ℕ} {size : ℕ} {ok : Bool} {x : Record} → Fields l size ok x → fieldsOk l ≡ ok
+pub fields-ok : {l : List ℕ} {size : ℕ} {ok : Bool} {x : Record} → Fields l size ok x → fieldsOk l ≡ ok
 unfolding fieldsOk
 fields-ok (Fields.one e) = simp e
 fields-ok (Fields.two e) = simp e

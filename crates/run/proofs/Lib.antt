@@ -14,3 +14,4 @@ pub mod Ranges
 pub mod Stepwise
 pub mod Unique
 pub mod Demand
+pub mod Exact

@@ -1,23 +1,67 @@
--- Demand 2: what the run and the step say of every program, against the validity relation. The code's `run` equals runOf and its
--- `step` equals stepOf by their contracts.
+-- Demand 2: the run in one statement against the validity relation, what follows from it, and the step. The code's `run` equals runOf
+-- and its `step` equals stepOf by their contracts.
 use Prim.Native.Nat.{ℕ, _+_, _≤_, _<_}
 use mathlib.Core.Path.{_≡_}
-use mathlib.Core.Bool.{true}
-use mathlib.Core.List.{List, [], _++_}
+use mathlib.Core.Bool.{Bool, true, false}
+use mathlib.Core.List.{List, [], _∷_, _++_}
 use mathlib.Core.Logic.{_↔_}
 use lib.ListN.{length, take, drop}
 use Rattle.machine.specs.declared.State.{State}
 use Rattle.machine.specs.Machine.{emptyState}
 use Rattle.machine.specs.Range.{StateInRange}
 use Rattle.record.specs.declared.Record.{Record}
-use Rattle.record.specs.Format.{Encodes}
+use Rattle.record.specs.Format.{Encodes, sizeOf, byte}
 use Rattle.run.specs.declared.Answer.{Answer}
 use Rattle.run.specs.declared.Reached.{Reached}
 use Rattle.run.specs.declared.Stepped.{Stepped}
 use Rattle.run.specs.Relation.{Step, Steps, Valid}
-use Rattle.run.specs.Reason.{Reason}
+use Rattle.run.specs.Reason.{Whole, fieldsOk, Reason}
 use Rattle.run.specs.Run.{reached, runOf, stay, stepOf, answerOf}
 
+-- ---- the run in one statement
+-- no record that the bytes begin with has a step
+abbrev pub NoStep : State → List ℕ → Type 0
+NoStep s l = (bytes rest : List ℕ) (x : Record) (t : State) → l ≡ bytes ++ rest → Encodes bytes x → Step s x t → ⊥
+
+-- the first record that has no step, and the first reason that holds
+pub record FirstRefusal (p : List ℕ) (a : Answer) : Type 0 where
+  -- there is something at the place
+  pub within : a .place < length p
+  -- the records before it have their steps, and the state is the one they end in
+  pub before : Steps emptyState (take (a .place) p) (a .state)
+  pub no-step : NoStep (a .state) (drop (a .place) p)
+  -- the number's reason holds there, and no reason of a smaller number does
+  pub reason : Reason (a .number) (a .state) (drop (a .place) p)
+  pub least : (m : ℕ) → m < a .number → Reason m (a .state) (drop (a .place) p) → ⊥
+
+-- 'whether that state is the empty one (complete)'
+abbrev pub Complete : Bool → State → Type 0
+Complete c t = (c ≡ true) ↔ (t ≡ emptyState)
+
+-- what is an answer to a program, by the ways in which a run ends: 1 (too long); 0 (done), with the relation's final state; 3 to 11
+pub data Answers (p : List ℕ) : Answer → Type 0 where
+  too-long : 32768 < length p → Answers p (record { number = 1; place = 0; complete = true; state = emptyState })
+  done : {t : State} {c : Bool} → Valid p t → Complete c t → Answers p (record { number = 0; place = 0; complete = c; state = t })
+  refused : {a : Answer} → length p ≤ 32768 → FirstRefusal p a → Complete (a .complete) (a .state) → Answers p a
+
+-- the run gives such an answer, and no other one is
+abbrev pub RunExactly : Type 0
+RunExactly = (p : List ℕ) (a : Answer) → (runOf p ≡ a) ↔ Answers p a
+
+-- ---- rows 3 to 5 of the table, which go by lengths and ranges, held against the format
+-- a kind is known exactly if some record begins with it
+abbrev pub KnownExactly : Type 0
+KnownExactly = (k : ℕ) → (sizeOf k ≡ 0 → ⊥) ↔ ((body : List ℕ) × (x : Record) × Encodes (k ∷ body) x)
+
+-- 'a body whose length the kind fixes': the length of a record is its kind's
+abbrev pub SizeExactly : Type 0
+SizeExactly = (bytes : List ℕ) (x : Record) → Encodes bytes x → length bytes ≡ sizeOf (byte bytes 0)
+
+-- of bytes with a known kind and a whole body, a field is outside its range exactly if no record stands at the front
+abbrev pub FieldExactly : Type 0
+FieldExactly = (l : List ℕ) → Whole l → (fieldsOk l ≡ false) ↔ ((bytes rest : List ℕ) (x : Record) → l ≡ bytes ++ rest → Encodes bytes x → ⊥)
+
+-- ---- what follows of the run, sentence by sentence
 -- the run accepts a program exactly if it is valid
 abbrev pub AcceptsExactlyValid : Type 0
 AcceptsExactlyValid = (p : List ℕ) → (runOf p .number ≡ 0) ↔ ((t : State) × Valid p t)
@@ -38,25 +82,7 @@ TooLongExactly = (p : List ℕ) → (runOf p .number ≡ 1) ↔ (32768 < length 
 abbrev pub TooLongAnswer : Type 0
 TooLongAnswer = (p : List ℕ) → 32768 < length p → runOf p ≡ record { number = 1; place = 0; complete = true; state = emptyState }
 
--- no record that the bytes begin with has a step
-abbrev pub NoStep : State → List ℕ → Type 0
-NoStep s l = (bytes rest : List ℕ) (x : Record) (t : State) → l ≡ bytes ++ rest → Encodes bytes x → Step s x t → ⊥
-
--- the bytes begin with a record that has a step
-abbrev pub HasStep : State → List ℕ → Type 0
-HasStep s l = (bytes : List ℕ) × (rest : List ℕ) × (x : Record) × (t : State) × (l ≡ bytes ++ rest) × Encodes bytes x × Step s x t
-
--- the first record that has no step, and the first reason that holds
-pub record FirstRefusal (p : List ℕ) (a : Answer) : Type 0 where
-  -- there is something at the place
-  pub within : a .place < length p
-  -- the records before it have their steps, and the state is the one they end in
-  pub before : Steps emptyState (take (a .place) p) (a .state)
-  pub no-step : NoStep (a .state) (drop (a .place) p)
-  -- the number's reason holds there, and no reason of a smaller number does
-  pub reason : Reason (a .number) (a .state) (drop (a .place) p)
-  pub least : (m : ℕ) → m < a .number → Reason m (a .state) (drop (a .place) p) → ⊥
-
+-- otherwise it names the first record that has no step, and the first reason that holds
 abbrev pub RefusesFirst : Type 0
 RefusesFirst = (p : List ℕ) → length p ≤ 32768 → (runOf p .number ≡ 0 → ⊥) → FirstRefusal p (runOf p)
 
@@ -73,11 +99,16 @@ ReasonExactlyNoStep = (s : State) (l : List ℕ) → ((n : ℕ) × Reason n s l)
 abbrev pub PlaceIsSmall : Type 0
 PlaceIsSmall = (p : List ℕ) → runOf p .place < 32768
 
--- complete says whether the state is the empty one, whatever the number
+-- complete, whatever the number
 abbrev pub CompleteIsEmpty : Type 0
-CompleteIsEmpty = (p : List ℕ) → (runOf p .complete ≡ true) ↔ (runOf p .state ≡ emptyState)
+CompleteIsEmpty = (p : List ℕ) → Complete (runOf p .complete) (runOf p .state)
 
--- the step accepts a slice exactly if it begins with a record that has a step
+-- ---- the step of one record
+-- the bytes begin with a record that has a step
+abbrev pub HasStep : State → List ℕ → Type 0
+HasStep s l = (bytes : List ℕ) × (rest : List ℕ) × (x : Record) × (t : State) × (l ≡ bytes ++ rest) × Encodes bytes x × Step s x t
+
+-- the step accepts a slice exactly if it begins with such a record
 abbrev pub StepAcceptsExactly : Type 0
 StepAcceptsExactly = (s : State) (l : List ℕ) → (stepOf s l .number ≡ 0) ↔ HasStep s l
 

@@ -1,0 +1,127 @@
+-- The rewriter in one statement, in the words of document 01 ('Extents and ties', 'Calls', the table): each way in which a call ends, with number,
+-- place, state, complete, every byte of output and every entry of work.
+use Prim.Native.Nat.{ℕ, _+_, _*_, _/_, _≤_, _<_}
+use mathlib.Core.Path.{_≡_}
+use mathlib.Core.Bool.{Bool, true}
+use mathlib.Core.List.{List, [], _∷_, _++_}
+use mathlib.Core.Logic.{_↔_}
+use lib.ListN.{length, drop}
+use Rattle.machine.specs.declared.Racking.{Racking}
+use Rattle.machine.specs.declared.State.{State}
+use Rattle.machine.specs.Machine.{emptyState, Each}
+use Rattle.record.specs.declared.Record.{Record}
+use Rattle.record.specs.Format.{Encodes}
+use Rattle.run.specs.declared.Answer.{Answer}
+use Rattle.run.specs.Relation.{Valid}
+use Rattle.run.specs.Claims.{FirstRefusal, Complete}
+use Rattle.trace.specs.Order.{inForce}
+use Rattle.rewrite.specs.Extents.{extentOf, Share}
+use Rattle.rewrite.specs.Programs.{flat, startsOf, what, knitting, carrier, names}
+use Rattle.rewrite.specs.Rewrite.{rackingZero, Rewritten, refused, rewriteOf}
+
+-- ---- what is lent, by the lengths of program, log, output and work area
+module _ (program log output work : ℕ) where
+  -- 1, 'program or log over its limit'
+  pub data TooLong : Type 0 where
+    long-program : 32768 < program → TooLong
+    long-log : 32768 < log → TooLong
+
+  -- 2, 'output shorter than the program, work entries fewer than half its bytes rounded down'
+  pub data NoBench : Type 0 where
+    short-output : output < program → NoBench
+    few-entries : work < program / 2 → NoBench
+
+  -- neither
+  pub record Enough : Type 0 where
+    pub short : program ≤ 32768
+    pub log-short : log ≤ 32768
+    pub room : program ≤ output
+    pub entries : program / 2 ≤ work
+
+-- ---- records and ties
+-- 'A program is records end to end', each whole, of a known kind and with its fields in range
+pub record RecordsAre (program : List ℕ) (l : List (List ℕ)) : Type 0 where
+  pub end-to-end : flat l ≡ program
+  pub each : Each (λ (x : List ℕ). (r : Record) × Encodes x r) l
+
+-- 'Two records are tied if either is a rack, if they name one carrier, or if their extents meet': 'if they share a half column and a layer'
+pub data Tied (r : Racking) (x y : List ℕ) : Type 0 where
+  first-rack : what x .kind ≡ 1 → Tied r x y
+  second-rack : what y .kind ≡ 1 → Tied r x y
+  one-carrier : (k : ℕ) → names (carrier k) x ≡ true → names (carrier k) y ≡ true → Tied r x y
+  extents-meet : Share (extentOf r (what x)) (extentOf r (what y)) → Tied r x y
+
+-- tied where they stand, behind the records u: at the racking in force there
+abbrev pub TiedBehind : List (List ℕ) → List ℕ → List ℕ → Type 0
+TiedBehind u x y = Tied (inForce knitting rackingZero u) x y
+
+-- ---- a log
+-- records i and i + 1 of a list are x and y
+pub record Neighbours (l : List (List ℕ)) (i : ℕ) (u : List (List ℕ)) (x y : List ℕ) (v : List (List ℕ)) : Type 0 where
+  pub list : l ≡ u ++ x ∷ y ∷ v
+  pub before : length u ≡ i
+
+-- a log that makes all its swaps, in order: 40, 'then a position in two bytes, high first. Position i swaps records i and i + 1', which are not tied
+pub data Swapped : List ℕ → List (List ℕ) → List (List ℕ) → Type 0 where
+  none : {l : List (List ℕ)} → Swapped [] l l
+  swap : {high low : ℕ} {log : List ℕ} {l m u v : List (List ℕ)} {x y : List ℕ} → Neighbours l (high * 256 + low) u x y v → (TiedBehind u x y → ⊥) → Swapped log (u ++ y ∷ x ∷ v) m
+      → Swapped (64 ∷ high ∷ low ∷ log) l m
+
+-- 14, 'log kind not 40, or fewer than three bytes'
+pub data Torn (rest : List ℕ) : Type 0 where
+  other-kind : {k : ℕ} {more : List ℕ} → rest ≡ k ∷ more → (k ≡ 64 → ⊥) → Torn rest
+  few-bytes : 0 < length rest → length rest < 3 → Torn rest
+
+module _ (program log output work : List ℕ) where
+  -- what is lent is too long, is too short, or will do
+  abbrev pub Long : Type 0
+  Long = TooLong (length program) (length log) (length output) (length work)
+
+  abbrev pub Short : Type 0
+  Short = NoBench (length program) (length log) (length output) (length work)
+
+  abbrev pub Lent : Type 0
+  Lent = Enough (length program) (length log) (length output) (length work)
+
+  -- what 1 and 2 answer: place 0, the empty state; nothing is written
+  abbrev pub unlooked : ℕ → Rewritten
+  unlooked n = refused (record { number = n; place = 0; complete = true; state = emptyState }) output work
+
+  -- what 0 and 12 to 14 answer and leave: the program's final state, the records m at the front of the output, each one's start at the front of work;
+  -- 'Output past the program's length and work past the last record's start keep their contents'
+  abbrev pub leaving : ℕ → ℕ → State → Bool → List (List ℕ) → Rewritten
+  leaving n at t c m =
+      record {
+        answer = record { number = n; place = at; complete = c; state = t };
+        output = flat m ++ drop (length program) output;
+        work = startsOf 0 m ++ drop (length m) work;
+      }
+
+  -- the program is valid and the log's front makes its swaps, which leave the records m; the rest of the log follows
+  pub record Followed (t : State) (c : Bool) (front rest : List ℕ) (m : List (List ℕ)) : Type 0 where
+    pub lent : Lent
+    pub valid : Valid program t
+    pub complete : Complete c t
+    pub records : List (List ℕ)
+    pub are : RecordsAre program records
+    pub log-is : log ≡ front ++ rest
+    pub swaps : Swapped front records m
+
+  -- a call, by the ways in which it ends; 'Order: 15, 1, 2; then each record 3 to 11 by number; then each log record 14, 12, 13'
+  pub data Rewrites : Rewritten → Type 0 where
+    too-long : Long → Rewrites (unlooked 1)
+    no-bench : (Long → ⊥) → Short → Rewrites (unlooked 2)
+    -- 3 to 11, as the run answers; nothing is written
+    not-valid : {a : Answer} → Lent → FirstRefusal program a → Complete (a .complete) (a .state) → Rewrites (refused a output work)
+    gone-through : {t : State} {c : Bool} {front : List ℕ} {m : List (List ℕ)} → Followed t c front [] m → Rewrites (leaving 0 0 t c m)
+    torn : {t : State} {c : Bool} {front rest : List ℕ} {m : List (List ℕ)} → Followed t c front rest m → Torn rest → Rewrites (leaving 14 (length front) t c m)
+    -- 12, 'position + 1 is not a record'
+    no-pair : {t : State} {c : Bool} {front rest : List ℕ} {high low : ℕ} {m : List (List ℕ)} → Followed t c front (64 ∷ high ∷ low ∷ rest) m
+        → length m ≤ high * 256 + low + 1 → Rewrites (leaving 12 (length front) t c m)
+    -- 13, 'the pair is tied'
+    pair-tied : {t : State} {c : Bool} {front rest : List ℕ} {high low : ℕ} {m u v : List (List ℕ)} {x y : List ℕ} → Followed t c front (64 ∷ high ∷ low ∷ rest) m
+        → Neighbours m (high * 256 + low) u x y v → TiedBehind u x y → Rewrites (leaving 13 (length front) t c m)
+
+-- a call gives and leaves this, and nothing else
+abbrev pub RewriteExactly : Type 0
+RewriteExactly = (program log output work : List ℕ) (w : Rewritten) → (rewriteOf program log output work ≡ w) ↔ Rewrites program log output work w

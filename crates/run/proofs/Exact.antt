@@ -1,0 +1,109 @@
+-- The run gives an answer in 01's words and no other one is; rows 3 to 5 against the format. Assumes nothing.
+use borrow.Table.Steps.{cases}
+use Prim.Native.Nat.{ℕ, _≤_, _<_}
+use mathlib.Core.Path.{_≡_, refl, sym, ap, subst, _∙_}
+use mathlib.Core.Bool.{Bool, true, false, true≢false, _&&_}
+use mathlib.Core.List.{List, [], _∷_, _++_, append-nil}
+use mathlib.Core.Logic.{_↔_}
+use native.Mathlib.Omega.{arith}
+use lib.Dec.{eqb, leb}
+use lib.ListN.{length, take, drop, take-append-drop}
+use borrow.Author.Tests.{eqb-true, leb-true}
+use Rattle.machine.specs.declared.State.{State}
+use Rattle.machine.specs.Machine.{emptyState}
+use Rattle.machine.proofs.Laws.{and-two}
+use Rattle.record.specs.declared.Record.{Record}
+use Rattle.record.specs.declared.Decoded.{Decoded}
+use Rattle.record.specs.Format.{Encodes, sizeOf, signedOf, byte, refusedAs, decodeOf}
+use Rattle.record.proofs.Forms.{Fields, Reads, reads, fields-size, form-decode, decode-form, decode-kind}
+use Rattle.run.specs.declared.Answer.{Answer}
+use Rattle.run.specs.Relation.{Steps, Valid}
+use Rattle.run.specs.Reason.{Whole, fieldsOk}
+use Rattle.run.specs.Run.{reached, answerOf, runOf}
+use Rattle.run.specs.Claims.{Complete, Answers, RunExactly, KnownExactly, SizeExactly, FieldExactly}
+use Rattle.run.proofs.Bytes.{fields-ok}
+use Rattle.run.proofs.Answers.{Answered, answered, long-run, valid-run, complete-empty}
+use Rattle.run.proofs.Unique.{one-refusal}
+
+-- ---- an answer by its parts
+-- two flags that say the same of a state are one
+pub same-flag : (b c : Bool) {P : Type 0} → (b ≡ true) ↔ P → (c ≡ true) ↔ P → b ≡ c
+same-flag true true f g = refl
+same-flag true false f g = absurd (true≢false (sym (g .1 (f .0 refl))))
+same-flag false true f g = absurd (true≢false (sym (f .1 (g .0 refl))))
+same-flag false false f g = refl
+
+-- the run's flag, where its state is t
+pub run-flag : (p : List ℕ) {t : State} (c : Bool) → runOf p .state ≡ t → Complete c t → runOf p .complete ≡ c
+run-flag p c e h = same-flag (runOf p .complete) c (subst (Complete (runOf p .complete)) e (complete-empty (answered p))) h
+
+-- number, place and state are the run's: then the answer is
+same-answer : (p : List ℕ) (a : Answer) → runOf p ≡ answerOf (reached (a .number) (a .place) (a .state)) → Complete (a .complete) (a .state) → runOf p ≡ a
+unfolding answerOf
+same-answer p a e h =
+    let c = run-flag p (a .complete) (ap (λ (b : Answer). b .state) e) h in
+    λ i. record { number = e i .number; place = e i .place; complete = c i; state = e i .state }
+
+-- ---- every run ends in one of these ways, and whatever ends so is the run's answer
+own : {p : List ℕ} {a : Answer} → Answered p a → Answers p a
+unfolding answerOf
+own (Answered.through h steps) = Answers.done (record { short = h; steps = steps }) (complete-empty (Answered.through h steps))
+own (Answered.refused h k before r) =
+    Answers.refused h (record { within = k; before = before; no-step = r .no-step; reason = r .reason; least = r .least }) (complete-empty (Answered.refused h k before r))
+own (Answered.too-long h) = Answers.too-long h
+
+one : {p : List ℕ} {a : Answer} → Answers p a → runOf p ≡ a
+one {p} (Answers.too-long h) = long-run p h
+one {p} {a} (Answers.done {t = t} v c) = same-answer p a (valid-run p t v) c
+one {p} {a} (Answers.refused h f c) = same-answer p a (one-refusal p a h f) c
+
+pub run-exactly : RunExactly
+run-exactly p a = ((λ e. subst (Answers p) e (own (answered p))), one)
+
+-- ---- 3 to 5
+pub size-exactly : SizeExactly
+size-exactly bytes x form = go (form-decode form []) (decode-kind (bytes ++ []))
+  where
+    go : decodeOf (bytes ++ []) ≡ record { number = 0; size = length bytes; what = x } → (decodeOf (bytes ++ []) .number ≡ 0 → decodeOf (bytes ++ []) .size ≡ sizeOf (byte (bytes ++ []) 0))
+        → length bytes ≡ sizeOf (byte bytes 0)
+    go d k = sym (ap (λ (e : Decoded). e .size) d) ∙ k (ap (λ (e : Decoded). e .number) d) ∙ ap (λ (l : List ℕ). sizeOf (byte l 0)) (append-nil bytes)
+
+-- a record of each known kind, its fields the least in range
+known : (k : ℕ) → (sizeOf k ≡ 0 → ⊥) → (body : List ℕ) × (x : Record) × Encodes (k ∷ body) x
+unfolding sizeOf signedOf
+known k h =
+    cases (eqb k 1) (λ e. rw (eqb-true k 1 e) (0 ∷ [], _, Encodes.rack {b = 0} (omega arith))) λ a.
+    cases (eqb k 2) (λ e. rw (eqb-true k 2 e) (0 ∷ 0 ∷ [], _, Encodes.drop {bed = 0} {n = 0} (omega arith) (omega arith))) λ b.
+    cases (eqb k 3) (λ e. rw (eqb-true k 3 e) (0 ∷ 0 ∷ 0 ∷ [], _, Encodes.xfer {bed = 0} {n = 0} {m = 0} (omega arith) (omega arith) (omega arith))) λ c.
+    cases (leb 4 k && leb k 8)
+    (λ e. let (low, high) = and-two (leb 4 k) (leb k 8) e in
+    (0 ∷ 0 ∷ 0 ∷ 1 ∷ [], _, Encodes.work {kind = k} {right = 0} {bed = 0} {n = 0} {k = 1} (leb-true 4 k low) (leb-true k 8 high) (omega arith) (omega arith) (omega arith) (omega arith) (omega arith))) λ d.
+    cases (eqb k 9)
+    (λ e. rw (eqb-true k 9 e) (0 ∷ 0 ∷ 0 ∷ 1 ∷ 0 ∷ [], _, Encodes.split {right = 0} {bed = 0} {n = 0} {k = 1} {m = 0} (omega arith) (omega arith) (omega arith) (omega arith) (omega arith) (omega arith)))
+    (λ e. absurd (h (simp (a, b, c, d, e))))
+
+pub known-exactly : KnownExactly
+known-exactly k = (known k, λ (body, x, form). λ z. omega (arith, size-exactly (k ∷ body) x form, z))
+
+-- fields of bytes that are read, and of whole bytes that are not
+module _ {l : List ℕ} where
+  in-range : {d : Decoded} → Reads l d → d .number ≡ 0 → fieldsOk l ≡ true
+  unfolding refusedAs
+  in-range (Reads.none a) e = absurd (omega arith)
+  in-range (Reads.strange a b) e = absurd (omega arith)
+  in-range (Reads.short f a b) e = absurd (omega arith)
+  in-range (Reads.outside f a b) e = absurd (omega arith)
+  in-range (Reads.done f a b) e = fields-ok f ∙ b
+
+  out-of-range : {d : Decoded} → Reads l d → Whole l → (d .number ≡ 0 → ⊥) → fieldsOk l ≡ false
+  out-of-range (Reads.none a) w h = absurd (omega (arith, w .some))
+  out-of-range (Reads.strange a b) w h = absurd (w .known b)
+  out-of-range (Reads.short f a b) w h = absurd (omega (arith, fields-size f, w .long))
+  out-of-range (Reads.outside f a b) w h = fields-ok f ∙ b
+  out-of-range (Reads.done f a b) w h = absurd (h refl)
+
+pub field-exactly : FieldExactly
+field-exactly l w = (
+  (λ e bytes rest x q form. true≢false (sym (in-range (reads l) (ap (λ (d : Decoded). d .number) (ap decodeOf q ∙ form-decode form rest))) ∙ e)),
+  (λ h. out-of-range (reads l) w (λ e. h (take (decodeOf l .size) l) (drop (decodeOf l .size) l) (decodeOf l .what) (sym (take-append-drop (decodeOf l .size) l)) (decode-form l e))),
+)
