@@ -1,11 +1,11 @@
 -- The listings are printed so: one test over all of them, computed, and that the test says so. Assumes nothing.
-use Prim.Native.Nat.{ℕ, _/_, _≤_}
+use Prim.Native.Nat.{ℕ}
 use mathlib.Core.Path.{_≡_, refl, _∙_}
-use mathlib.Core.Bool.{Bool, true, cond, _&&_}
+use mathlib.Core.Bool.{Bool, true, _&&_, cond}
 use mathlib.Core.List.{List, [], _∷_}
-use lib.Dec.{eqb, leb}
+use lib.Dec.{eqb}
 use lib.ListN.{length}
-use borrow.Author.Tests.{eq-eqb, leb-true}
+use borrow.Author.Tests.{eq-eqb}
 use Rattle.machine.specs.Machine.{emptyState, completeOf, all, inactiveCarrier, movedTo, attachedAt, sameNeedle, Each}
 use Rattle.machine.proofs.Laws.{and-two}
 use Rattle.machine.specs.Geometry.{eqZ, columnOf, entryOf, exitOf, sameColumn, withinFloat}
@@ -15,14 +15,14 @@ use Rattle.run.specs.Step.{lookOf, seeOf, parkedNo, floatNo, carrierNo, opposit
 use Rattle.run.specs.Run.{stepOf, turn, runFrom, answerOf, runOf}
 use Rattle.rewrite.specs.Extents.{halfColumn, layerOf, extentOf, meets, member, common}
 use Rattle.rewrite.specs.Programs.{cut, startsOf, sameBytes, recordsOf}
-use Rattle.rewrite.specs.Rewrite.{replay, lentNo, Rewritten, refused, written, rewriteOf}
+use Rattle.rewrite.specs.Rewrite.{replay, lentNo, writes, Rewritten, refused, written, rewriteOf}
 use Rattle.rewrite.proofs.Lawful.{lawful}
-use Rattle.rewrite.proofs.Rewriting.{all-enough}
+use Rattle.rewrite.proofs.Rewriting.{all-lent}
 use Rattle.list.specs.Text.{digitsOf, letterOf, signOf, flagOf, lines, hookLine, attachmentOf, carrierLine, programLine, bedsOf, stateOf, shownOf, listingOf}
 use Rattle.list.specs.Listed.{callListed, listedOf}
 use Rattle.list.specs.Printed.{bytesIn, text, Listing, listings, Printed, ListsP, ListingsPrinted}
 
--- the call where what is lent is enough
+-- the listing where what is lent is enough, with no more of what is lent in it than the call leaves there
 abbrev lentCall : List ℕ → List ℕ → List ℕ → List ℕ → Rewritten
 lentCall p log output work = cond (eqb (runOf p .number) 0) (written p (replay log 0 (recordsOf p)) output work) (refused (runOf p) output work)
 
@@ -32,17 +32,11 @@ lent-listed p log output work e = simp (eq-eqb (lentNo (length p) (length log) (
 
 -- the test that is computed, and that it says so
 test : List ℕ → List ℕ → Listing → Bool
-test output work r =
-    (leb (length (r .program)) 32768 && leb (length (r .log)) 32768)
-    && sameBytes (callListed (length (r .program)) (lentCall (r .program) (r .log) output work)) (text (r .lines))
+test output work r = sameBytes (callListed (length (r .program)) (lentCall (r .program) (r .log) output work)) (text (r .lines))
 
 test-says : (r : Listing) → ((output work : List ℕ) → test output work r ≡ true) → Printed r
 unfolding test
-test-says r e output work h k =
-    let (a, s) = and-two (leb (length (r .program)) 32768 && leb (length (r .log)) 32768) _ (e output work) in
-    let (p, l) = and-two (leb (length (r .program)) 32768) (leb (length (r .log)) 32768) a in
-    lent-listed (r .program) (r .log) output work (all-enough (length (r .program)) (length (r .log)) (length output) (length work) (leb-true _ _ p) (leb-true _ _ l) h k)
-    ∙ lawful .same-eq _ _ s
+test-says r e output work h = lent-listed (r .program) (r .log) output work (all-lent _ _ _ _ h) ∙ lawful .same-eq _ _ (e output work)
 
 abbrev every : List ℕ → List ℕ → List Listing → Bool
 every output work [] = true
@@ -56,7 +50,7 @@ each (r ∷ l) e = (
 )
 
 computed : (output work : List ℕ) → every output work listings ≡ true
-unfolding test bytesIn text digitsOf letterOf signOf flagOf lines hookLine attachmentOf carrierLine programLine bedsOf stateOf shownOf listingOf replay cut startsOf sameBytes halfColumn layerOf extentOf meets member common sizeOf runOf runFrom turn stepOf answerOf emptyState completeOf all inactiveCarrier movedTo attachedAt sameNeedle eqZ columnOf entryOf exitOf sameColumn withinFloat decodeOf whole ranged refusedAs rackOk needleOk workOk signedOf needleCount carrierCount needlesOf carriersOf lookOf seeOf parkedNo floatNo carrierNo oppositeNo firstAfter secondAfter roomNo numberOf edit actOf acted moveAttachments rackingAfter numberAt applyOf
+unfolding test bytesIn text digitsOf letterOf signOf flagOf lines hookLine attachmentOf carrierLine programLine bedsOf stateOf shownOf listingOf writes replay cut startsOf sameBytes halfColumn layerOf extentOf meets member common sizeOf runOf runFrom turn stepOf answerOf emptyState completeOf all inactiveCarrier movedTo attachedAt sameNeedle eqZ columnOf entryOf exitOf sameColumn withinFloat decodeOf whole ranged refusedAs rackOk needleOk workOk signedOf needleCount carrierCount needlesOf carriersOf lookOf seeOf parkedNo floatNo carrierNo oppositeNo firstAfter secondAfter roomNo numberOf edit actOf acted moveAttachments rackingAfter numberAt applyOf
 computed output work = refl
 
 pub listings-printed : ListingsPrinted

@@ -1,11 +1,12 @@
 -- Listings of document 01 as they are printed: a program, a log and the text, worked out by hand from 01.
-use Prim.Native.Nat.{ℕ, _/_, _≤_}
+use Prim.Native.Nat.{ℕ}
 use Prim.Native.Char.{code}
 use Prim.Native.String.{String, [] as nil, _∷_ as _then_}
 use mathlib.Core.Path.{_≡_}
 use mathlib.Core.List.{List, [], _∷_, _++_}
 use lib.ListN.{length}
 use Rattle.machine.specs.Machine.{Each}
+use Rattle.rewrite.specs.Exact.{Enough}
 use Rattle.list.specs.Listed.{listedOf}
 
 -- a line's bytes, and those of lines, each with its end
@@ -61,7 +62,7 @@ listings =
 -- the listing is this text, whatever the output and the work area held, if they are long enough
 abbrev pub Printed : Listing → Type 0
 Printed r =
-    (output work : List ℕ) → length (r .program) ≤ length output → length (r .program) / 2 ≤ length work → listedOf (r .program) (r .log) output work ≡ text (r .lines)
+    (output work : List ℕ) → Enough (length (r .program)) (length (r .log)) (length output) (length work) → listedOf (r .program) (r .log) output work ≡ text (r .lines)
 
 abbrev pub ListsP : Type 0
 ListsP = Printed swapped

@@ -12,6 +12,7 @@ use machine::Carrier;
 use machine::Racking;
 use machine::State;
 use rewrite::rewrite;
+use rewrite::writes;
 use run::Answer;
 
 // Puts a byte behind a text of length at; like all that follow, it answers the text's length then.
@@ -260,14 +261,14 @@ pub fn listing(a: Answer, bytes: &[u8], text: &mut [u8]) -> usize
     put_program(text, end, bytes)
 }
 
-// How many of the output's bytes are listed: the program's after 0 and 12 to 14, none after 1 to 11.
+// How many of the output's bytes are listed: the program's after a number that writes, else none.
 fn shown(number: u8, length: usize, room: usize) -> usize
     ensures { λ r. ⌜ r ≡ min (shownOf number length) room ⌝ }
 {
-    match number {
-        1..=11 => 0,
-        _ => least(length, room),
+    if writes(number) {
+        return least(length, room);
     }
+    0
 }
 
 fn least(a: usize, b: usize) -> usize
