@@ -5,6 +5,7 @@ use mathlib.Core.List.{List}
 use lib.ListN.{length, take, replicate}
 use Rattle.rewrite.specs.Rewrite.{Rewritten, rewriteOf}
 use Rattle.rewrite.specs.Calls.{Below}
+use Rattle.rewrite.specs.Exact.{Enough}
 use Rattle.list.specs.Grown.{Grown}
 use Rattle.list.specs.Text.{shownOf, listingOf}
 
@@ -22,9 +23,13 @@ lentOutput = replicate 32768 0
 unfoldable pub lentWork : List ℕ
 lentWork = replicate 16384 0
 
--- a lent text afterwards (n bytes of it written): the listing of some program and log, those read from two files, stands at its front, cut off only
--- where the text ends, and a text of 88,307 bytes holds it whole; what lies behind is kept. What a file holds no contract can say; what is read of
--- it are bytes, at most one more than a program or a log may have.
+-- it is enough for every program and log within their limits, so that 2 is never listed
+abbrev pub LentIsEnough : Type 0
+LentIsEnough = (program log : List ℕ) → length program ≤ 32768 → length log ≤ 32768 → Enough (length program) (length log) (length lentOutput) (length lentWork)
+
+-- a lent text after a listing of two files, n bytes of it written: the listing of some program and log, those read, stands at its front, cut off
+-- only where the text ends, so that 88,307 bytes hold it whole; what lies behind is kept. No contract can say what a file holds; what is read of one
+-- are bytes, at most one more than a program or a log may have.
 pub record ListsRead (old new : List ℕ) (n : ℕ) : Type 0 where
   pub program : List ℕ
   pub log : List ℕ

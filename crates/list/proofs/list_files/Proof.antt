@@ -1,20 +1,16 @@
 -- The listing is that of what was read, and whole where the text has room. Assumes nothing.
 use Prim.Native.Nat.{ℕ, _≤_}
-use mathlib.Core.Path.{_≡_}
 use mathlib.Core.List.{List}
 use native.Mathlib.Omega.{arith}
-use lib.ListN.{length, take, length-take, length-replicate}
+use lib.ListN.{take, length-take}
 use Rattle.rewrite.specs.Calls.{Below}
 use Rattle.list.specs.Grown.{Grown}
 use Rattle.list.specs.Listed.{listedOf, lentOutput, lentWork, ListsRead}
 use Rattle.list.proofs.Longest.{uncut}
+use Rattle.list.proofs.Lent.{output-lent}
 use borrow.Author.Needs.{needs}
 use Rattle.list.proofs.list_files.Statement.{statement}
 use Rattle.list.proofs.list_files.Tie as tie
-
-output-room : length lentOutput ≤ 32768
-unfolding lentOutput
-output-room = omega (arith, length-replicate {A = ℕ} 32768 0)
 
 -- the fronts of two files, and the listing of them
 lists-read : (a b : ℕ) (program log old new : List ℕ) (n : ℕ) → Below 256 (take a program) → Below 256 (take b log) → a ≤ 32769 → b ≤ 32769
@@ -28,7 +24,7 @@ lists-read a b program log old new n p q h k g =
       program-front = omega (arith, length-take a program);
       log-front = omega (arith, length-take b log);
       text = g;
-      whole = uncut (take a program) (take b log) lentOutput lentWork old new n g output-room;
+      whole = uncut (take a program) (take b log) lentOutput lentWork old new n g (omega (arith, output-lent));
     }
 
 room-requires : tie.Need-room-requires
