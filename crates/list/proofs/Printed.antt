@@ -1,11 +1,13 @@
 -- The listings are printed so: one test over all of them, computed, and that the test says so. Assumes nothing.
-use Prim.Native.Nat.{ℕ}
+use Prim.Native.Nat.{ℕ, _≤_}
 use mathlib.Core.Path.{_≡_, refl, _∙_}
 use mathlib.Core.Bool.{Bool, true, _&&_, cond}
 use mathlib.Core.List.{List, [], _∷_}
+use native.Mathlib.Omega.{arith}
 use lib.Dec.{eqb}
 use lib.ListN.{length}
-use borrow.Author.Tests.{eq-eqb}
+use borrow.Author.Tests.{eq-eqb, ne-eqb}
+use borrow.Table.Steps.{cases}
 use Rattle.machine.specs.Machine.{emptyState, completeOf, all, inactiveCarrier, movedTo, attachedAt, sameNeedle, Each}
 use Rattle.machine.proofs.Laws.{and-two}
 use Rattle.machine.specs.Geometry.{eqZ, columnOf, entryOf, exitOf, sameColumn, withinFloat}
@@ -20,7 +22,7 @@ use Rattle.rewrite.proofs.Lawful.{lawful}
 use Rattle.rewrite.proofs.Rewriting.{all-lent}
 use Rattle.list.specs.Text.{digitsOf, letterOf, signOf, flagOf, lines, hookLine, attachmentOf, carrierLine, programLine, bedsOf, stateOf, shownOf, listingOf}
 use Rattle.list.specs.Listed.{callListed, listedOf}
-use Rattle.list.specs.Printed.{bytesIn, text, Listing, listings, Printed, ListsP, ListingsPrinted}
+use Rattle.list.specs.Printed.{bytesIn, text, Listing, listings, Printed, ListsP, ListingsPrinted, PAloneRefused, PAloneEmpty}
 
 -- the listing where what is lent is enough, with no more of what is lent in it than the call leaves there
 abbrev lentCall : List ℕ → List ℕ → List ℕ → List ℕ → Rewritten
@@ -59,3 +61,21 @@ listings-printed = each listings computed
 -- the first of them is P's
 pub lists-P : ListsP
 lists-P = listings-printed .0
+
+-- p alone
+no-bytes : (n length : ℕ) → 1 ≤ n → n ≤ 11 → shownOf n length ≡ 0
+unfolding shownOf writes
+no-bytes n length h k =
+    simp (ne-eqb n 0 (λ e. omega arith), ne-eqb n 12 (λ e. omega arith), ne-eqb n 13 (λ e. omega arith), ne-eqb n 14 (λ e. omega arith))
+
+pub p-alone-refused : PAloneRefused
+unfolding listedOf
+p-alone-refused program log output work h k = simp (no-bytes _ (length program) h k)
+
+none-of-none : (n : ℕ) → shownOf n 0 ≡ 0
+unfolding shownOf
+none-of-none n = cases (writes n) (λ e. simp e) (λ e. simp e)
+
+pub p-alone-empty : PAloneEmpty
+unfolding listedOf
+p-alone-empty log output work = simp (none-of-none (rewriteOf [] log output work .answer .number))

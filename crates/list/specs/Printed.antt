@@ -1,5 +1,5 @@
 -- Listings as they are printed: P's, which document 01 gives, and others worked out by hand from its words.
-use Prim.Native.Nat.{ℕ}
+use Prim.Native.Nat.{ℕ, _≤_}
 use Prim.Native.Char.{code}
 use Prim.Native.String.{String, [] as nil, _∷_ as _then_}
 use mathlib.Core.Path.{_≡_}
@@ -7,7 +7,9 @@ use mathlib.Core.List.{List, [], _∷_, _++_}
 use lib.ListN.{length}
 use Rattle.machine.specs.Machine.{Each}
 use Rattle.rewrite.specs.Programs.{flat}
+use Rattle.rewrite.specs.Rewrite.{rewriteOf}
 use Rattle.rewrite.specs.Exact.{Enough}
+use Rattle.list.specs.Text.{listingOf}
 use Rattle.list.specs.Listed.{listedOf}
 
 -- a line's bytes, and those of lines, each with its end
@@ -74,8 +76,9 @@ listings =
     ∷ listing ((0x01 ∷ 0x09 ∷ []) ∷ []) [] ("5 0 1" ∷ "r 0" ∷ "p" ∷ [])
     ∷ listing (work 4 1 0 10 3 ∷ work 8 0 0 10 3 ∷ []) [] ("8 5 0" ∷ "r 0" ∷ "c 3 10 none" ∷ "p" ∷ [])
     ∷ listing (work 4 1 0 10 1 ∷ tucks (tucks (tucks (tucks (work 7 1 0 10 1 ∷ []))))) [] ("11 45 0" ∷ "r 0" ∷ "f 10 8" ∷ "c 1 10 f 10 -" ∷ "p" ∷ [])
-    -- a program that leaves the empty state: drop f.249
-    ∷ listing ((0x02 ∷ 0x00 ∷ 0xf9 ∷ []) ∷ []) [] ("0 0 1" ∷ "r 0" ∷ "p 0200f9" ∷ [])
+    -- a program that leaves the empty state, and the other hexadecimal digits: drop f.249, f.188, f.222, f.103
+    ∷ listing ((0x02 ∷ 0x00 ∷ 0xf9 ∷ []) ∷ (0x02 ∷ 0x00 ∷ 0xbc ∷ []) ∷ (0x02 ∷ 0x00 ∷ 0xde ∷ []) ∷ (0x02 ∷ 0x00 ∷ 0x67 ∷ []) ∷ []) []
+    ("0 0 1" ∷ "r 0" ∷ "p 0200f90200bc0200de020067" ∷ [])
     -- figures below 0: rack -8; in right b.0 (column -8); in left and knit left b.3 (column -5)
     ∷ listing ((0x01 ∷ 0xf8 ∷ []) ∷ work 4 1 1 0 10 ∷ work 4 0 1 3 1 ∷ work 8 0 1 3 1 ∷ []) []
     ("0 0 0" ∷ "r -8" ∷ "b 3 1" ∷ "c 1 -5 b 3 -" ∷ "c 10 -8 none" ∷ "p 01f8040101000a04000103010800010301" ∷ [])
@@ -95,3 +98,12 @@ ListsP = Printed P-swapped
 
 abbrev pub ListingsPrinted : Type 0
 ListingsPrinted = Each Printed listings
+
+-- '"p" alone after 1 to 11 and for an empty program': the listing of no bytes
+abbrev pub PAloneRefused : Type 0
+PAloneRefused =
+    (program log output work : List ℕ) → let w = rewriteOf program log output work in
+    1 ≤ w .answer .number → w .answer .number ≤ 11 → listedOf program log output work ≡ listingOf (w .answer) []
+
+abbrev pub PAloneEmpty : Type 0
+PAloneEmpty = (log output work : List ℕ) → listedOf [] log output work ≡ listingOf (rewriteOf [] log output work .answer) []
