@@ -41,7 +41,7 @@ fn case(name: &[u8]) {
     show(&program[..program_length], &log[..log_length]);
 }
 
-// Missing files, and files at and over their limits. (2, no bench, cannot happen: what the listing lends is long enough.)
+// Missing files, and files at and over their limits. (2, no bench, cannot happen: LentIsEnough of crate list.)
 fn files() {
     case(b"empty");
     case(b"missing");

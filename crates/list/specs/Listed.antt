@@ -38,4 +38,4 @@ pub record ListsRead (old new : List ℕ) (n : ℕ) : Type 0 where
   pub program-front : length program ≤ 32769
   pub log-front : length log ≤ 32769
   pub text : Grown old 0 (listedOf program log lentOutput lentWork) new n
-  pub whole : 88307 ≤ length old → n ≡ length (listedOf program log lentOutput lentWork)
+  pub whole : 88307 ≤ length old → take n new ≡ listedOf program log lentOutput lentWork

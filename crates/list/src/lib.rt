@@ -314,7 +314,7 @@ fn load(path: &[u8], buf: &mut [u8]) -> usize
     n
 }
 
-// The longest listing.
+// No listing has more bytes.
 pub const LONGEST: usize = 88307;
 
 // Puts the listing of the program and the log in two files at the front of the text and answers its length. A text of
