@@ -2,9 +2,12 @@
 use Prim.Native.Nat.{ℕ, _+_, _*_, _/_, _%_}
 use mathlib.Core.Path.{_≡_}
 use mathlib.Core.List.{List}
+use mathlib.Core.Logic.{_↔_}
 use Rattle.run.specs.declared.Answer.{Answer}
 use Rattle.run.specs.Run.{runOf}
-use Rattle.rewrite.specs.Rewrite.{rewriteOf}
+use Rattle.run.specs.Claims.{Answers}
+use Rattle.rewrite.specs.Rewrite.{Rewritten, rewriteOf}
+use Rattle.rewrite.specs.Exact.{Rewrites}
 
 -- number and place in one word (01: "the run's number times 65,536 plus its place")
 unfoldable pub packed : Answer → ℕ
@@ -19,3 +22,17 @@ ReadBack = (p : List ℕ) → Reads (runOf p)
 
 abbrev pub RewriteReadBack : Type 0
 RewriteReadBack = (p log output work : List ℕ) → Reads (rewriteOf p log output work .answer)
+
+-- each entry in one statement: the word, and what is lent for writing afterwards, are those of an answer in 01's words, and no others
+abbrev pub RunEntry : Type 0
+RunEntry = (p : List ℕ) (n : ℕ) → (packed (runOf p) ≡ n) ↔ ((a : Answer) × Answers p a × (a .number * 65536 + a .place ≡ n))
+
+pub record Leaves (p log output work : List ℕ) (n : ℕ) (bytes starts : List ℕ) : Type 0 where
+  pub word : packed (rewriteOf p log output work .answer) ≡ n
+  pub bytes-are : rewriteOf p log output work .output ≡ bytes
+  pub starts-are : rewriteOf p log output work .work ≡ starts
+
+abbrev pub RewriteEntry : Type 0
+RewriteEntry =
+    (p log output work : List ℕ) (n : ℕ) (bytes starts : List ℕ) → Leaves p log output work n bytes starts
+    ↔ ((a : Answer) × Rewrites p log output work (record { answer = a; output = bytes; work = starts }) × (a .number * 65536 + a .place ≡ n))

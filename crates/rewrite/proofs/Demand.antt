@@ -3,7 +3,8 @@ use borrow.Table.Steps.{cases}
 use Prim.Native.Nat.{ℕ, _+_, _*_, _≤_}
 use mathlib.Core.Path.{_≡_, refl, sym, ap, subst, _∙_}
 use mathlib.Core.Bool.{Bool, true, false}
-use mathlib.Core.List.{List, [], _∷_, _++_}
+use mathlib.Core.List.{List, [], _∷_, _++_, append-nil}
+use mathlib.Core.Logic.{_↔_}
 use native.Mathlib.Omega.{arith}
 use lib.ListN.{length}
 use Rattle.machine.specs.declared.State.{State}
@@ -14,26 +15,25 @@ use Rattle.trace.specs.Records.{tied}
 use Rattle.trace.specs.Swaps.{made, Swaps, no-swap, swap-first}
 use Rattle.trace.specs.Order.{inForce, SameOrder}
 use Rattle.trace.specs.Machine.{Kept}
-use Rattle.trace.proofs.Theorems.{made-iff-untied, refused-iff-tied, reaches-exactly, swaps-keep}
+use Rattle.trace.proofs.Theorems.{made-iff-untied, refused-iff-tied, order-of-positions, reaches-exactly, swaps-keep}
 use Rattle.trace.proofs.Swaps.{swaps-append, equals-are-tied}
 use Rattle.rewrite.specs.Programs.{flat, recordsOf, knitting, needle, carrier, names}
 use Rattle.rewrite.specs.Rewrite.{rackingZero, swapOf, Replay, ended, replay, Rewritten, written}
-use Rattle.rewrite.specs.Calls.{Call, callOf, numberOf, handedOn, after, logOf, AllAccepted}
-use Rattle.rewrite.specs.Claims.{RecordsEndToEnd, EachEncodes, RecordsEncode, TiedExactly, EqualRecordsTied, RewritePlaceIsSmall, SameProgram, Keeps, LentTo, ComesTo, SwapExactly, Demand3}
+use Rattle.rewrite.specs.Calls.{Call, callOf, numberOf, handedOn, after, AllAccepted}
+use Rattle.rewrite.specs.Claims.{RecordsEndToEnd, EachEncodes, RecordsEncode, TiedExactly, EqualRecordsTied, RewritePlaceIsSmall, SameProgram, Keeps, OrderByPositions, LentTo, ComesTo, SwapExactly, FrontHandedOn, Demand3}
+use Rattle.rewrite.specs.Exact.{TiedBehind, Swapped}
 use Rattle.rewrite.specs.Laid.{Whole}
 use Rattle.rewrite.proofs.Machine.{machine, Good}
 use Rattle.rewrite.proofs.Lawful.{lawful, orderly, tied-exactly}
 use Rattle.rewrite.proofs.Records.{records-flat, whole-form, steps-whole}
 use Rattle.rewrite.proofs.Joined.{valid-ends, ends-valid}
-use Rattle.rewrite.proofs.Replays.{swaps-moved, replay-made, replay-tied, replay-place, replay-front, replay-log}
-use Rattle.rewrite.proofs.Rewriting.{all-lent, place-small}
-use Rattle.rewrite.proofs.Handed.{call-written, moved-length, handed-on, call-of-swap}
+use Rattle.rewrite.proofs.Replays.{swaps-moved, replay-made, replay-tied, replay-place}
+use Rattle.rewrite.proofs.Rewriting.{all-lent, enough, place-small}
+use Rattle.rewrite.proofs.Exact.{swapped-replay}
+use Rattle.rewrite.proofs.Handed.{call-written, moved-length, kept-program, front-written, handed-on, call-of-swap}
 
 -- ---- a swap that a log comes to
-module _ {p : List ℕ} {t : State} (w : Valid p t) (c : Call) (is rest : List ℕ) (u v : List (List ℕ)) (x y : List ℕ) (h : ComesTo p c is u x y v rest) where
-  abbrev front : List ℕ
-  front = logOf is
-
+module _ {p : List ℕ} {t : State} (w : Valid p t) (c : Call) (front rest : List ℕ) (u v : List (List ℕ)) (x y : List ℕ) (h : ComesTo p c front u x y v rest) where
   -- the log is replayed up to it
   up-to : callOf p c ≡ written p (replay (64 ∷ h .high ∷ h .low ∷ rest) (length front) (u ++ x ∷ y ∷ v)) (c .output) (c .work)
   up-to =
@@ -42,7 +42,7 @@ module _ {p : List ℕ} {t : State} (w : Valid p t) (c : Call) (is rest : List �
       call-written w c (all-lent _ _ _ _ (h .lent))
       ∙ ap (λ (r : Replay). written p r (c .output) (c .work))
       (ap (λ (log : List ℕ). replay log 0 (recordsOf p)) (h .log)
-      ∙ replay-front front swap 0 0 (recordsOf p) (u ++ x ∷ y ∷ v) (replay-log (h .before) 0)
+      ∙ swapped-replay (h .before) swap 0
       ∙ ap (λ (n : ℕ). replay swap n (u ++ x ∷ y ∷ v)) e)
 
   at-pair : swapOf (h .high * 256 + h .low) (u ++ x ∷ y ∷ v) ≡ swapOf (length u) (u ++ x ∷ y ∷ v)
@@ -68,22 +68,27 @@ module _ {p : List ℕ} {t : State} (w : Valid p t) (c : Call) (is rest : List �
       let z = ap (λ (r : Rewritten). r .answer .number) f in
       omega (arith, ap (λ (r : Rewritten). r .answer .place) f, replay-place rest (length front + 3) (u ++ y ∷ x ∷ v) (λ k. omega (arith, z, k, n)))
 
+  abbrev words : (areTied ≡ true) ↔ TiedBehind u x y
+  words = tied-exactly (inForce knitting rackingZero u) x y
+
   made-exactly : SwapExactly p c (length front) u x y v rest
   made-exactly =
       record {
-        made = swap-made;
-        refused = swap-refused;
+        made = λ d. swap-made (cases areTied (λ e. absurd (d (words .0 e))) (λ e. e));
+        refused = λ t. swap-refused (words .1 t);
         thirteen = (
-          (λ (n, k). cases areTied (λ e. e) (λ e. absurd (omega (arith, later-place e n, k)))),
-          (λ e. (ap (λ (r : Rewritten). r .answer .number) (swap-refused e), ap (λ (r : Rewritten). r .answer .place) (swap-refused e))),
+          (λ (n, k). cases areTied (λ e. words .0 e) (λ e. absurd (omega (arith, later-place e n, k)))),
+          (λ t. let e = swap-refused (words .1 t) in (ap (λ (r : Rewritten). r .answer .number) e, ap (λ (r : Rewritten). r .answer .place) e)),
         );
       }
 
 -- a log of swaps that are made
-log-done : {p : List ℕ} {t : State} → Valid p t → (c : Call) (is : List ℕ) (m : List (List ℕ)) → LentTo p c → c .log ≡ logOf is → Swaps knitting rackingZero is (recordsOf p) m
+log-done : {p : List ℕ} {t : State} → Valid p t → (c : Call) (m : List (List ℕ)) → LentTo p c → Swapped (c .log) (recordsOf p) m
     → callOf p c ≡ written p (ended 0 0 m) (c .output) (c .work)
-log-done {p} w c is m lent e s =
-    call-written w c (all-lent _ _ _ _ lent) ∙ ap (λ (r : Replay). written p r (c .output) (c .work)) (ap (λ (log : List ℕ). replay log 0 (recordsOf p)) e ∙ replay-log s 0)
+unfolding replay
+log-done {p} w c m lent s =
+    call-written w c (all-lent _ _ _ _ lent)
+    ∙ ap (λ (r : Replay). written p r (c .output) (c .work)) (ap (λ (log : List ℕ). replay log 0 (recordsOf p)) (sym (append-nil (c .log))) ∙ swapped-replay s [] 0)
 
 -- ---- every list of calls
 -- every program starts at racking 0
@@ -123,10 +128,11 @@ after-keeps {p} v cs = keeps-all v (after-swaps cs p v .1)
 one-by-one : {is : List ℕ} {l m : List (List ℕ)} → Swaps knitting rackingZero is l m → (p : List ℕ) {t : State} → Valid p t → recordsOf p ≡ l
     → (cs : List Call) × (recordsOf (after p cs) ≡ m) × AllAccepted p cs
 one-by-one no-swap p v q = ([], q, tt)
-one-by-one (swap-first {i} {is} {l} {m} {n} e s) p v q =
+one-by-one (swap-first {i} {l = l} {m = m} {n = n} e s) p v q =
     let f : swapOf i (recordsOf p) ≡ made m = ap (swapOf i) q ∙ e in
     let (c, a, r) = call-of-swap v i f in
-    let (cs, k, b) = one-by-one s (handedOn p c) (keeps-all v (a .swaps) .valid) r in
+    let (is, w) = handed-on v c in
+    let (cs, k, b) = one-by-one s (handedOn p c) (keeps-all v w .valid) r in
     (c ∷ cs, k, (a, b))
 
 -- so that every program with the same records and the same order of tied ones is reached
@@ -156,12 +162,18 @@ equals-tied r x = equals-are-tied knitting lawful r x x (lawful .same-refl x)
 pub place-bound : RewritePlaceIsSmall
 place-bound = place-small
 
+pub order-by-positions : OrderByPositions
+order-by-positions p q s = order-of-positions knitting lawful rackingZero (recordsOf p) (recordsOf q) (s .order)
+
+pub front-handed-on : FrontHandedOn
+front-handed-on p t c v = ((λ l. front-written v c (all-lent _ _ _ _ l)), (λ d. kept-program p c (λ z. d (enough _ _ _ _ z))))
+
 pub demand-3 : Demand3
 demand-3 p t v =
     record {
       keeps = after-keeps v;
-      exactly = λ cs c is rest u w x y. made-exactly (after-keeps v cs .valid) c is rest u w x y;
-      done = λ cs c is m. log-done (after-keeps v cs .valid) c is m;
+      exactly = λ cs c front rest u w x y. made-exactly (after-keeps v cs .valid) c front rest u w x y;
+      done = λ cs c m. log-done (after-keeps v cs .valid) c m;
       reached = λ q. (
         (λ (cs, e). subst (SameProgram p) e (after-keeps v cs .same)),
         (λ s. let (cs, e, a) = by-calls v q s in (cs, e)),

@@ -1,9 +1,10 @@
 -- A call ends in one of the ways of specs/Exact, and in no other. Assumes nothing.
 use borrow.Table.Steps.{cases}
-use Prim.Native.Nat.{ℕ, zero, suc, _+_, _*_, _/_, _≤_, _<_}
+use Prim.Native.Nat.{ℕ, zero, suc, _+_, _*_, _/_, _%_, _≤_, _<_}
 use mathlib.Core.Path.{_≡_, refl, sym, ap, subst, _∙_}
 use mathlib.Core.Bool.{Bool, true, false, true≢false}
 use mathlib.Core.List.{List, [], _∷_, _++_, append-nil}
+use native.Mathlib.Nat.{div-add-mod'}
 use native.Mathlib.Omega.{arith}
 use lib.Dec.{eqb, leb, ltb}
 use lib.ListN.{length, drop, getD}
@@ -31,7 +32,7 @@ use Rattle.rewrite.specs.Exact.{TooLong, NoBench, Enough, RecordsAre, Ti
 use Rattle.rewrite.specs.Laid.{Whole}
 use Rattle.rewrite.proofs.Lawful.{tied-exactly}
 use Rattle.rewrite.proofs.Records.{records-flat, flat-records, whole-form, form-whole, steps-whole}
-use Rattle.rewrite.proofs.Replays.{replay-made, replay-tied}
+use Rattle.rewrite.proofs.Replays.{made-pair, replay-made, replay-tied}
 use Rattle.rewrite.proofs.Rewriting.{program-long, log-long, output-short, work-short, all-lent, lent-call, refused-call, written-call}
 
 -- ---- two neighbours at a position
@@ -126,11 +127,21 @@ stops (k ∷ high ∷ low ∷ log) at l =
     (λ e. rw e (placed at (Stops.is-torn [] (k ∷ high ∷ low ∷ log) refl Swapped.none (Torn.other-kind refl (eqb-false k 64 e)))))
 
 -- a front whose swaps are made is gone through, and the log goes on behind it
-swapped-replay : {front : List ℕ} {l m : List (List ℕ)} → Swapped front l m → (rest : List ℕ) (at : ℕ) → replay (front ++ rest) at l ≡ replay rest (at + length front) m
+pub swapped-replay : {front : List ℕ} {l m : List (List ℕ)} → Swapped front l m → (rest : List ℕ) (at : ℕ) → replay (front ++ rest) at l ≡ replay rest (at + length front) m
 swapped-replay (Swapped.none {l = l}) rest at = let e : at ≡ at + 0 = omega arith in ap (λ (n : ℕ). replay rest n l) e
 swapped-replay (Swapped.swap {high} {low} {log} {l} {m} {u} {v} {x} {y} s d w) rest at =
     let f : at + 3 + length log ≡ at + length (64 ∷ high ∷ low ∷ log) = omega arith in
     replay-made high low (log ++ rest) at l (u ++ y ∷ x ∷ v) (when-free s d) ∙ swapped-replay w rest (at + 3) ∙ ap (λ (n : ℕ). replay rest n m) f
+
+-- a log of one swap that is made
+pub swapped-one : (i : ℕ) (l m : List (List ℕ)) → swapOf i l ≡ made m → Swapped (64 ∷ i / 256 ∷ i % 256 ∷ []) l m
+swapped-one i l m e =
+    let j = i / 256 * 256 + i % 256 in
+    let f : swapOf j l ≡ made m = ap (λ (k : ℕ). swapOf k l) (div-add-mod' i 256) ∙ e in
+    let q = pair l j (omega (arith, made-pair knitting l m rackingZero j f)) in
+    let d : TiedBehind (q .u) (q .x) (q .y) → ⊥ = λ w. true≢false (cc (when-tied (q .stand) w, f)) in
+    let g : q .u ++ q .y ∷ q .x ∷ q .v ≡ m = cc (when-free (q .stand) d, f) in
+    Swapped.swap (q .stand) d (subst (Swapped [] (q .u ++ q .y ∷ q .x ∷ q .v)) g Swapped.none)
 
 -- where it stops
 torn-replay : (rest : List ℕ) → Torn rest → (at : ℕ) (l : List (List ℕ)) → replay rest at l ≡ ended 14 at l

@@ -1,6 +1,6 @@
 -- One call on a valid program: the program that it hands on, and one swap as a call of its own. Assumes nothing.
 use borrow.Table.Steps.{cases}
-use Prim.Native.Nat.{ℕ, zero, suc, _/_, _≤_, _<_}
+use Prim.Native.Nat.{ℕ, zero, suc, _/_, _%_, _≤_, _<_}
 use mathlib.Core.Path.{_≡_, refl, ap, _∙_}
 use mathlib.Core.Bool.{true, _||_}
 use mathlib.Core.List.{List, [], _∷_}
@@ -17,11 +17,13 @@ use Rattle.run.proofs.Demand.{final}
 use Rattle.trace.specs.Swaps.{made, Swaps, no-swap, swap-first}
 use Rattle.rewrite.specs.Programs.{flat, recordsOf, knitting}
 use Rattle.rewrite.specs.Rewrite.{rackingZero, swapOf, Replay, ended, replay, lentNo, writes, Rewritten, written}
-use Rattle.rewrite.specs.Calls.{Below, Call, callOf, numberOf, handedOn, logOf, Accepted}
+use Rattle.rewrite.specs.Exact.{Swapped}
+use Rattle.rewrite.specs.Calls.{Below, Call, callOf, numberOf, handedOn, Accepted}
 use Rattle.rewrite.specs.Laid.{Whole}
 use Rattle.rewrite.proofs.Records.{records-flat, flat-records, steps-whole, whole-length}
 use Rattle.rewrite.proofs.Rewriting.{lent-call, written-call}
-use Rattle.rewrite.proofs.Replays.{Moved, swaps-moved, made-pair, replay-swaps, replay-moved, replay-writes, replay-log}
+use Rattle.rewrite.proofs.Replays.{Moved, swaps-moved, made-pair, replay-swaps, replay-moved, replay-writes}
+use Rattle.rewrite.proofs.Exact.{swapped-one, swapped-replay}
 
 -- ---- one call on a valid program
 -- 1 or 2 by the lengths of what it is lent, or 0
@@ -39,7 +41,7 @@ refused-number : (p : List ℕ) (c : Call) → (lent p c ≡ 0 → ⊥) → numb
 unfolding answerOf
 refused-number p c h = ap (λ (w : Rewritten). w .answer .number) (lent-call p (c .log) (c .output) (c .work) h)
 
-kept-program : (p : List ℕ) (c : Call) → (lent p c ≡ 0 → ⊥) → handedOn p c ≡ p
+pub kept-program : (p : List ℕ) (c : Call) → (lent p c ≡ 0 → ⊥) → handedOn p c ≡ p
 unfolding writes
 kept-program p c h =
     let n = lent p c in
@@ -69,6 +71,10 @@ module _ {p : List ℕ} {t : State} (v : Valid p t) where
       (ap (λ (w : Rewritten). take (length p) (w .output)) f
       ∙ take-at (flat (r .left)) (drop (length p) (c .output)) (length p) (moved-length (replay-moved (c .log) 0 (recordsOf p))))
 
+  -- which stand at the front of the output
+  pub front-written : (c : Call) → lent p c ≡ 0 → handedOn p c ≡ take (length p) (callOf p c .output)
+  front-written c e = let n = ap (λ (w : Rewritten). w .answer .number) (call-written c e) in let test : writes (numberOf p c) ≡ true = rw n (replay-writes (c .log) 0 (recordsOf p)) in simp test
+
   -- so that every call hands on what swaps reach
   pub handed-on : (c : Call) → (is : List ℕ) × Swaps knitting rackingZero is (recordsOf p) (recordsOf (handedOn p c))
   handed-on c =
@@ -86,7 +92,7 @@ zeros-below k (suc n) h = (h, zeros-below k n h)
 swapCall : (n i : ℕ) → i < 65536 → Call
 swapCall n i h =
     record {
-      log = logOf (i ∷ []);
+      log = 64 ∷ i / 256 ∷ i % 256 ∷ [];
       output = replicate n 0;
       work = replicate n 0;
       log-bytes = (omega arith, (omega arith, (omega arith, tt)));
@@ -110,12 +116,16 @@ module _ {p : List ℕ} {t : State} (v : Valid p t) (i : ℕ) {m : List (List �
   abbrev one : Call
   one = swapCall (length p) i small
 
-  one-swap : Swaps knitting rackingZero (i ∷ []) (recordsOf p) m
-  one-swap = swap-first e no-swap
+  abbrev swaps : Swaps knitting rackingZero (i ∷ []) (recordsOf p) m
+  swaps = swap-first e no-swap
+
+  one-swap : Swapped (one .log) (recordsOf p) m
+  unfolding swapCall
+  one-swap = swapped-one i (recordsOf p) m e
 
   one-replay : replay (one .log) 0 (recordsOf p) ≡ ended 0 0 m
-  unfolding swapCall
-  one-replay = replay-log one-swap 0
+  unfolding replay swapCall
+  one-replay = swapped-replay one-swap [] 0
 
   one-done : numberOf p one ≡ 0
   one-done = ap (λ (r : Rewritten). r .answer .number) (call-written v one (swap-lent p i small (v .short))) ∙ ap (λ (r : Replay). r .number) one-replay
@@ -123,11 +133,10 @@ module _ {p : List ℕ} {t : State} (v : Valid p t) (i : ℕ) {m : List (List �
   one-records : recordsOf (handedOn p one) ≡ m
   one-records =
       ap recordsOf (written-program v one (swap-lent p i small (v .short)) ∙ ap (λ (r : Replay). flat (r .left)) one-replay)
-      ∙ flat-records m (swaps-moved knitting one-swap .whole (valid-whole v))
+      ∙ flat-records m (swaps-moved knitting swaps .whole (valid-whole v))
 
   one-accepted : Accepted p one
-  unfolding swapCall
-  one-accepted = record { done = one-done; positions = i ∷ []; log = refl; swaps = rw one-records one-swap }
+  one-accepted = record { done = one-done; swaps = rw one-records one-swap }
 
   pub call-of-swap : (c : Call) × Accepted p c × (recordsOf (handedOn p c) ≡ m)
   call-of-swap = (one, one-accepted, one-records)

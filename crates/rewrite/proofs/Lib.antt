@@ -19,3 +19,4 @@ pub mod Pairs
 pub mod Logs
 pub mod Rewriting
 pub mod Exact
+pub mod Histories

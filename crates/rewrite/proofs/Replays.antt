@@ -1,11 +1,11 @@
 -- What a log makes of a list of records: swaps that are made one after another, up to its end or to the log record that is refused. Assumes nothing.
 use borrow.Table.Steps.{cases}
-use Prim.Native.Nat.{ℕ, suc, _+_, _*_, _/_, _%_, _≤_, _<_}
+use Prim.Native.Nat.{ℕ, suc, _+_, _*_, _≤_, _<_}
 use mathlib.Core.Path.{_≡_, refl, ap, _∙_}
 use mathlib.Core.Bool.{true, true≢false}
 use mathlib.Core.List.{List, [], _∷_, _++_}
 use native.Mathlib.Omega.{arith}
-use native.Mathlib.Nat.{div-add-mod', lt-of-not-le}
+use native.Mathlib.Nat.{lt-of-not-le}
 use lib.Dec.{eqb}
 use lib.ListN.{length, length-append}
 use borrow.Author.Tests.{eqb-true}
@@ -14,7 +14,6 @@ use Rattle.trace.specs.Swaps.{Outcome, no-pair, is-tied, made, swapAt, Swaps, n
 use Rattle.trace.proofs.Swaps.{Made, made-is, short-no-pair}
 use Rattle.rewrite.specs.Programs.{flat, knitting}
 use Rattle.rewrite.specs.Rewrite.{rackingZero, swapOf, Replay, ended, onOutcome, replay, writes}
-use Rattle.rewrite.specs.Calls.{logOf}
 use Rattle.rewrite.specs.Laid.{Whole}
 
 -- ---- a swap moves whole records and changes none
@@ -123,24 +122,3 @@ replay-within bound some log at l = go (replayed log at l)
     go Replayed.through h = omega arith
     go (Replayed.stopped n a b) h = omega arith
     go (Replayed.next e more) h = go more (omega arith)
-
--- ---- a log whose front goes through goes on behind it
-goes-on : {front : List ℕ} {at : ℕ} {l : List (List ℕ)} {r : Replay} → Replayed front at l r → r .number ≡ 0 → (rest : List ℕ) (from : ℕ)
-    → replay (front ++ rest) from l ≡ replay rest (from + length front) (r .left)
-goes-on (Replayed.through {l = l}) z rest from = let e : from ≡ from + 0 = omega arith in ap (λ (n : ℕ). replay rest n l) e
-goes-on (Replayed.stopped n a b) z rest from = absurd (omega arith)
-goes-on (Replayed.next {high} {low} {at} {log} {l} {m} {r} e more) z rest from =
-    let f : from + 3 + length log ≡ from + length (64 ∷ high ∷ low ∷ log) = omega arith in
-    replay-made high low (log ++ rest) from l m e ∙ goes-on more z rest (from + 3) ∙ ap (λ (n : ℕ). replay rest n (r .left)) f
-
-pub replay-front : (front rest : List ℕ) (at from : ℕ) (l m : List (List ℕ)) → replay front at l ≡ ended 0 0 m → replay (front ++ rest) from l ≡ replay rest (from + length front) m
-replay-front front rest at from l m e =
-    goes-on (replayed front at l) (ap (λ (r : Replay). r .number) e) rest from
-    ∙ ap (λ (r : Replay). replay rest (from + length front) (r .left)) e
-
--- ---- a log of swaps that are made goes through
-pub replay-log : {is : List ℕ} {l m : List (List ℕ)} → Swaps knitting rackingZero is l m → (at : ℕ) → replay (logOf is) at l ≡ ended 0 0 m
-unfolding replay
-replay-log no-swap at = refl
-replay-log (swap-first {i} {is} {l} {m} {n} e t) at =
-    replay-made (i / 256) (i % 256) (logOf is) at l m (ap (λ (j : ℕ). swapOf j l) (div-add-mod' i 256) ∙ e) ∙ replay-log t (at + 3)

@@ -1,12 +1,12 @@
 -- Lists of rewriter calls (document 01, 'Extents and ties'): what each is lent, and the program that is handed on.
-use Prim.Native.Nat.{ℕ, _/_, _%_, _<_}
+use Prim.Native.Nat.{ℕ, _<_}
 use mathlib.Core.Path.{_≡_}
 use mathlib.Core.Bool.{cond}
 use mathlib.Core.List.{List, [], _∷_}
 use lib.ListN.{length, take}
-use Rattle.trace.specs.Swaps.{Swaps}
-use Rattle.rewrite.specs.Programs.{recordsOf, knitting}
-use Rattle.rewrite.specs.Rewrite.{rackingZero, writes, Rewritten, rewriteOf}
+use Rattle.rewrite.specs.Programs.{recordsOf}
+use Rattle.rewrite.specs.Rewrite.{writes, Rewritten, rewriteOf}
+use Rattle.rewrite.specs.Exact.{Swapped}
 
 -- every element is below n
 abbrev pub Below : ℕ → List ℕ → Type 0
@@ -38,17 +38,10 @@ abbrev pub after : List ℕ → List Call → List ℕ
 after p [] = p
 after p (c ∷ cs) = after (handedOn p c) cs
 
--- a log of swaps at these positions
-abbrev pub logOf : List ℕ → List ℕ
-logOf [] = []
-logOf (i ∷ is) = 64 ∷ i / 256 ∷ i % 256 ∷ logOf is
-
 -- a call that answers 0, its log accepted swaps alone
 pub record Accepted (p : List ℕ) (c : Call) : Type 0 where
   pub done : numberOf p c ≡ 0
-  pub positions : List ℕ
-  pub log : c .log ≡ logOf positions
-  pub swaps : Swaps knitting rackingZero positions (recordsOf p) (recordsOf (handedOn p c))
+  pub swaps : Swapped (c .log) (recordsOf p) (recordsOf (handedOn p c))
 
 -- and a list of such calls
 abbrev pub AllAccepted : List ℕ → List Call → Type 0

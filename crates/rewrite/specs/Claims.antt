@@ -1,22 +1,23 @@
 -- Demand 3, over the rewriter's own definition. The code's `rewrite` equals rewriteOf by its contract.
-use Prim.Native.Nat.{ℕ, _+_, _*_, _<_}
+use Prim.Native.Nat.{ℕ, _+_, _*_, _≤_, _<_}
 use mathlib.Core.Path.{_≡_}
-use mathlib.Core.Bool.{true, false}
+use mathlib.Core.Bool.{true}
 use mathlib.Core.List.{List, [], _∷_, _++_}
 use mathlib.Core.Logic.{_↔_}
-use lib.ListN.{length}
+use lib.ListN.{length, take}
 use Rattle.machine.specs.declared.Needle.{Needle}
 use Rattle.machine.specs.declared.Racking.{Racking}
 use Rattle.machine.specs.declared.State.{State}
+use Rattle.record.specs.declared.Record.{Record}
 use Rattle.record.specs.Format.{Encodes}
 use Rattle.run.specs.Relation.{Valid}
 use Rattle.trace.specs.Records.{tied}
-use Rattle.trace.specs.Swaps.{Swaps}
-use Rattle.trace.specs.Order.{inForce, SameRecords, SameOrder}
-use Rattle.rewrite.specs.Programs.{flat, recordsOf, what, knitting, needle, carrier, names, historyOf}
+use Rattle.trace.specs.Lists.{Nth}
+use Rattle.trace.specs.Order.{SameRecords, tiedIn, SameOrder}
+use Rattle.rewrite.specs.Programs.{flat, recordsOf, what, sameBytes, knitting, needle, carrier, names, historyOf}
 use Rattle.rewrite.specs.Rewrite.{rackingZero, ended, replay, written, rewriteOf}
-use Rattle.rewrite.specs.Exact.{Lent, Tied}
-use Rattle.rewrite.specs.Calls.{Call, callOf, numberOf, after, logOf, AllAccepted}
+use Rattle.rewrite.specs.Exact.{Lent, Tied, TiedBehind, Swapped}
+use Rattle.rewrite.specs.Calls.{Call, callOf, numberOf, after, AllAccepted}
 
 -- ---- the definitions in 01's words
 -- a program is its records 'end to end', whatever its bytes
@@ -39,6 +40,23 @@ TiedExactly = (r : Racking) (x y : List ℕ) → (tied knitting r x y ≡ true) 
 abbrev pub EqualRecordsTied : Type 0
 EqualRecordsTied = (r : Racking) (x : List ℕ) → tied knitting r x x ≡ true
 
+-- 'A needle's history is the list of drop, xfer, tuck, knit and split records naming it', first or second; 'in, out and miss pass by the hook and don't enter'
+pub data Enters (n : Needle) (x : Record) : Type 0 where
+  by-drop : x .kind ≡ 2 → x .at ≡ n → Enters n x
+  xfer-from : x .kind ≡ 3 → x .at ≡ n → Enters n x
+  xfer-to : x .kind ≡ 3 → x .to ≡ n → Enters n x
+  by-tuck : x .kind ≡ 7 → x .at ≡ n → Enters n x
+  by-knit : x .kind ≡ 8 → x .at ≡ n → Enters n x
+  split-from : x .kind ≡ 9 → x .at ≡ n → Enters n x
+  split-to : x .kind ≡ 9 → x .to ≡ n → Enters n x
+
+abbrev pub EntersExactly : Type 0
+EntersExactly = (n : Needle) (bytes : List ℕ) (x : Record) → Encodes bytes x → (names (needle n) bytes ≡ true) ↔ Enters n x
+
+-- 'a carrier's is the list of all records naming it': those from in (4) on name one
+abbrev pub CarrierExactly : Type 0
+CarrierExactly = (k : ℕ) (bytes : List ℕ) (x : Record) → Encodes bytes x → (names (carrier k) bytes ≡ true) ↔ ((4 ≤ x .kind) × (x .carrier ≡ k))
+
 -- a place lies within a program or a log, so that number and place go into one word
 abbrev pub RewritePlaceIsSmall : Type 0
 RewritePlaceIsSmall = (program log output work : List ℕ) → rewriteOf program log output work .answer .place < 32768
@@ -58,38 +76,50 @@ pub record Keeps (p : List ℕ) (t : State) (q : List ℕ) : Type 0 where
   pub carriers : (k : ℕ) → historyOf (carrier k) q ≡ historyOf (carrier k) p
   pub same : SameProgram p q
 
+-- the same order, said of positions: of two tied records, each known by its count, the one stands first in both programs or in neither
+abbrev pub OrderByPositions : Type 0
+OrderByPositions =
+    (p q : List ℕ) → SameProgram p q → (x y : List ℕ) (i j a b a′ b′ : ℕ) → Nth sameBytes (recordsOf p) x i a → Nth sameBytes (recordsOf p) y j b
+    → tiedIn knitting rackingZero (recordsOf p) a b x y ≡ true → Nth sameBytes (recordsOf q) x i a′ → Nth sameBytes (recordsOf q) y j b′ → (a < b) ↔ (a′ < b′)
+
 -- ---- which swaps are made
 -- neither 1 nor 2
 abbrev pub LentTo : List ℕ → Call → Type 0
 LentTo p c = Lent p (c .log) (c .output) (c .work)
 
--- a call's log comes to a swap of x and y: what stands before it in the log are swaps that are made (at positions is), and x and y stand where it points
-pub record ComesTo (p : List ℕ) (c : Call) (is : List ℕ) (u : List (List ℕ)) (x y : List ℕ) (v : List (List ℕ)) (rest : List ℕ) : Type 0 where
+-- a call's log comes to a swap of x and y: what stands before it in the log are swaps that are made, and x and y stand where it points
+pub record ComesTo (p : List ℕ) (c : Call) (front : List ℕ) (u : List (List ℕ)) (x y : List ℕ) (v : List (List ℕ)) (rest : List ℕ) : Type 0 where
   pub lent : LentTo p c
-  pub before : Swaps knitting rackingZero is (recordsOf p) (u ++ x ∷ y ∷ v)
+  pub before : Swapped front (recordsOf p) (u ++ x ∷ y ∷ v)
   pub high : ℕ
   pub low : ℕ
-  pub log : c .log ≡ logOf is ++ 64 ∷ high ∷ low ∷ rest
+  pub log : c .log ≡ front ++ 64 ∷ high ∷ low ∷ rest
   pub position : length u ≡ high * 256 + low
 
 -- it is made if the two are not tied: the call goes on behind it with the two exchanged; else it gets 13, and nothing more is made.
 -- The call answers 13 at this log record's place exactly if they are tied; 13 at a later place is another swap's.
 pub record SwapExactly (p : List ℕ) (c : Call) (place : ℕ) (u : List (List ℕ)) (x y : List ℕ) (v : List (List ℕ)) (rest : List ℕ) : Type 0 where
-  pub made : tied knitting (inForce knitting rackingZero u) x y ≡ false
+  pub made : (TiedBehind u x y → ⊥)
       → callOf p c ≡ written p (replay rest (place + 3) (u ++ y ∷ x ∷ v)) (c .output) (c .work)
-  pub refused : tied knitting (inForce knitting rackingZero u) x y ≡ true
+  pub refused : TiedBehind u x y
       → callOf p c ≡ written p (ended 13 place (u ++ x ∷ y ∷ v)) (c .output) (c .work)
-  pub thirteen : ((numberOf p c ≡ 13) × (callOf p c .answer .place ≡ place)) ↔ (tied knitting (inForce knitting rackingZero u) x y ≡ true)
+  pub thirteen : ((numberOf p c ≡ 13) × (callOf p c .answer .place ≡ place)) ↔ TiedBehind u x y
+
+-- ---- the program that is handed on: 'the one at the front of the output that the last call wrote'; 'after a number that writes nothing it is the same program again'
+abbrev pub FrontHandedOn : Type 0
+FrontHandedOn =
+    (p : List ℕ) (t : State) (c : Call) → Valid p t
+    → (LentTo p c → after p (c ∷ []) ≡ take (length p) (callOf p c .output)) × ((LentTo p c → ⊥) → after p (c ∷ []) ≡ p)
 
 -- ---- demand 3 for a valid program and every list of calls from it
 pub record EveryList (p : List ℕ) (t : State) : Type 0 where
   -- after every call of every list
   pub keeps : (cs : List Call) → Keeps p t (after p cs)
   -- every swap that the next call's log comes to
-  pub exactly : (cs : List Call) (c : Call) (is rest : List ℕ) (u v : List (List ℕ)) (x y : List ℕ)
-      → ComesTo (after p cs) c is u x y v rest → SwapExactly (after p cs) c (length (logOf is)) u x y v rest
+  pub exactly : (cs : List Call) (c : Call) (front rest : List ℕ) (u v : List (List ℕ)) (x y : List ℕ)
+      → ComesTo (after p cs) c front u x y v rest → SwapExactly (after p cs) c (length front) u x y v rest
   -- a log of swaps that are made is gone through, with 0
-  pub done : (cs : List Call) (c : Call) (is : List ℕ) (m : List (List ℕ)) → LentTo (after p cs) c → c .log ≡ logOf is → Swaps knitting rackingZero is (recordsOf (after p cs)) m
+  pub done : (cs : List Call) (c : Call) (m : List (List ℕ)) → LentTo (after p cs) c → Swapped (c .log) (recordsOf (after p cs)) m
       → callOf (after p cs) c ≡ written (after p cs) (ended 0 0 m) (c .output) (c .work)
   -- the programs so reached are exactly these
   pub reached : (q : List ℕ) → ((cs : List Call) × (after p cs ≡ q)) ↔ SameProgram p q

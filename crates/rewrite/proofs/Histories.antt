@@ -1,0 +1,112 @@
+-- Which records enter a needle's history and a carrier's. Assumes nothing.
+use borrow.Table.Steps.{cases}
+use Prim.Native.Nat.{ℕ, _≤_}
+use mathlib.Core.Path.{_≡_, sym, ap, subst, _∙_}
+use mathlib.Core.Bool.{true, true≢false}
+use mathlib.Core.List.{List, [], _∷_}
+use mathlib.Core.Logic.{_↔_, _⊎_, inl, inr, ⊎-elim}
+use native.Mathlib.Omega.{arith}
+use lib.Dec.{eqb, leb}
+use borrow.Author.Tests.{eqb-true, eq-eqb, leb-true, leb-false}
+use Rattle.machine.specs.declared.Needle.{Needle}
+use Rattle.machine.specs.Machine.{sameNeedle}
+use Rattle.record.specs.declared.Record.{Record}
+use Rattle.record.specs.Format.{Encodes}
+use Rattle.record.specs.Names.{needleCount, carrierCount, needlesOf, carriersOf}
+use Rattle.run.proofs.Premises.{is}
+use Rattle.rewrite.specs.Extents.{member}
+use Rattle.rewrite.specs.Programs.{memberNeedle}
+use Rattle.rewrite.specs.Claims.{Enters, EntersExactly, CarrierExactly}
+use Rattle.rewrite.proofs.Commute.{needle-eq}
+use Rattle.rewrite.proofs.Records.{form-what}
+
+-- the kind of a record that bytes encode
+form-kind : {bytes : List ℕ} {x : Record} → Encodes bytes x → x .kind ≤ 9
+form-kind (Encodes.rack h) = omega arith
+form-kind (Encodes.drop h i) = omega arith
+form-kind (Encodes.xfer h i j) = omega arith
+form-kind (Encodes.work a b c d e f g) = omega arith
+form-kind (Encodes.split c d e f g h) = omega arith
+
+-- ---- members of lists of one and of two
+same-needle : (n m : Needle) → m ≡ n → sameNeedle n m ≡ true
+unfolding sameNeedle
+same-needle n m e = simp (eq-eqb (n .0) (m .0) (ap (λ (k : Needle). k .0) (sym e)), eq-eqb (n .1) (m .1) (ap (λ (k : Needle). k .1) (sym e)))
+
+module _ (n a b : Needle) where
+  member-none : memberNeedle n [] ≡ true → ⊥
+  unfolding memberNeedle
+  member-none e = true≢false (sym e)
+
+  one-member : (memberNeedle n (a ∷ []) ≡ true) ↔ (a ≡ n)
+  unfolding memberNeedle
+  one-member = (
+    (λ e. cases (sameNeedle n a) (λ q. sym (needle-eq n a q)) (λ q. absurd (true≢false (sym e ∙ simp q)))),
+    (λ e. simp (same-needle n a e)),
+  )
+
+  two-members : (memberNeedle n (a ∷ b ∷ []) ≡ true) ↔ ((a ≡ n) ⊎ (b ≡ n))
+  unfolding memberNeedle
+  two-members = (
+    (λ e. cases (sameNeedle n a) (λ q. inl (sym (needle-eq n a q))) λ q.
+        cases (sameNeedle n b) (λ s. inr (sym (needle-eq n b s))) (λ s. absurd (true≢false (sym e ∙ simp (q, s))))),
+    ⊎-elim (λ e. simp (same-needle n a e)) (λ e. cases (sameNeedle n a) (λ q. simp q) (λ q. simp (q, same-needle n b e))),
+  )
+
+-- ---- the hooks that a record works, by its kind
+module _ (n : Needle) (x : Record) where
+  abbrev Named : Type 0
+  Named = memberNeedle n (needlesOf x) ≡ true
+
+  works-none : needleCount (x .kind) ≡ 0 → Named → ⊥
+  unfolding needlesOf
+  works-none c e = member-none n (x .at) (x .to) (subst (λ (l : List Needle). memberNeedle n l ≡ true) (simp c) e)
+
+  works-one : needleCount (x .kind) ≡ 1 → Named ↔ (x .at ≡ n)
+  unfolding needlesOf
+  works-one c = let e : needlesOf x ≡ x .at ∷ [] = simp c in subst (λ (l : List Needle). (memberNeedle n l ≡ true) ↔ (x .at ≡ n)) (sym e) (one-member n (x .at) (x .to))
+
+  works-two : needleCount (x .kind) ≡ 2 → Named ↔ ((x .at ≡ n) ⊎ (x .to ≡ n))
+  unfolding needlesOf
+  works-two c =
+      let e : needlesOf x ≡ x .at ∷ x .to ∷ [] = simp c in
+      subst (λ (l : List Needle). (memberNeedle n l ≡ true) ↔ ((x .at ≡ n) ⊎ (x .to ≡ n))) (sym e) (two-members n (x .at) (x .to))
+
+  named-enters : x .kind ≤ 9 → Named → Enters n x
+  unfolding needleCount
+  named-enters h e =
+      let k = x .kind in
+      cases (leb k 1) (λ a. absurd (works-none (simp a) e)) λ a.
+      cases (eqb k 2) (λ b. Enters.by-drop (eqb-true k 2 b) (works-one (simp (a, b)) .0 e)) λ b.
+      cases (eqb k 3) (λ c. let q = eqb-true k 3 c in ⊎-elim (Enters.xfer-from q) (Enters.xfer-to q) (works-two (simp (a, b, c)) .0 e)) λ c.
+      cases (leb k 6) (λ d. absurd (works-none (simp (a, b, c, d)) e)) λ d.
+      cases (leb k 8)
+      (λ f. let at = works-one (simp (a, b, c, d, f)) .0 e in
+      is k 7 (λ q. Enters.by-tuck q at) (λ q. Enters.by-knit (omega (arith, leb-false k 6 d, leb-true k 8 f, q)) at)) λ f.
+      let q : k ≡ 9 = omega (arith, leb-false k 8 f, h) in ⊎-elim (Enters.split-from q) (Enters.split-to q) (works-two (simp (a, b, c, d, f)) .0 e)
+
+  enters-named : Enters n x → Named
+  unfolding needleCount
+  enters-named (Enters.by-drop k e) = works-one (simp k) .1 e
+  enters-named (Enters.xfer-from k e) = works-two (simp k) .1 (inl e)
+  enters-named (Enters.xfer-to k e) = works-two (simp k) .1 (inr e)
+  enters-named (Enters.by-tuck k e) = works-one (simp k) .1 e
+  enters-named (Enters.by-knit k e) = works-one (simp k) .1 e
+  enters-named (Enters.split-from k e) = works-two (simp k) .1 (inl e)
+  enters-named (Enters.split-to k e) = works-two (simp k) .1 (inr e)
+
+pub enters-exactly : EntersExactly
+enters-exactly n bytes x form = rw (form-what form) (named-enters n x (form-kind form), enters-named n x)
+
+-- ---- the carrier
+named-carrier : (k : ℕ) (x : Record) → (member k (carriersOf x) ≡ true) ↔ ((4 ≤ x .kind) × (x .carrier ≡ k))
+unfolding member carriersOf carrierCount
+named-carrier k x =
+    cases (leb (x .kind) 3)
+    (λ a. ((λ e. absurd (true≢false (sym e ∙ simp a))), λ (h, e). absurd (omega (arith, leb-true (x .kind) 3 a, h)))) λ a. (
+      (λ e. cases (eqb k (x .carrier)) (λ q. (leb-false (x .kind) 3 a, sym (eqb-true k (x .carrier) q))) (λ q. absurd (true≢false (sym e ∙ simp (a, q))))),
+      λ (h, e). simp (a, eq-eqb k (x .carrier) (sym e)),
+    )
+
+pub carrier-exactly : CarrierExactly
+carrier-exactly k bytes x form = rw (form-what form) (named-carrier k x)
