@@ -1,6 +1,6 @@
 -- The listings are printed so: one test over all of them, computed, and that the test says so. Assumes nothing.
 use Prim.Native.Nat.{ℕ, _≤_}
-use mathlib.Core.Path.{_≡_, refl, _∙_}
+use mathlib.Core.Path.{_≡_, refl, ap, _∙_}
 use mathlib.Core.Bool.{Bool, true, _&&_, cond}
 use mathlib.Core.List.{List, [], _∷_}
 use native.Mathlib.Omega.{arith}
@@ -21,10 +21,11 @@ use Rattle.rewrite.specs.Rewrite.{replay, lentNo, writes, Rewritten, refused, w
 use Rattle.rewrite.proofs.Lawful.{lawful}
 use Rattle.rewrite.proofs.Rewriting.{all-lent}
 use Rattle.list.specs.Text.{digitsOf, letterOf, signOf, flagOf, lines, hookLine, attachmentOf, carrierLine, programLine, bedsOf, stateOf, shownOf, listingOf}
-use Rattle.list.specs.Listed.{callListed, listedOf}
-use Rattle.list.specs.Printed.{bytesIn, text, Listing, listings, Printed, ListsP, ListingsPrinted, PAloneRefused, PAloneEmpty}
+use Rattle.list.specs.Listed.{callListed, listedOf, lentOutput, lentWork}
+use Rattle.list.specs.Printed.{bytesIn, text, Listing, P-swapped, listings, Printed, ListsP, ListsPRead, ListingsPrinted, PAloneRefused, PAloneEmpty}
+use Rattle.list.proofs.Lent.{lent-is-enough}
 
--- the listing where what is lent is enough, with no more of what is lent in it than the call leaves there
+-- the call where what is lent is enough: it computes whatever output and work area hold
 abbrev lentCall : List ℕ → List ℕ → List ℕ → List ℕ → Rewritten
 lentCall p log output work = cond (eqb (runOf p .number) 0) (written p (replay log 0 (recordsOf p)) output work) (refused (runOf p) output work)
 
@@ -61,6 +62,13 @@ listings-printed = each listings computed
 -- the first of them is P's
 pub lists-P : ListsP
 lists-P = listings-printed .0
+
+pub lists-P-read : ListsPRead
+lists-P-read old new n r e f h =
+    r .whole h
+    ∙ ap (λ (p : List ℕ). listedOf p (r .log) lentOutput lentWork) e
+    ∙ ap (λ (l : List ℕ). listedOf (P-swapped .program) l lentOutput lentWork) f
+    ∙ lists-P lentOutput lentWork (lent-is-enough (P-swapped .program) (P-swapped .log) (omega arith) (omega arith))
 
 -- p alone
 no-bytes : (n length : ℕ) → 1 ≤ n → n ≤ 11 → shownOf n length ≡ 0

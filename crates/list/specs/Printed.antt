@@ -4,13 +4,13 @@ use Prim.Native.Char.{code}
 use Prim.Native.String.{String, [] as nil, _∷_ as _then_}
 use mathlib.Core.Path.{_≡_}
 use mathlib.Core.List.{List, [], _∷_, _++_}
-use lib.ListN.{length}
+use lib.ListN.{length, take}
 use Rattle.machine.specs.Machine.{Each}
 use Rattle.rewrite.specs.Programs.{flat}
 use Rattle.rewrite.specs.Rewrite.{rewriteOf}
 use Rattle.rewrite.specs.Exact.{Enough}
 use Rattle.list.specs.Text.{listingOf}
-use Rattle.list.specs.Listed.{listedOf}
+use Rattle.list.specs.Listed.{listedOf, ListsRead}
 
 -- a line's bytes, and those of lines, each with its end
 unfoldable pub bytesIn : String → List ℕ
@@ -95,6 +95,11 @@ Printed r =
 
 abbrev pub ListsP : Type 0
 ListsP = Printed P-swapped
+
+-- so that `list_files` gives these lines, if P and 40 00 02 are what it read
+abbrev pub ListsPRead : Type 0
+ListsPRead =
+    (old new : List ℕ) (n : ℕ) (r : ListsRead old new n) → r .program ≡ P-swapped .program → r .log ≡ P-swapped .log → 88307 ≤ length old → take n new ≡ text (P-swapped .lines)
 
 abbrev pub ListingsPrinted : Type 0
 ListingsPrinted = Each Printed listings

@@ -72,8 +72,11 @@ same-length c = search needs
 returns : tie.Need-returns
 unfolding lentOutput lentWork
 returns c =
-    lists-read (c .before .before .before .before .before .before .before .before .before .before .before .before .before .before .before .load .result) (c .before .before .before .before .before .before .before .before .before .before .before .load2 .result) _ _ _ _ _ (c .before .before .before .before .before .before .before .before .before .before .before .before .before .before .before .load .ensures .1) (c .before .before .before .before .before .before .before .before .before .before .before .load2 .ensures .1)
-    (omega (arith, c .before .before .before .before .before .before .before .before .before .before .before .before .before .before .before .load .ensures .0 .0, c .before .before .before .before .before .before .before .before .before .before .before .before .before .before .program2 .given)) (omega (arith, c .before .before .before .before .before .before .before .before .before .before .before .load2 .ensures .0 .0, c .before .before .before .before .before .before .before .before .before .before .log2 .given))
+    let program = c .before .before .before .before .before .before .before .before .before .before .before .before .before .before .before .load in
+    let log = c .before .before .before .before .before .before .before .before .before .before .before .load2 in
+    lists-read (program .result) (log .result) _ _ _ _ _ (program .ensures .1) (log .ensures .1)
+    (omega (arith, program .ensures .0 .0, c .before .before .before .before .before .before .before .before .before .before .before .before .before .before .program2 .given))
+    (omega (arith, log .ensures .0 .0, c .before .before .before .before .before .before .before .before .before .before .log2 .given))
     (c .before .before .before .before .list .ensures .0)
 
 pub list-files-spec : {M : Type 1} → statement M
