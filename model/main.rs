@@ -219,7 +219,7 @@ fn rewriter_calls(seed: u64) -> Rewriter {
     rewriter
 }
 
-/// Compares the panel's services; two lines tell the counts.
+/// Compares the panel's services; three lines tell the counts.
 fn panel_services(seed: u64) -> Panel {
     let mut panel = Panel::new(seed);
     panel_groups::compare(&mut panel, seed);

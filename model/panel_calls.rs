@@ -16,6 +16,9 @@ extern "C" {
 /// One in so many lists is of a state in read-only memory, and of steps of bytes there.
 const READ_ONLY_EVERY: usize = 64;
 
+/// One in so many refused steps is of a state in read-only memory.
+const REFUSED_READ_ONLY_EVERY: usize = 4;
+
 pub struct Panel {
     pub coverage: PanelCoverage,
     random: Random,
@@ -113,20 +116,25 @@ impl Panel {
         from: &str,
     ) -> Served {
         let before = state.clone();
+        let was = self.state.bytes().to_vec();
         let expected = step_first(state, bytes);
+        let accepted = expected.number == DONE;
         let lent = self.state.at().cast::<RawState>();
-        // SAFETY: the state is readable, writable and ends an even number of bytes before a page's
-        // end; the bytes are readable for their length.
+        // SAFETY: the state is readable, writable if the step must be done, and ends an even number
+        // of bytes before a page's end; the bytes are readable for their length.
         let make = || unsafe { knitout_step(lent, at, bytes.len()) };
         let read_only = self.random.below(READ_ONLY_EVERY) == 0;
-        let given = if read_only {
-            self.bytes.read_only(|| self.program.read_only(make))
-        } else {
-            make()
+        let locked = !accepted && self.random.below(REFUSED_READ_ONLY_EVERY) == 0;
+        let given = match (read_only, locked) {
+            (_, true) => self.state.read_only(make),
+            (true, _) => self.bytes.read_only(|| self.program.read_only(make)),
+            _ => make(),
         };
-        let accepted = expected.number == DONE;
         self.coverage
             .note(Event::StepReadOnly, read_only && accepted);
+        if locked {
+            self.coverage.locked(expected.number);
+        }
         let call = Call {
             service: "step",
             from,
@@ -136,6 +144,9 @@ impl Panel {
             given,
         };
         self.compare_state(&call, state);
+        if !accepted && self.state.bytes() != was {
+            differ(&call, "the padding after a refused step");
+        }
         self.coverage
             .step(source, [&before, state], bytes, expected);
         expected

@@ -77,6 +77,7 @@ pub struct PanelCoverage {
     carriers: [[u64; CARRIERS]; 10],
     hooks: [u64; HOOKS],
     foul_over: [u64; 16],
+    locked: [u64; 16],
     changes: [Changes; 2],
     counts: [[u64; 16]; MOST_COUNT + 1],
     events: [u64; EVENTS.len()],
@@ -93,6 +94,7 @@ impl PanelCoverage {
             carriers: [[0; CARRIERS]; 10],
             hooks: [0; HOOKS],
             foul_over: [0; 16],
+            locked: [0; 16],
             changes: [0; 2].map(|_| Changes {
                 rackings: [0; 256],
                 hooks: [[0; 2]; HOOKS],
@@ -138,6 +140,11 @@ impl PanelCoverage {
     /// Counts a foul state by what the step would give without the foul values.
     pub fn foul_over(&mut self, number: u8) {
         self.foul_over[usize::from(number)] += 1;
+    }
+
+    /// Counts a refused step of a state in read-only memory: a store would have ended the program.
+    pub fn locked(&mut self, number: u8) {
+        self.locked[usize::from(number)] += 1;
     }
 
     pub fn list(&mut self, source: Source, count: usize, number: u8) {
@@ -226,6 +233,11 @@ impl PanelCoverage {
             want(missing, self.steps[1][at], LEAST_NUMBER, || {
                 format!("step of a made state with {number}")
             });
+            if number != DONE {
+                want(missing, self.locked[at], LEAST_NUMBER, || {
+                    format!("step of a state in read-only memory with {number}")
+                });
+            }
         }
     }
 
@@ -298,8 +310,10 @@ fn missing_changes(missing: &mut Vec<String>, service: &str, changes: &Changes) 
 
 // The summary.
 
-fn numbers(rows: &[[u64; 16]; 2]) -> (u64, String) {
-    let sums: Vec<u64> = (0..16).map(|at| rows[0][at] + rows[1][at]).collect();
+fn numbers(rows: &[[u64; 16]]) -> (u64, String) {
+    let sums: Vec<u64> = (0..16)
+        .map(|at| rows.iter().map(|row| row[at]).sum())
+        .collect();
     let shown = sums.iter().enumerate().filter(|(_, count)| **count > 0);
     let cells: Vec<String> = shown.map(|(at, count)| format!("{at}: {count}")).collect();
     (sums.iter().sum(), cells.join(", "))
@@ -310,6 +324,8 @@ impl PanelCoverage {
         let (steps, cells) = numbers(&self.steps);
         let reached: u64 = self.steps[0].iter().sum();
         println!("panel: {steps} steps agree, {reached} of them on reached states; {cells}");
+        let (locked, cells) = numbers(&[self.locked]);
+        println!("panel: {locked} refused steps store nothing in read-only memory; {cells}");
         let (lists, cells) = numbers(&self.lists);
         println!("panel: {lists} carrier lists agree; {cells}");
     }

@@ -38,11 +38,16 @@ static void check(bool holds, const char *promise)
     broken = broken || !holds;
 }
 
-/* The padding byte of a state is not compared: what a call leaves there is not said. */
-static bool same_state(const struct knitout_state *a, const struct knitout_state *b)
+/* Keeps a state as it is before a step, byte by byte. */
+static void keep(const struct knitout_state *state)
 {
-    return a->racking == b->racking && memcmp(a->loops, b->loops, sizeof a->loops) == 0 &&
-           memcmp(a->carriers, b->carriers, sizeof a->carriers) == 0;
+    memcpy(&before, state, sizeof before);
+}
+
+/* Whether a refused step wrote nothing, not even the padding. */
+static bool is_kept(const struct knitout_state *state)
+{
+    return memcmp(state, &before, sizeof before) == 0;
 }
 
 /* Reads a file, the most bytes at most. False if it can't be opened or read. */
@@ -127,11 +132,11 @@ static uint64_t walk(const uint8_t *bytes, size_t length)
     while (place < length) { /* at the end there is no record: a step of no bytes would get 4 */
         if (bytes == output && work[record++] != place)
             check(false, "the work area has each record's start");
-        before = panel;
+        keep(&panel);
         struct knitout_served served = knitout_step(&panel, bytes + place, length - place);
         show_step(place, served, bytes + place);
         if (served.number != KNITOUT_DONE) {
-            check(served.length == 0 && same_state(&panel, &before), "the refused step left the panel as it was");
+            check(served.length == 0 && is_kept(&panel), "the refused step left the panel as it was");
             return ((uint64_t)served.number << 16) + place;
         }
         place += served.length;
@@ -209,11 +214,11 @@ static void try_refusals(void)
 
     foul = panel;
     foul.loops[KNITOUT_HOOK(KNITOUT_FRONT, 3)] = KNITOUT_LOOPS_MOST + 1;
-    before = foul;
+    keep(&foul);
     struct knitout_served served = knitout_step(&foul, drop, sizeof drop);
     printf("nine loops on a hook: ");
     show_served(served);
-    check(served.number == KNITOUT_BAD_STATE && served.length == 0 && same_state(&foul, &before),
+    check(served.number == KNITOUT_BAD_STATE && served.length == 0 && is_kept(&foul),
           ", the state left as it was");
     try_list("nine loops on a hook, list of nine", &foul, KNITOUT_CARRIERS - 1, KNITOUT_BAD_STATE);
     try_list("list of nine", &panel, KNITOUT_CARRIERS - 1, KNITOUT_NO_ROOM);
