@@ -1,9 +1,8 @@
 //! One rewriter call through the C entry, compared with the model in every byte and entry.
 
 use crate::draft::Random;
-use crate::lend::{behind, Lent};
-use crate::machine::DONE;
-use crate::rewrite::{NO_PAIR, TORN_LOG};
+use crate::lend::{behind, place_in, Lent};
+use crate::rewrite::is_written;
 use crate::swap_coverage::{SwapCoverage, LOANS};
 use crate::{fail, show, show_answer};
 
@@ -93,7 +92,11 @@ impl Rewriter {
     fn library(&mut self, call: &Call, output: &[u8], work: &[u16]) -> Left {
         let work: Vec<u8> = work.iter().flat_map(|entry| entry.to_ne_bytes()).collect();
         let program = self.lend(0, call.program);
-        let log = self.lend(1, call.log);
+        let log = match place_in(call.program, call.log) {
+            // SAFETY: the place is in the lent program.
+            Some(place) => unsafe { program.add(place) },
+            None => self.lend(1, call.log),
+        };
         let out = self.lend(2, output);
         let starts = self.lend(3, &work).cast::<u16>();
         // SAFETY: each pointer is readable, and the last two writable, for the length beside it;
@@ -131,9 +134,10 @@ impl Rewriter {
         };
         self.compare(call, &expected, &given, from);
         self.calls += 1;
-        match answer.number {
-            DONE | NO_PAIR..=TORN_LOG => expected.output[..call.program.len()].to_vec(),
-            _ => call.program.to_vec(),
+        if is_written(answer.number) {
+            expected.output[..call.program.len()].to_vec()
+        } else {
+            call.program.to_vec()
         }
     }
 
@@ -150,7 +154,8 @@ impl Rewriter {
             differ(call, expected, given, from, &what);
         }
         for (loan, bytes) in [call.program, call.log].into_iter().enumerate() {
-            if self.lent[loan].bytes() != bytes {
+            let shared = loan == 1 && place_in(call.program, call.log).is_some();
+            if !shared && self.lent[loan].bytes() != bytes {
                 let what = format!("{} written to", LOANS[loan]);
                 differ(call, expected, given, from, &what);
             }

@@ -1,6 +1,7 @@
 //! What the compared rewriter calls came to: numbers, pairs of kinds, extents, racks, logs, areas.
 
 use crate::coverage::{events, KIND_NAMES};
+use crate::lend::place_in;
 use crate::machine::*;
 use crate::rewrite::*;
 use crate::swap_classes::*;
@@ -56,6 +57,7 @@ events! {
     WorkAllWritten: "done with a record's start in each work entry",
     WideOutput: "done with an output of 65536 bytes or more",
     WideWork: "done with 65536 work entries or more",
+    SharedBytes: "swaps made by a log that lies in the program's own bytes",
 }
 
 /// Last racks before a pair, by their position's remainder by 64.
@@ -121,9 +123,10 @@ impl SwapCoverage {
         self.numbers[usize::from(answer.number)] += 1;
         self.areas[area_class(output.len(), program.len())]
             [area_class(work.len(), program.len() / 2)] += 1;
-        match answer.number {
-            DONE | NO_PAIR..=TORN_LOG => self.written(program, log, answer.number, progress.made),
-            _ => self.refused(program, log, answer.number),
+        if is_written(answer.number) {
+            self.written(program, log, answer.number, progress.made);
+        } else {
+            self.refused(program, log, answer.number);
         }
         if answer.number == DONE {
             self.done(program, output.len(), work.len());
@@ -277,6 +280,8 @@ impl SwapCoverage {
         self.note(Event::LongestLog, done && made == LOG_LIMIT / SWAP_LENGTH);
         let full_log = log.len() == LOG_LIMIT && made == LOG_LIMIT / SWAP_LENGTH;
         self.note(Event::LogLimit, full_log && number == TORN_LOG);
+        let shared = place_in(program, log).is_some();
+        self.note(Event::SharedBytes, shared && made > 0);
         let full = program.len() == PROGRAM_LIMIT && made > 0;
         self.note(Event::FullProgram, full);
         self.note(
