@@ -89,7 +89,8 @@ impl Rewriter {
         (output.collect(), work.collect())
     }
 
-    fn library(&mut self, call: &Call, output: &[u8], work: &[u16]) -> Left {
+    /// Makes the call; if it may write nothing, output and work can only be read.
+    fn library(&mut self, call: &Call, output: &[u8], work: &[u16], locked: bool) -> Left {
         let work: Vec<u8> = work.iter().flat_map(|entry| entry.to_ne_bytes()).collect();
         let program = self.lend(0, call.program);
         let log = match place_in(call.program, call.log) {
@@ -99,9 +100,9 @@ impl Rewriter {
         };
         let out = self.lend(2, output);
         let starts = self.lend(3, &work).cast::<u16>();
-        // SAFETY: each pointer is readable, and the last two writable, for the length beside it;
-        // the work area ends an even number of bytes before a page's end.
-        let answer = unsafe {
+        // SAFETY: each pointer is readable, and the last two writable if the call must write, for
+        // the length beside it; the work area ends an even number of bytes before a page's end.
+        let make = || unsafe {
             knitout_rewrite(
                 program,
                 call.program.len(),
@@ -113,6 +114,11 @@ impl Rewriter {
                 call.work,
             )
         };
+        let answer = if locked {
+            self.lent[2].read_only(|| self.lent[3].read_only(make))
+        } else {
+            make()
+        };
         Left {
             answer,
             output: self.lent[2].bytes().to_vec(),
@@ -123,10 +129,15 @@ impl Rewriter {
     /// Makes a call and gives the program that the next one in a chain starts from.
     pub fn call(&mut self, call: &Call, from: &str) -> Vec<u8> {
         let (mut output, mut work) = self.patterns(call);
-        let given = self.library(call, &output, &work);
+        let (lent_output, lent_work) = (output.clone(), work.clone());
         let answer = self
             .coverage
             .rewrite(call.program, call.log, &mut output, &mut work);
+        let locked = !is_written(answer.number) && self.random.percent(25);
+        if locked {
+            self.coverage.locked(answer.number);
+        }
+        let given = self.library(call, &lent_output, &lent_work, locked);
         let expected = Left {
             answer: answer.packed(),
             output,

@@ -76,6 +76,7 @@ pub struct SwapCoverage {
     areas: [[u64; 5]; 5],
     guarded: [u64; 4],
     null: [u64; 4],
+    pub locked: [u64; 15],
     events: [u64; EVENTS.len()],
 }
 
@@ -104,6 +105,7 @@ impl SwapCoverage {
             areas: [[0; 5]; 5],
             guarded: [0; 4],
             null: [0; 4],
+            locked: [0; 15],
             events: [0; EVENTS.len()],
         }
     }
@@ -136,6 +138,12 @@ impl SwapCoverage {
             self.note(Event::TooLongNoBench, short);
         }
         answer
+    }
+
+    /// Counts a refused call with output and work in read-only memory: a store would have ended the
+    /// program.
+    pub fn locked(&mut self, number: u8) {
+        self.locked[usize::from(number)] += 1;
     }
 
     /// A loan that ends at a guard page with nothing behind it, or a null pointer.
@@ -340,6 +348,11 @@ impl SwapCoverage {
         let mut missing = Vec::new();
         for number in (0..15).filter(|&number| self.numbers[number] == 0) {
             missing.push(format!("rewriter number {number}"));
+        }
+        for number in (0..15).filter(|&number| !is_written(number)) {
+            if self.locked[usize::from(number)] == 0 {
+                missing.push(format!("rewriter number {number} in read-only memory"));
+            }
         }
         for (name, _) in EVENTS.iter().zip(self.events).filter(|e| e.1 == 0) {
             missing.push(format!("rewriter: {name}"));

@@ -112,13 +112,29 @@ static void show_record(const uint8_t *bytes)
     }
 }
 
-/* One line a step. After 0 and 6 to 11 the record is known to be whole and its fields in range. */
+/* Whether a step with this number came to a record, whole and with its fields in range. */
+static bool is_of_record(unsigned number)
+{
+    switch (number) {
+    case KNITOUT_DONE:
+    case KNITOUT_ALREADY_IN:
+    case KNITOUT_NOT_IN:
+    case KNITOUT_WRONG_SLOT:
+    case KNITOUT_FLOAT_TOO_LONG:
+    case KNITOUT_NOT_OPPOSITE:
+    case KNITOUT_HOOK_FULL:
+        return true;
+    default:
+        return false;
+    }
+}
+
+/* One line a step. */
 static void show_step(size_t place, struct knitout_served served, const uint8_t *bytes)
 {
     printf("place %u: ", (unsigned)place);
     show_served(served);
-    if (served.number == KNITOUT_DONE ||
-        (served.number >= KNITOUT_ALREADY_IN && served.number <= KNITOUT_HOOK_FULL))
+    if (is_of_record(served.number))
         show_record(bytes);
     putchar('\n');
 }
@@ -224,19 +240,14 @@ static void try_refusals(void)
     try_list("list of nine", &panel, KNITOUT_CARRIERS - 1, KNITOUT_NO_ROOM);
 }
 
-/* The rewriter writes the output after 0 and 12 to 14; after 1 to 11 the program stays the one to go by. */
-static bool is_written(unsigned number)
-{
-    return number == KNITOUT_DONE || number >= KNITOUT_NO_PAIR;
-}
-
 /* Runs, rewrites and walks the loaded program; gives the exit status. */
 static int serve(size_t length, size_t log_length)
 {
     uint64_t run = knitout_run(program, length);
     uint64_t rewrite = knitout_rewrite(program, length, log_bytes, log_length, output, sizeof output,
                                        work, sizeof work / sizeof *work);
-    const uint8_t *bytes = is_written(KNITOUT_NUMBER(rewrite)) ? output : program;
+    /* if the output was not written, the program stays the one to go by */
+    const uint8_t *bytes = KNITOUT_WRITTEN(KNITOUT_NUMBER(rewrite)) ? output : program;
 
     show_answer("run", run);
     show_answer("rewrite", rewrite);
