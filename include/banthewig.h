@@ -2,12 +2,12 @@
    panel's services on one machine state. Nothing here needs an allocator, a file or a thread; no call keeps a pointer.
    A pointer whose length or count is 0 is not read and may be null; a state's is never null. States, lists and work areas
    lie at even addresses, bytes anywhere.
-   During a call no thread, interrupt or DMA writes to anything that is lent, to what is only read (program, log, bytes, the
-   state of a list) as little as to the rest; and what is lent for writing (output, work, the state of a step, a list)
-   overlaps nothing else that is lent. Where either is not kept, no promise holds, not even that the call stays within
-   what it was lent. What is only read may share bytes.
-   Stack is measured on x86-64 by make bench. Worst time is an estimate for a controller at 120 MHz, from instructions
-   counted on x86-64; nothing was measured on the controller (docs/PERFORMANCE.md).
+   During a call nothing else (thread, interrupt, DMA) writes to anything that is lent, what is only read included: program,
+   log, bytes, a const state. What is lent for writing (output, work, the state of a step, a list) overlaps nothing else
+   that is lent; what is only read may share bytes. If one of these is not kept, no promise holds, not even that a call
+   stays within what it was lent.
+   Stack is measured on x86-64 (make bench). Worst time is an estimate for a controller at 120 MHz from instructions
+   counted on x86-64, not measured on the controller (docs/PERFORMANCE.md).
    For C11 and C++11, and later ones. docs/CALLS.md says more. */
 #ifndef BANTHEWIG_H
 #define BANTHEWIG_H
@@ -116,7 +116,7 @@ uint64_t knitout_rewrite(const uint8_t *program, size_t program_length, const ui
    looked at, and a length of 0 gives 4. 0: the state is the one after the record, and the answer's length the record's.
    15 (looked at first) and 3 to 11: length 0, and nothing is written, not even the padding. Which of them it will be is
    not known beforehand, so the state's memory must be writable.
-   Stack 3,896 bytes; worst time 42 microseconds. */
+   Stack 3,320 bytes; worst time 42 microseconds. */
 struct knitout_served knitout_step(struct knitout_state *state, const uint8_t *bytes, size_t length);
 
 /* Lists the carriers of a state. 0 writes carriers 1 to 10 to list[0] to list[9] and gives length 10; entries from list[10]
