@@ -3,4 +3,6 @@ pub mod Grow
 pub mod Digits
 pub mod Lines
 pub mod Longest
+pub mod Lent
+pub mod Read
 pub mod Printed

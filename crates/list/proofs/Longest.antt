@@ -1,6 +1,6 @@
--- A text of 90,000 bytes holds every listing whole, so that nothing is cut off. Assumes nothing.
-use Prim.Native.Nat.{ℕ, zero, suc, _+_, _*_, _/_, _%_, _≤_, _<_}
-use mathlib.Core.Path.{ap}
+-- A text of 88,307 bytes holds every listing whole, so that nothing is cut off. Assumes nothing.
+use Prim.Native.Nat.{ℕ, zero, suc, _+_, _*_, _/_, _%_, _≤_}
+use mathlib.Core.Path.{_≡_, _∙_}
 use mathlib.Core.Bool.{Bool, true, false, cond}
 use mathlib.Core.List.{List, [], _∷_, _++_}
 use native.Mathlib.Omega.{arith}
@@ -8,7 +8,7 @@ use native.Mathlib.Nat.{mul-suc}
 use lib.Dec.{eqb, ltb}
 use lib.IntN.{ℤ, pos, negsuc}
 use lib.ListN.{length, take, drop, length-append, length-take, length-drop}
-use lib.Seq.{length-take-le}
+use lib.Seq.{take-all}
 use Rattle.machine.specs.declared.Carrier.{Carrier}
 use Rattle.machine.specs.declared.State.{State}
 use Rattle.run.specs.declared.Answer.{Answer}
@@ -107,13 +107,13 @@ unfolding listingOf
 longest a l h k n =
     join (number (a .number)) (join (some 1 (32 ∷ []) (omega arith)) (join (number (a .place)) (join (some 3 (32 ∷ flagOf (a .complete) ∷ 10 ∷ []) (omega arith)) (join (state (a .state) h k) (program l n)))))
 
--- so that 90,000 bytes hold the listing of every call whose output has 32,768
-pub uncut : (program log output work old new : List ℕ) (end : ℕ) → Grown old 0 (listedOf program log output work) new end → length output ≤ 32768 → 90000 ≤ length old → end < 90000
+-- so that a text of 88,307 bytes holds the listing of every call whose output has 32,768
+pub uncut : (program log output work old new : List ℕ) (end : ℕ) → Grown old 0 (listedOf program log output work) new end → length output ≤ 32768 → 88307 ≤ length old
+    → take end new ≡ listedOf program log output work
 unfolding listedOf
 uncut program log output work old new end g h r =
     let w = rewriteOf program log output work in
     let n = shownOf (w .answer .number) (length program) in
     let size = state-size program log output work in
     let long = longest (w .answer) (take n (w .output)) (omega (arith, size .loops)) (omega (arith, size .carriers)) (omega (arith, length-take n (w .output), output-length program log output work)) in
-    let text = listingOf (w .answer) (take n (w .output)) in
-    omega (arith, length-take-le end new (g .within), ap length (g .text), length-take (length old) text, long .most)
+    g .text ∙ take-all (length old) (listingOf (w .answer) (take n (w .output))) (omega (arith, long .most))

@@ -2,3 +2,4 @@
 pub mod Text
 pub mod Grown
 pub mod Listed
+pub mod Printed

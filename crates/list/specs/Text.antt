@@ -1,13 +1,14 @@
 -- The listing's text (document 01, 'Pieces to try'), as bytes: each definition is a part of it, down to a digit.
 use Prim.Native.Nat.{ℕ, zero, suc, _+_, _/_, _%_}
-use mathlib.Core.Bool.{Bool, cond, _&&_}
+use mathlib.Core.Bool.{Bool, cond}
 use mathlib.Core.List.{List, [], _∷_, _++_}
-use lib.Dec.{eqb, leb, ltb}
+use lib.Dec.{eqb, ltb}
 use lib.IntN.{ℤ, pos, negsuc}
 use lib.ListN.{length, take, drop}
 use Rattle.machine.specs.declared.Carrier.{Carrier}
 use Rattle.machine.specs.declared.State.{State}
 use Rattle.run.specs.declared.Answer.{Answer}
+use Rattle.rewrite.specs.Rewrite.{writes}
 
 -- a number's decimal digits, at most so many places
 unfoldable pub digitsOf : ℕ → ℕ → List ℕ
@@ -93,9 +94,9 @@ bedsOf loops = hooksOf 0 (take 250 loops) ++ hooksOf 1 (drop 250 loops)
 unfoldable pub stateOf : State → List ℕ
 stateOf s = rackingLine (s .racking .0) ++ (bedsOf (s .loops) ++ carriersOf (s .carriers))
 
--- how many bytes of the output are listed: none after numbers 1 to 11, else the program's length
+-- how many bytes of the output are listed: the program's length after a number that writes, none after the others (1 to 11)
 unfoldable pub shownOf : ℕ → ℕ → ℕ
-shownOf number length = cond (leb 1 number && leb number 11) 0 length
+shownOf number length = cond (writes number) length 0
 
 -- the listing of an answer and the output's program bytes
 unfoldable pub listingOf : Answer → List ℕ → List ℕ

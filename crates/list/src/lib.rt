@@ -5,13 +5,14 @@ ghost use mathlib.Core.List.{[], _∷_};
 ghost use lib.ListN.{length, take};
 ghost use Rattle.list.specs.Grown.{Grown};
 ghost use Rattle.list.specs.Text.{digitsOf, figures, signed, hexDigit, hexOf, letterOf, signOf, flagOf, hookLine, hooksOf, bedsOf, attachmentOf, carrierLine, carriersOf, rackingLine, bytesOf, programLine, stateOf, shownOf, listingOf};
+ghost use Rattle.rewrite.specs.Calls.{Below};
 ghost use Rattle.rewrite.specs.Rewrite.{rewriteOf};
-ghost use Rattle.list.specs.Listed.{listedOf};
-use libc::STDOUT_FILENO;
+ghost use Rattle.list.specs.Listed.{listedOf, ListsRead};
 use machine::Carrier;
 use machine::Racking;
 use machine::State;
 use rewrite::rewrite;
+use rewrite::writes;
 use run::Answer;
 
 // Puts a byte behind a text of length at; like all that follow, it answers the text's length then.
@@ -260,14 +261,14 @@ pub fn listing(a: Answer, bytes: &[u8], text: &mut [u8]) -> usize
     put_program(text, end, bytes)
 }
 
-// How many of the output's bytes are listed: the program's after 0 and 12 to 14, none after 1 to 11.
+// How many of the output's bytes are listed: the program's after a number that writes, else none.
 fn shown(number: u8, length: usize, room: usize) -> usize
     ensures { λ r. ⌜ r ≡ min (shownOf number length) room ⌝ }
 {
-    match number {
-        1..=11 => 0,
-        _ => least(length, room),
+    if writes(number) {
+        return least(length, room);
     }
+    0
 }
 
 fn least(a: usize, b: usize) -> usize
@@ -302,6 +303,7 @@ fn room() -> [u8; 32769]
 // Reads the front of a file into buf and answers how many bytes: none where it cannot be opened.
 fn load(path: &[u8], buf: &mut [u8]) -> usize
     ensures { λ r. ⌜ (r ≤ length (now (buf .exit))) × (r ≡ length (take r (now (buf .exit)))) ⌝ }
+    ensures { λ r. ⌜ Below 256 (take r (now (buf .exit))) ⌝ }
 {
     let fd = os::open_read(path);
     if fd < 0 {
@@ -312,9 +314,13 @@ fn load(path: &[u8], buf: &mut [u8]) -> usize
     n
 }
 
-// Writes the listing of the program and the log in two files and answers its length: it is never cut.
-pub fn show(program_path: &[u8], log_path: &[u8]) -> usize
-    ensures { λ n. ⌜ n < 90000 ⌝ }
+// No listing has more bytes.
+pub const LONGEST: usize = 88307;
+
+// Puts the listing of the program and the log in two files at the front of the text and answers its length. A text of
+// LONGEST bytes holds it whole.
+pub fn list_files(program_path: &[u8], log_path: &[u8], text: &mut [u8]) -> usize
+    ensures { λ n. ⌜ ListsRead (now (text .entry)) (now (text .exit)) n ⌝ }
 {
     let mut program = room();
     let program_length = load(program_path, &mut program);
@@ -322,14 +328,11 @@ pub fn show(program_path: &[u8], log_path: &[u8]) -> usize
     let log_length = load(log_path, &mut log);
     let mut output = [0u8; 32768];
     let mut work = [0u16; 16384];
-    let mut text = [0u8; 90000];
-    let n = list(
+    list(
         &program[..program_length],
         &log[..log_length],
         &mut output,
         &mut work,
-        &mut text,
-    );
-    io::write_all(STDOUT_FILENO, &text[..n]);
-    n
+        text,
+    )
 }

@@ -1,4 +1,8 @@
 // The listing program: the files knit.prg and swap.log, as the rewriter answers on them.
+use libc::STDOUT_FILENO;
+
 fn main() {
-    list::show(b"knit.prg", b"swap.log");
+    let mut text = [0u8; list::LONGEST];
+    let n = list::list_files(b"knit.prg", b"swap.log", &mut text);
+    io::write_all(STDOUT_FILENO, &text[..n]);
 }
