@@ -42,6 +42,11 @@ pairs =
     ∷ pair (pos 0) (xfer (f 10) 20) (xfer (f 11) 20) false
     ∷ []
 
+-- for each element what a function lists
+abbrev forEach : {A B : Type 0} → List A → (A → List B) → List B
+forEach [] g = []
+forEach (x ∷ l) g = g x ++ forEach l g
+
 -- ---- spots: a racking, and the needles in five columns side by side, z − 2 to z + 2, as far as the beds reach
 pub record Spot : Type 0 where
   pub racking : ℤ
@@ -61,15 +66,19 @@ fb n m = f n ∷ b m ∷ []
 abbrev back : ℕ → List Needle
 back m = b m ∷ []
 
-abbrev pub spots : List Spot
-spots =
-    -- column 10 at rackings 0, 2, −8 and 8
+-- column 10 at rackings 0, 2, −8 and 8
+abbrev pub middle : List Spot
+middle =
     spot (pos 0) (fb 8 8) (fb 9 9) (fb 10 10) (fb 11 11) (fb 12 12)
     ∷ spot (pos 2) (fb 8 6) (fb 9 7) (fb 10 8) (fb 11 9) (fb 12 10)
     ∷ spot (negsuc 7) (fb 8 16) (fb 9 17) (fb 10 18) (fb 11 19) (fb 12 20)
     ∷ spot (pos 8) (fb 8 0) (fb 9 1) (fb 10 2) (fb 11 3) (fb 12 4)
-    -- at racking −8 columns −8, −1 and 0; at 8 columns 249 and 257
-    ∷ spot (negsuc 7) [] [] (back 0) (back 1) (back 2)
+    ∷ []
+
+-- columns −8, −1 and 0 at racking −8, 249 and 257 at 8
+abbrev pub outer : List Spot
+outer =
+    spot (negsuc 7) [] [] (back 0) (back 1) (back 2)
     ∷ spot (negsuc 7) (back 5) (back 6) (back 7) (fb 0 8) (fb 1 9)
     ∷ spot (negsuc 7) (back 6) (back 7) (fb 0 8) (fb 1 9) (fb 2 10)
     ∷ spot (pos 8) (fb 247 239) (fb 248 240) (fb 249 241) (back 242) (back 243)
@@ -106,12 +115,12 @@ on-front k = broad (λ n. tuck left n k) 0 k ∷ broad (λ n. knit left n k) 0 k
 abbrev on-back : ℕ → List Cover
 on-back k = broad (λ n. tuck left n k) k 11 ∷ broad (λ n. knit left n k) k 11 ∷ on-carrier k
 
--- 'A drop covers 2z on its bed's layer. An xfer covers 2z on layers 0 to 11'; the rest with the first carrier, the last and one between
-abbrev pub front-covers : List Cover
-front-covers = narrow drop 0 0 ∷ narrow (λ n. xfer n 200) 0 11 ∷ (on-front 1 ++ on-front 5 ++ on-front 10)
-
-abbrev pub back-covers : List Cover
-back-covers = narrow drop 11 11 ∷ narrow (λ n. xfer n 200) 0 11 ∷ (on-back 1 ++ on-back 5 ++ on-back 10)
+-- 'A drop covers 2z on its bed's layer. An xfer covers 2z on layers 0 to 11'; the rest with each of some carriers
+abbrev covers : List ℕ → Needle → List Cover
+covers ks n =
+    cond (eqb (n .0) 0)
+    (narrow drop 0 0 ∷ narrow (λ m. xfer m 200) 0 11 ∷ forEach ks on-front)
+    (narrow drop 11 11 ∷ narrow (λ m. xfer m 200) 0 11 ∷ forEach ks on-back)
 
 -- ---- probes: records that see a half column, or a layer, of that count
 abbrev seeing : ℕ → (Needle → List ℕ) → List Needle → List (ℕ × List ℕ)
@@ -134,23 +143,11 @@ half-columns s =
     ++ xfers 5 (s .near-right)
     ++ splits 6 (s .far-right)
 
--- a drop's layer, 0 or 11; a miss's, which is its carrier
-abbrev misses : ℕ → List Needle → List (ℕ × List ℕ)
-misses k l = seeing k (λ n. miss right n k) l
-
+-- a drop's layer, 0 or 11; a miss's, which is its carrier: the outermost ones and those beside 1, 5 and 10
 abbrev layers : Spot → List (ℕ × List ℕ)
 layers s =
     map (λ (n : Needle). (cond (eqb (n .0) 0) 0 11, drop n)) (s .here)
-    ++ misses 1 (s .here)
-    ++ misses 2 (s .here)
-    ++ misses 3 (s .here)
-    ++ misses 4 (s .here)
-    ++ misses 5 (s .here)
-    ++ misses 6 (s .here)
-    ++ misses 7 (s .here)
-    ++ misses 8 (s .here)
-    ++ misses 9 (s .here)
-    ++ misses 10 (s .here)
+    ++ forEach (1 ∷ 2 ∷ 4 ∷ 6 ∷ 9 ∷ 10 ∷ []) (λ (k : ℕ). seeing k (λ n. miss right n k) (s .here))
 
 -- ---- a record is tied to the probes that see what it covers, and to no other
 abbrev probed : ℤ → List ℕ → ℕ → ℕ → List (ℕ × List ℕ) → List Pair
@@ -161,10 +158,9 @@ edgesOf s n c =
     probed (s .racking) (c .made n) (c .left) (c .right) (half-columns s)
     ++ probed (s .racking) (c .made n) (c .low) (c .high) (layers s)
 
--- for each element what a function lists
-abbrev forEach : {A B : Type 0} → List A → (A → List B) → List B
-forEach [] g = []
-forEach (x ∷ l) g = g x ++ forEach l g
+abbrev edgesAt : List ℕ → Spot → List Pair
+edgesAt ks s = forEach (s .here) (λ n. forEach (covers ks n) (edgesOf s n))
 
+-- with carriers 1, 5 and 10; in the outer columns with 5
 abbrev pub edges : List Pair
-edges = forEach spots (λ s. forEach (s .here) (λ n. forEach (cond (eqb (n .0) 0) front-covers back-covers) (λ c. edgesOf s n c)))
+edges = forEach middle (edgesAt (1 ∷ 5 ∷ 10 ∷ [])) ++ forEach outer (edgesAt (5 ∷ []))
