@@ -142,4 +142,5 @@ pieces =
       each Rewrites swapTest swap-says swaps swaps-computed,
       each Ties pairTest pair-says pairs p,
       each Ties pairTest pair-says edges e,
+      refl,
     )

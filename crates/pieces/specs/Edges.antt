@@ -1,4 +1,4 @@
--- Ties (document 01, 'Extents and ties'): pairs of records, and the edges of what a record of each kind covers, each seen by a probe that just meets it and one
+-- Ties (document 01, 'Extents and ties'): pairs of records; and what a record of each kind covers, each of its edges seen by a probe that just meets it and by one
 -- that just does not.
 use Prim.Native.Nat.{ℕ}
 use mathlib.Core.Bool.{Bool, true, false, _&&_, cond}
@@ -47,7 +47,7 @@ abbrev forEach : {A B : Type 0} → List A → (A → List B) → List B
 forEach [] g = []
 forEach (x ∷ l) g = g x ++ forEach l g
 
--- ---- spots: a racking, and the needles in five columns side by side, z − 2 to z + 2, as far as the beds reach
+-- ---- where: a racking, and the needles in five columns side by side, z − 2 to z + 2, as far as the beds reach ('A back needle n has column n + r')
 pub record Spot : Type 0 where
   pub racking : ℤ
   pub far-left : List Needle
@@ -85,7 +85,7 @@ outer =
     ∷ spot (pos 8) (back 247) (back 248) (back 249) [] []
     ∷ []
 
--- ---- what a record at a needle of column z covers: half columns left to right, counted so that 2z is 3, and layers low to high
+-- ---- what a record at a needle of column z covers: half columns left to right, 2z − 3 to 2z + 3 counted as 0 to 6; layers low to high
 pub record Cover : Type 0 where
   pub made : Needle → List ℕ
   pub left : ℕ
@@ -93,7 +93,7 @@ pub record Cover : Type 0 where
   pub low : ℕ
   pub high : ℕ
 
--- 2z; or 2z − 1 to 2z + 1
+-- half column 2z; or 2z − 1 to 2z + 1
 abbrev narrow : (Needle → List ℕ) → ℕ → ℕ → Cover
 narrow x low high = record { made = x; left = 3; right = 3; low = low; high = high }
 
@@ -122,17 +122,17 @@ covers ks n =
     (narrow drop 0 0 ∷ narrow (λ m. xfer m 200) 0 11 ∷ forEach ks on-front)
     (narrow drop 11 11 ∷ narrow (λ m. xfer m 200) 0 11 ∷ forEach ks on-back)
 
--- ---- probes: records that see a half column, or a layer, of that count
+-- ---- probes: records at needles, each with the half column or the layer that it sees
 abbrev seeing : ℕ → (Needle → List ℕ) → List Needle → List (ℕ × List ℕ)
 seeing i x l = map (λ (n : Needle). (i, x n)) l
 
--- a split's right half column or its left one, an xfer's only one
 abbrev splits : ℕ → List Needle → List (ℕ × List ℕ)
 splits i l = seeing i (λ n. split right n 7 0) l
 
 abbrev xfers : ℕ → List Needle → List (ℕ × List ℕ)
 xfers i l = seeing i (λ n. xfer n 0) l
 
+-- an xfer sees the one that it covers, 2z − 2, 2z or 2z + 2; a split on the left sees its last, 2z − 3 or 2z − 1, one on the right its first, 2z + 1 or 2z + 3
 abbrev half-columns : Spot → List (ℕ × List ℕ)
 half-columns s =
     splits 0 (s .far-left)
@@ -143,7 +143,7 @@ half-columns s =
     ++ xfers 5 (s .near-right)
     ++ splits 6 (s .far-right)
 
--- a drop's layer, 0 or 11; a miss's, which is its carrier: the outermost ones and those beside 1, 5 and 10
+-- a drop sees layer 0 or 11, a miss its carrier's: the first, the last, and those beside 1, 5 and 10
 abbrev layers : Spot → List (ℕ × List ℕ)
 layers s =
     map (λ (n : Needle). (cond (eqb (n .0) 0) 0 11, drop n)) (s .here)

@@ -27,7 +27,7 @@ pub record Says (a : Answer) (e : Expected) : Type 0 where
 abbrev pub Holds : Row → Type 0
 Holds r = Says (runOf (r .program)) (r .answer)
 
--- an output or a work area of a length, its contents told apart by the last of them, .. 253, 254, 255: what is not written keeps them
+-- an output or a work area of a length; it ends .. 253, 254, 255, so that what is not written is seen to stay in place
 abbrev pub lent : ℕ → List ℕ
 lent zero = []
 lent (suc n) = (255 - n) ∷ lent n
@@ -51,5 +51,6 @@ pub record Ties (r : Pair) : Type 0 where
   pub forth : tied knitting (inForce r) (r .first) (r .second) ≡ r .tied
   pub back : tied knitting (inForce r) (r .second) (r .first) ≡ r .tied
 
+-- the edges are listed by a function: that many
 abbrev pub PiecesHold : Type 0
-PiecesHold = Each Holds rows × Each Rewrites swaps × Each Ties pairs × Each Ties edges
+PiecesHold = Each Holds rows × Each Rewrites swaps × Each Ties pairs × Each Ties edges × (length edges ≡ 5592)

@@ -221,6 +221,7 @@ refusals =
     ∷ row (7 ∷ 1 ∷ 0 ∷ 10 ∷ []) 4 0
     ∷ row (8 ∷ 1 ∷ 0 ∷ 10 ∷ []) 4 0
     ∷ row (9 ∷ 1 ∷ 0 ∷ 10 ∷ 3 ∷ []) 4 0
+    ∷ row (9 ∷ []) 4 0
     ∷ row (8 ∷ 2 ∷ 2 ∷ 250 ∷ []) 4 0
     ∷ knitted (in-3 ++ (3 ∷ 2 ∷ 250 ∷ [])) 4 5 [] ((3, unattached 10) ∷ [])
     -- 5: each field; before 6, 7, 8 and 10
@@ -281,17 +282,16 @@ pub record Swap : Type 0 where
   pub wrote : List ℕ
   pub starts : List ℕ
 
+abbrev lending : List ℕ → List ℕ → ℕ → ℕ → Expected → List ℕ → List ℕ → Swap
+lending p log output work a q v = record { program = p; log = log; output = output; work = work; answer = a; wrote = q; starts = v }
+
 -- with room to spare
 abbrev swap : List ℕ → List ℕ → Expected → List ℕ → List ℕ → Swap
-swap p log a q v = record { program = p; log = log; output = length p + 2; work = length p + 2; answer = a; wrote = q; starts = v }
+swap p log a q v = lending p log (length p + 2) (length p + 2) a q v
 
--- refused with the state empty and nothing written, by the lengths
+-- refused in the empty state, nothing written
 abbrev unmade : List ℕ → List ℕ → ℕ → ℕ → ℕ → Swap
-unmade p log output work n = record { program = p; log = log; output = output; work = work; answer = empty n 0; wrote = []; starts = [] }
-
--- exactly enough of both, or an entry more
-abbrev tight : List ℕ → List ℕ → ℕ → ℕ → Expected → List ℕ → List ℕ → Swap
-tight p log output work a q v = record { program = p; log = log; output = output; work = work; answer = a; wrote = q; starts = v }
+unmade p log output work n = lending p log output work (empty n 0) [] []
 
 -- a log record, below position 256
 abbrev at : ℕ → List ℕ
@@ -389,13 +389,13 @@ swaps =
     ∷ unmade P (replicate 32769 64) 20 10 1
     ∷ unmade P (replicate 32769 64) 19 10 1
     ∷ unmade (replicate 32768 0) [] 32768 16384 3
-    ∷ tight P (replicate 32768 65) 20 10 (of-P 14 0) P fives
+    ∷ lending P (replicate 32768 65) 20 10 (of-P 14 0) P fives
     -- 2: output a byte short, work area an entry short; exactly enough; half of 3 is 1; before 5
     ∷ unmade P (at 2) 19 10 2
     ∷ unmade P (at 2) 20 9 2
-    ∷ tight P (at 2) 20 10 (of-P 0 0) swapped-P fives
+    ∷ lending P (at 2) 20 10 (of-P 0 0) swapped-P fives
     ∷ unmade (drop (f 1)) [] 3 0 2
-    ∷ tight (drop (f 1)) [] 3 1 (empty 0 0) (drop (f 1)) (0 ∷ [])
-    ∷ tight [] [] 0 0 (empty 0 0) [] []
+    ∷ lending (drop (f 1)) [] 3 1 (empty 0 0) (drop (f 1)) (0 ∷ [])
+    ∷ lending [] [] 0 0 (empty 0 0) [] []
     ∷ unmade (1 ∷ 9 ∷ []) [] 1 1 2
     ∷ []
