@@ -34,7 +34,7 @@ int main(int count, char **names)
     unsigned number = KNITOUT_NUMBER(answer);
 
     printf("%s: %u %u", names[2], number, KNITOUT_PLACE(answer));
-    if (number == KNITOUT_DONE || number >= KNITOUT_NO_PAIR) /* 1 to 11 write nothing */
+    if (KNITOUT_WRITTEN(number))
         for (size_t i = 0; i < length; i++)
             printf("%s%02x", i == 0 ? " " : "", output[i]);
     putchar('\n');

@@ -1,9 +1,8 @@
 //! One rewriter call through the C entry, compared with the model in every byte and entry.
 
 use crate::draft::Random;
-use crate::lend::{behind, Lent};
-use crate::machine::DONE;
-use crate::rewrite::{NO_PAIR, TORN_LOG};
+use crate::lend::{behind, place_in, Lent};
+use crate::rewrite::is_written;
 use crate::swap_coverage::{SwapCoverage, LOANS};
 use crate::{fail, show, show_answer};
 
@@ -90,15 +89,20 @@ impl Rewriter {
         (output.collect(), work.collect())
     }
 
-    fn library(&mut self, call: &Call, output: &[u8], work: &[u16]) -> Left {
+    /// Makes the call; if it may write nothing, output and work can only be read.
+    fn library(&mut self, call: &Call, output: &[u8], work: &[u16], locked: bool) -> Left {
         let work: Vec<u8> = work.iter().flat_map(|entry| entry.to_ne_bytes()).collect();
         let program = self.lend(0, call.program);
-        let log = self.lend(1, call.log);
+        let log = match place_in(call.program, call.log) {
+            // SAFETY: the place is in the lent program.
+            Some(place) => unsafe { program.add(place) },
+            None => self.lend(1, call.log),
+        };
         let out = self.lend(2, output);
         let starts = self.lend(3, &work).cast::<u16>();
-        // SAFETY: each pointer is readable, and the last two writable, for the length beside it;
-        // the work area ends an even number of bytes before a page's end.
-        let answer = unsafe {
+        // SAFETY: each pointer is readable, and the last two writable if the call must write, for
+        // the length beside it; the work area ends an even number of bytes before a page's end.
+        let make = || unsafe {
             knitout_rewrite(
                 program,
                 call.program.len(),
@@ -110,6 +114,11 @@ impl Rewriter {
                 call.work,
             )
         };
+        let answer = if locked {
+            self.lent[2].read_only(|| self.lent[3].read_only(make))
+        } else {
+            make()
+        };
         Left {
             answer,
             output: self.lent[2].bytes().to_vec(),
@@ -120,10 +129,15 @@ impl Rewriter {
     /// Makes a call and gives the program that the next one in a chain starts from.
     pub fn call(&mut self, call: &Call, from: &str) -> Vec<u8> {
         let (mut output, mut work) = self.patterns(call);
-        let given = self.library(call, &output, &work);
+        let (lent_output, lent_work) = (output.clone(), work.clone());
         let answer = self
             .coverage
             .rewrite(call.program, call.log, &mut output, &mut work);
+        let locked = !is_written(answer.number) && self.random.percent(25);
+        if locked {
+            self.coverage.locked(answer.number);
+        }
+        let given = self.library(call, &lent_output, &lent_work, locked);
         let expected = Left {
             answer: answer.packed(),
             output,
@@ -131,9 +145,10 @@ impl Rewriter {
         };
         self.compare(call, &expected, &given, from);
         self.calls += 1;
-        match answer.number {
-            DONE | NO_PAIR..=TORN_LOG => expected.output[..call.program.len()].to_vec(),
-            _ => call.program.to_vec(),
+        if is_written(answer.number) {
+            expected.output[..call.program.len()].to_vec()
+        } else {
+            call.program.to_vec()
         }
     }
 
@@ -150,7 +165,8 @@ impl Rewriter {
             differ(call, expected, given, from, &what);
         }
         for (loan, bytes) in [call.program, call.log].into_iter().enumerate() {
-            if self.lent[loan].bytes() != bytes {
+            let shared = loan == 1 && place_in(call.program, call.log).is_some();
+            if !shared && self.lent[loan].bytes() != bytes {
                 let what = format!("{} written to", LOANS[loan]);
                 differ(call, expected, given, from, &what);
             }

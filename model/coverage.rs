@@ -178,7 +178,7 @@ impl Coverage {
         );
         self.note(
             Event::LateRefusal,
-            number >= ALREADY_IN && place >= PROGRAM_LIMIT - 8,
+            is_of_record(number) && place >= PROGRAM_LIMIT - 8,
         );
         if number == TOO_LONG {
             let valid = run_records(program, |_, _, _| {}).number == DONE;

@@ -38,6 +38,12 @@ pub fn behind(random: &mut Random) -> usize {
     }
 }
 
+/// Where some bytes lie within others, if they are part of them in memory.
+pub fn place_in(whole: &[u8], part: &[u8]) -> Option<usize> {
+    let place = (part.as_ptr() as usize).checked_sub(whole.as_ptr() as usize)?;
+    (!part.is_empty() && place + part.len() <= whole.len()).then_some(place)
+}
+
 /// Readable bytes before a page without access; a part of them is lent.
 pub struct Lent {
     start: *mut u8,

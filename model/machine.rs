@@ -12,6 +12,14 @@ pub const FLOAT_TOO_LONG: u8 = 9;
 pub const NOT_OPPOSITE: u8 = 10;
 pub const HOOK_FULL: u8 = 11;
 
+/// Whether a number is of a record that was read whole, its fields in range.
+pub fn is_of_record(number: u8) -> bool {
+    matches!(
+        number,
+        ALREADY_IN | NOT_IN | WRONG_SLOT | FLOAT_TOO_LONG | NOT_OPPOSITE | HOOK_FULL
+    )
+}
+
 pub const NEEDLES: usize = 250;
 pub const CARRIERS: usize = 10;
 pub const MAX_RACKING: i32 = 8;

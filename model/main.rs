@@ -200,26 +200,36 @@ fn main() {
     );
 }
 
-/// Compares the rewriter; one line tells the counts.
+/// Counts by number, those that came.
+fn by_number(counts: &[u64]) -> String {
+    let came = counts.iter().enumerate().filter(|(_, count)| **count > 0);
+    let cells: Vec<String> = came
+        .map(|(number, count)| format!("{number}: {count}"))
+        .collect();
+    cells.join(", ")
+}
+
+/// Compares the rewriter; two lines tell the counts.
 fn rewriter_calls(seed: u64) -> Rewriter {
     let mut rewriter = Rewriter::new(seed);
     swap_groups::compare(&mut rewriter, seed);
-    let numbers: Vec<String> = (0..)
-        .zip(rewriter.coverage.numbers)
-        .map(|(number, count): (u8, u64)| format!("{number}: {count}"))
-        .collect();
     println!(
         "rewriter: {} pairs of program and log agree, {} swaps made, {} of {} chains changed; {}",
         rewriter.calls,
         rewriter.coverage.swapped,
         rewriter.changed_chains,
         rewriter.chains,
-        numbers.join(", ")
+        by_number(&rewriter.coverage.numbers)
+    );
+    println!(
+        "rewriter: {} refused calls store nothing in read-only memory; {}",
+        rewriter.coverage.locked.iter().sum::<u64>(),
+        by_number(&rewriter.coverage.locked)
     );
     rewriter
 }
 
-/// Compares the panel's services; two lines tell the counts.
+/// Compares the panel's services; four lines tell the counts.
 fn panel_services(seed: u64) -> Panel {
     let mut panel = Panel::new(seed);
     panel_groups::compare(&mut panel, seed);

@@ -4,7 +4,7 @@ use crate::draft::Random;
 use crate::lend::{behind, Lent};
 use crate::machine::*;
 use crate::panel::{list_carriers, step_first};
-use crate::panel_coverage::{Event, PanelCoverage, Source};
+use crate::panel_coverage::{Event, PanelCoverage, Service, Source};
 use crate::raw_state::*;
 use crate::{fail, show};
 
@@ -15,6 +15,9 @@ extern "C" {
 
 /// One in so many lists is of a state in read-only memory, and of steps of bytes there.
 const READ_ONLY_EVERY: usize = 64;
+
+/// One in so many refused calls is lent read-only memory for what a call that is done writes.
+const REFUSED_READ_ONLY_EVERY: usize = 4;
 
 pub struct Panel {
     pub coverage: PanelCoverage,
@@ -113,20 +116,25 @@ impl Panel {
         from: &str,
     ) -> Served {
         let before = state.clone();
+        let was = self.state.bytes().to_vec();
         let expected = step_first(state, bytes);
+        let accepted = expected.number == DONE;
         let lent = self.state.at().cast::<RawState>();
-        // SAFETY: the state is readable, writable and ends an even number of bytes before a page's
-        // end; the bytes are readable for their length.
+        // SAFETY: the state is readable, writable if the step must be done, and ends an even number
+        // of bytes before a page's end; the bytes are readable for their length.
         let make = || unsafe { knitout_step(lent, at, bytes.len()) };
         let read_only = self.random.below(READ_ONLY_EVERY) == 0;
-        let given = if read_only {
-            self.bytes.read_only(|| self.program.read_only(make))
-        } else {
-            make()
+        let locked = !accepted && self.random.below(REFUSED_READ_ONLY_EVERY) == 0;
+        let given = match (read_only, locked) {
+            (_, true) => self.state.read_only(make),
+            (true, _) => self.bytes.read_only(|| self.program.read_only(make)),
+            _ => make(),
         };
-        let accepted = expected.number == DONE;
         self.coverage
             .note(Event::StepReadOnly, read_only && accepted);
+        if locked {
+            self.coverage.locked(Service::Step, expected.number);
+        }
         let call = Call {
             service: "step",
             from,
@@ -136,6 +144,9 @@ impl Panel {
             given,
         };
         self.compare_state(&call, state);
+        if !accepted && self.state.bytes() != was {
+            differ(&call, "the padding after a refused step");
+        }
         self.coverage
             .step(source, [&before, state], bytes, expected);
         expected
@@ -169,7 +180,7 @@ impl Panel {
             .chunks_exact(CARRIER_BYTES)
             .map(RawCarrier::of_bytes)
             .collect();
-        let call = self.list_at(state, &mut entries, at.cast(), from);
+        let call = self.list_at(state, &mut entries, at.cast(), true, from);
         let wanted: Vec<u8> = entries.iter().flat_map(RawCarrier::bytes).collect();
         if let Some(what) = list_difference(&wanted, self.list.bytes()) {
             differ(&call, &what);
@@ -189,7 +200,7 @@ impl Panel {
         let filler = RawCarrier::of_bytes(&[0; CARRIER_BYTES].map(|_| self.random.byte()));
         let mut wanted = vec![filler; count];
         let mut found = vec![filler; count];
-        let call = self.list_at(state, &mut wanted, found.as_mut_ptr(), from);
+        let call = self.list_at(state, &mut wanted, found.as_mut_ptr(), false, from);
         if let Some(entry) = (0..count).find(|&entry| wanted[entry] != found[entry]) {
             differ(&call, &format!("entry {entry} of the list"));
         }
@@ -197,26 +208,34 @@ impl Panel {
         self.coverage.list(source, count, number);
     }
 
-    /// Makes both calls and compares all but the lists' contents.
+    /// Makes both calls and compares all but the lists' contents. `guarded`: the list is in lent
+    /// memory before a guard page.
     fn list_at<'a>(
         &mut self,
         state: &'a RawState,
         entries: &mut [RawCarrier],
         at: *mut RawCarrier,
+        guarded: bool,
         from: &'a str,
     ) -> Call<'a> {
         let expected = list_carriers(state, entries);
+        let accepted = expected.number == DONE;
         let lent = self.state.at().cast::<RawState>();
-        // SAFETY: the state is readable; the list is writable for the count, or the count is 0.
+        // SAFETY: the state is readable; the list is writable for the count if the call must be
+        // done, or the count is 0.
         let make = || unsafe { knitout_carriers(lent, at, entries.len()) };
         let read_only = self.random.below(READ_ONLY_EVERY) == 0;
-        let given = if read_only {
-            self.state.read_only(make)
-        } else {
-            make()
+        let locked = guarded && !accepted && self.random.below(REFUSED_READ_ONLY_EVERY) == 0;
+        let given = match (read_only, locked) {
+            (_, true) => self.list.read_only(make),
+            (true, _) => self.state.read_only(make),
+            _ => make(),
         };
         self.coverage
-            .note(Event::ListReadOnly, read_only && expected.number == DONE);
+            .note(Event::ListReadOnly, read_only && accepted);
+        if locked {
+            self.coverage.locked(Service::List, expected.number);
+        }
         let call = Call {
             service: "list",
             from,

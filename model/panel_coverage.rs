@@ -1,5 +1,6 @@
 //! What the compared panel calls came to: numbers, kinds, changed values, slices, lengths of lists.
 
+use crate::by_number;
 use crate::coverage::{events, KIND_NAMES};
 use crate::machine::*;
 use crate::panel_states::{Change, Field};
@@ -77,6 +78,7 @@ pub struct PanelCoverage {
     carriers: [[u64; CARRIERS]; 10],
     hooks: [u64; HOOKS],
     foul_over: [u64; 16],
+    locked: [[u64; 16]; 2],
     changes: [Changes; 2],
     counts: [[u64; 16]; MOST_COUNT + 1],
     events: [u64; EVENTS.len()],
@@ -93,6 +95,7 @@ impl PanelCoverage {
             carriers: [[0; CARRIERS]; 10],
             hooks: [0; HOOKS],
             foul_over: [0; 16],
+            locked: [[0; 16]; 2],
             changes: [0; 2].map(|_| Changes {
                 rackings: [0; 256],
                 hooks: [[0; 2]; HOOKS],
@@ -138,6 +141,11 @@ impl PanelCoverage {
     /// Counts a foul state by what the step would give without the foul values.
     pub fn foul_over(&mut self, number: u8) {
         self.foul_over[usize::from(number)] += 1;
+    }
+
+    /// Counts a refused call with its loan in read-only memory: a store would have ended the program.
+    pub fn locked(&mut self, service: Service, number: u8) {
+        self.locked[service as usize][usize::from(number)] += 1;
     }
 
     pub fn list(&mut self, source: Source, count: usize, number: u8) {
@@ -226,6 +234,11 @@ impl PanelCoverage {
             want(missing, self.steps[1][at], LEAST_NUMBER, || {
                 format!("step of a made state with {number}")
             });
+            if number != DONE {
+                want(missing, self.locked[0][at], LEAST_NUMBER, || {
+                    format!("step of a state in read-only memory with {number}")
+                });
+            }
         }
     }
 
@@ -253,6 +266,12 @@ impl PanelCoverage {
     fn missing_lists(&self, missing: &mut Vec<String>) {
         let all = self.lists.as_flattened().iter().sum();
         want(missing, all, LEAST_LISTS, || "list".to_string());
+        for number in [NO_BENCH, FOUL_STATE] {
+            let count = self.locked[1][usize::from(number)];
+            want(missing, count, LEAST_NUMBER, || {
+                format!("list in read-only memory with {number}")
+            });
+        }
         for (source, numbers) in SOURCES.iter().zip(self.lists) {
             for number in [DONE, NO_BENCH] {
                 want(missing, numbers[usize::from(number)], LEAST_NUMBER, || {
@@ -298,11 +317,11 @@ fn missing_changes(missing: &mut Vec<String>, service: &str, changes: &Changes) 
 
 // The summary.
 
-fn numbers(rows: &[[u64; 16]; 2]) -> (u64, String) {
-    let sums: Vec<u64> = (0..16).map(|at| rows[0][at] + rows[1][at]).collect();
-    let shown = sums.iter().enumerate().filter(|(_, count)| **count > 0);
-    let cells: Vec<String> = shown.map(|(at, count)| format!("{at}: {count}")).collect();
-    (sums.iter().sum(), cells.join(", "))
+fn numbers(rows: &[[u64; 16]]) -> (u64, String) {
+    let sums: Vec<u64> = (0..16)
+        .map(|at| rows.iter().map(|row| row[at]).sum())
+        .collect();
+    (sums.iter().sum(), by_number(&sums))
 }
 
 impl PanelCoverage {
@@ -312,5 +331,11 @@ impl PanelCoverage {
         println!("panel: {steps} steps agree, {reached} of them on reached states; {cells}");
         let (lists, cells) = numbers(&self.lists);
         println!("panel: {lists} carrier lists agree; {cells}");
+        for (service, counts) in SERVICES.iter().zip(self.locked) {
+            let (calls, cells) = numbers(&[counts]);
+            println!(
+                "panel: {calls} refused {service}s store nothing in read-only memory; {cells}"
+            );
+        }
     }
 }

@@ -15,6 +15,11 @@ pub const SWAP_LENGTH: usize = 3;
 const FRONT_LAYER: i32 = 0;
 const BACK_LAYER: i32 = 11;
 
+/// Whether a call with this number writes output and work area.
+pub fn is_written(number: u8) -> bool {
+    matches!(number, DONE | NO_PAIR | TIED | TORN_LOG)
+}
+
 // Extents and ties.
 
 /// Half columns and layers.

@@ -1,6 +1,7 @@
 //! What the compared rewriter calls came to: numbers, pairs of kinds, extents, racks, logs, areas.
 
 use crate::coverage::{events, KIND_NAMES};
+use crate::lend::place_in;
 use crate::machine::*;
 use crate::rewrite::*;
 use crate::swap_classes::*;
@@ -56,6 +57,7 @@ events! {
     WorkAllWritten: "done with a record's start in each work entry",
     WideOutput: "done with an output of 65536 bytes or more",
     WideWork: "done with 65536 work entries or more",
+    SharedBytes: "swaps made by a log that lies in the program's own bytes",
 }
 
 /// Last racks before a pair, by their position's remainder by 64.
@@ -74,6 +76,7 @@ pub struct SwapCoverage {
     areas: [[u64; 5]; 5],
     guarded: [u64; 4],
     null: [u64; 4],
+    pub locked: [u64; 15],
     events: [u64; EVENTS.len()],
 }
 
@@ -102,6 +105,7 @@ impl SwapCoverage {
             areas: [[0; 5]; 5],
             guarded: [0; 4],
             null: [0; 4],
+            locked: [0; 15],
             events: [0; EVENTS.len()],
         }
     }
@@ -121,9 +125,10 @@ impl SwapCoverage {
         self.numbers[usize::from(answer.number)] += 1;
         self.areas[area_class(output.len(), program.len())]
             [area_class(work.len(), program.len() / 2)] += 1;
-        match answer.number {
-            DONE | NO_PAIR..=TORN_LOG => self.written(program, log, answer.number, progress.made),
-            _ => self.refused(program, log, answer.number),
+        if is_written(answer.number) {
+            self.written(program, log, answer.number, progress.made);
+        } else {
+            self.refused(program, log, answer.number);
         }
         if answer.number == DONE {
             self.done(program, output.len(), work.len());
@@ -133,6 +138,12 @@ impl SwapCoverage {
             self.note(Event::TooLongNoBench, short);
         }
         answer
+    }
+
+    /// Counts a refused call with output and work in read-only memory: a store would have ended the
+    /// program.
+    pub fn locked(&mut self, number: u8) {
+        self.locked[usize::from(number)] += 1;
     }
 
     /// A loan that ends at a guard page with nothing behind it, or a null pointer.
@@ -277,6 +288,8 @@ impl SwapCoverage {
         self.note(Event::LongestLog, done && made == LOG_LIMIT / SWAP_LENGTH);
         let full_log = log.len() == LOG_LIMIT && made == LOG_LIMIT / SWAP_LENGTH;
         self.note(Event::LogLimit, full_log && number == TORN_LOG);
+        let shared = place_in(program, log).is_some();
+        self.note(Event::SharedBytes, shared && made > 0);
         let full = program.len() == PROGRAM_LIMIT && made > 0;
         self.note(Event::FullProgram, full);
         self.note(
@@ -335,6 +348,11 @@ impl SwapCoverage {
         let mut missing = Vec::new();
         for number in (0..15).filter(|&number| self.numbers[number] == 0) {
             missing.push(format!("rewriter number {number}"));
+        }
+        for number in (0..15).filter(|&number| !is_written(number)) {
+            if self.locked[usize::from(number)] == 0 {
+                missing.push(format!("rewriter number {number} in read-only memory"));
+            }
         }
         for (name, _) in EVENTS.iter().zip(self.events).filter(|e| e.1 == 0) {
             missing.push(format!("rewriter: {name}"));

@@ -14,13 +14,14 @@ use crate::swaps::*;
 type Group = fn(&mut Random, &mut Rewriter);
 
 /// Rounds of a group a run, and its function; one round makes one call or several.
-const GROUPS: [(usize, Group); 6] = [
+const GROUPS: [(usize, Group); 7] = [
     (16_000, chain),
     (20_000, far_pair),
     (4_000, near_racks),
     (20_000, refused),
     (60, long),
     (400, over),
+    (400, log_in_program),
 ];
 
 pub fn compare(rewriter: &mut Rewriter, seed: u64) {
@@ -365,4 +366,18 @@ fn over(random: &mut Random, rewriter: &mut Rewriter) {
         _ => (),
     }
     rewriter.call(&call, "lengths over a limit");
+}
+
+// Shared bytes.
+
+/// A log in the program's own bytes: drops of f.64, which from their third byte on read as swaps at
+/// position 512, before drops of a few needles.
+fn log_in_program(random: &mut Random, rewriter: &mut Rewriter) {
+    let swaps = 1 + random.below(60);
+    let mut program = [DROP, 0, SWAP].repeat(swaps + 1);
+    for _ in swaps + 1..520 + random.below(50) {
+        program.extend([DROP, random.pick(&[0, 1]), random.pick(&[10, 11, 12])]);
+    }
+    let log = &program[2..2 + SWAP_LENGTH * swaps];
+    rewriter.call(&about(random, &program, log), "log in the program");
 }

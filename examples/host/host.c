@@ -38,11 +38,16 @@ static void check(bool holds, const char *promise)
     broken = broken || !holds;
 }
 
-/* The padding byte of a state is not compared: what a call leaves there is not said. */
-static bool same_state(const struct knitout_state *a, const struct knitout_state *b)
+/* Keeps a state as it is before a step, byte by byte. */
+static void keep(const struct knitout_state *state)
 {
-    return a->racking == b->racking && memcmp(a->loops, b->loops, sizeof a->loops) == 0 &&
-           memcmp(a->carriers, b->carriers, sizeof a->carriers) == 0;
+    memcpy(&before, state, sizeof before);
+}
+
+/* Whether a refused step wrote nothing, not even the padding. */
+static bool is_kept(const struct knitout_state *state)
+{
+    return memcmp(state, &before, sizeof before) == 0;
 }
 
 /* Reads a file, the most bytes at most. False if it can't be opened or read. */
@@ -107,13 +112,29 @@ static void show_record(const uint8_t *bytes)
     }
 }
 
-/* One line a step. After 0 and 6 to 11 the record is known to be whole and its fields in range. */
+/* Whether a step with this number came to a record, whole and with its fields in range. */
+static bool is_of_record(unsigned number)
+{
+    switch (number) {
+    case KNITOUT_DONE:
+    case KNITOUT_ALREADY_IN:
+    case KNITOUT_NOT_IN:
+    case KNITOUT_WRONG_SLOT:
+    case KNITOUT_FLOAT_TOO_LONG:
+    case KNITOUT_NOT_OPPOSITE:
+    case KNITOUT_HOOK_FULL:
+        return true;
+    default:
+        return false;
+    }
+}
+
+/* One line a step. */
 static void show_step(size_t place, struct knitout_served served, const uint8_t *bytes)
 {
     printf("place %u: ", (unsigned)place);
     show_served(served);
-    if (served.number == KNITOUT_DONE ||
-        (served.number >= KNITOUT_ALREADY_IN && served.number <= KNITOUT_HOOK_FULL))
+    if (is_of_record(served.number))
         show_record(bytes);
     putchar('\n');
 }
@@ -127,11 +148,11 @@ static uint64_t walk(const uint8_t *bytes, size_t length)
     while (place < length) { /* at the end there is no record: a step of no bytes would get 4 */
         if (bytes == output && work[record++] != place)
             check(false, "the work area has each record's start");
-        before = panel;
+        keep(&panel);
         struct knitout_served served = knitout_step(&panel, bytes + place, length - place);
         show_step(place, served, bytes + place);
         if (served.number != KNITOUT_DONE) {
-            check(served.length == 0 && same_state(&panel, &before), "the refused step left the panel as it was");
+            check(served.length == 0 && is_kept(&panel), "the refused step left the panel as it was");
             return ((uint64_t)served.number << 16) + place;
         }
         place += served.length;
@@ -209,20 +230,14 @@ static void try_refusals(void)
 
     foul = panel;
     foul.loops[KNITOUT_HOOK(KNITOUT_FRONT, 3)] = KNITOUT_LOOPS_MOST + 1;
-    before = foul;
+    keep(&foul);
     struct knitout_served served = knitout_step(&foul, drop, sizeof drop);
     printf("nine loops on a hook: ");
     show_served(served);
-    check(served.number == KNITOUT_BAD_STATE && served.length == 0 && same_state(&foul, &before),
+    check(served.number == KNITOUT_BAD_STATE && served.length == 0 && is_kept(&foul),
           ", the state left as it was");
     try_list("nine loops on a hook, list of nine", &foul, KNITOUT_CARRIERS - 1, KNITOUT_BAD_STATE);
     try_list("list of nine", &panel, KNITOUT_CARRIERS - 1, KNITOUT_NO_ROOM);
-}
-
-/* The rewriter writes the output after 0 and 12 to 14; after 1 to 11 the program stays the one to go by. */
-static bool is_written(unsigned number)
-{
-    return number == KNITOUT_DONE || number >= KNITOUT_NO_PAIR;
 }
 
 /* Runs, rewrites and walks the loaded program; gives the exit status. */
@@ -231,7 +246,8 @@ static int serve(size_t length, size_t log_length)
     uint64_t run = knitout_run(program, length);
     uint64_t rewrite = knitout_rewrite(program, length, log_bytes, log_length, output, sizeof output,
                                        work, sizeof work / sizeof *work);
-    const uint8_t *bytes = is_written(KNITOUT_NUMBER(rewrite)) ? output : program;
+    /* if the output was not written, the program stays the one to go by */
+    const uint8_t *bytes = KNITOUT_WRITTEN(KNITOUT_NUMBER(rewrite)) ? output : program;
 
     show_answer("run", run);
     show_answer("rewrite", rewrite);

@@ -41,8 +41,8 @@ pub extern "C" fn knitout_rewrite(
     word(a.number, a.place)
 }
 
-// Makes the step of the first record of a slice on a lent state: number, and the record's length. A refused call leaves
-// every value of the state as it was.
+// Makes the step of the first record of a slice on a lent state: number, and the record's length. A refused call stores
+// nothing.
 #[no_mangle]
 pub extern "C" fn knitout_step(state: &mut machine::State, bytes: &[u8]) -> panel::Served
     ensures { λ r. ⌜ (r .number ≡ panelStep (now (state .entry)) (now (bytes .entry)) .number)
@@ -50,7 +50,9 @@ pub extern "C" fn knitout_step(state: &mut machine::State, bytes: &[u8]) -> pane
         × (now (state .exit) ≡ panelStep (now (state .entry)) (now (bytes .entry)) .state) ⌝ }
 {
     let out = panel::step(*state, bytes);
-    *state = out.state;
+    if out.number == 0 {
+        *state = out.state;
+    }
     panel::Served {
         number: out.number,
         length: out.length,

@@ -2,3 +2,4 @@
 pub mod Services
 pub mod Filled
 pub mod Demand
+pub mod Exact

@@ -16,14 +16,16 @@ use Rattle.machine.specs.Geometry.{eqZ, columnOf, entryOf, exitOf, sameColumn, 
 use Rattle.record.specs.Format.{sizeOf, decodeOf, whole, ranged, refusedAs, rackOk, needleOk, workOk, signedOf}
 use Rattle.record.specs.Names.{needleCount, carrierCount, needlesOf, carriersOf}
 use Rattle.run.specs.Step.{lookOf, seeOf, parkedNo, floatNo, carrierNo, oppositeNo, firstAfter, secondAfter, roomNo, numberOf, edit, actOf, acted, moveAttachments, rackingAfter, numberAt, applyOf}
+use Rattle.run.specs.declared.Answer.{Answer}
 use Rattle.run.specs.Run.{stepOf, turn, runFrom, answerOf, runOf}
 use Rattle.trace.specs.Records.{tied}
 use Rattle.rewrite.specs.Extents.{halfColumn, layerOf, extentOf, meets, member, common}
 use Rattle.rewrite.specs.Programs.{cut, startsOf, sameBytes, knitting}
-use Rattle.rewrite.specs.Rewrite.{rackingZero, replay, lentNo, rewriteOf}
+use Rattle.rewrite.specs.Rewrite.{replay, lentNo, rewriteOf}
 use Rattle.rewrite.proofs.Lawful.{lawful}
-use Rattle.pieces.specs.Rows.{Row, rows, Swap, swaps, Pair, pairs}
-use Rattle.pieces.specs.Pieces.{Holds, front, rewritten, Rewrites, Ties, PiecesHold}
+use Rattle.pieces.specs.Rows.{Expected, Row, rows, Swap, swaps}
+use Rattle.pieces.specs.Edges.{Pair, pairs, edges}
+use Rattle.pieces.specs.Pieces.{Says, Holds, front, rewritten, Rewrites, inForce, Ties, PiecesHold}
 
 -- the test that is computed, and that it says so
 sameBool : Bool → Bool → Bool
@@ -68,58 +70,77 @@ hooksTest s l = every (λ (h : Needle × ℕ). eqb (loopsOn s (h .0)) (h .1)) l
 carriersTest : State → List (ℕ × Carrier) → Bool
 carriersTest s l = every (λ (k : ℕ × Carrier). sameCarrier (carrierOf s (k .0)) (k .1)) l
 
-stateTest : State → Row → Bool
-stateTest s r = eqZ (s .racking .0) (r .racking) && (hooksTest s (r .hooks) && carriersTest s (r .carriers))
+stateTest : State → Expected → Bool
+stateTest s e = eqZ (s .racking .0) (e .racking) && (hooksTest s (e .hooks) && carriersTest s (e .carriers))
 
-test : Row → Bool
-test r =
-    eqb (runOf (r .program) .number) (r .number)
-    && (eqb (runOf (r .program) .place) (r .place) && (sameBool (runOf (r .program) .complete) (r .complete) && stateTest (runOf (r .program) .state) r))
+saysTest : Answer → Expected → Bool
+saysTest a e = eqb (a .number) (e .number) && (eqb (a .place) (e .place) && (sameBool (a .complete) (e .complete) && stateTest (a .state) e))
 
-test-says : (r : Row) → test r ≡ true → Holds r
-unfolding test stateTest hooksTest carriersTest
-test-says r e =
-    let (p, e1) = and-two (eqb (runOf (r .program) .number) (r .number)) _ e in
-    let (q, e2) = and-two (eqb (runOf (r .program) .place) (r .place)) _ e1 in
-    let (t, e3) = and-two (sameBool (runOf (r .program) .complete) (r .complete)) _ e2 in
-    let (w, e4) = and-two (eqZ (runOf (r .program) .state .racking .0) (r .racking)) _ e3 in
-    let (u, v) = and-two (hooksTest (runOf (r .program) .state) (r .hooks)) (carriersTest (runOf (r .program) .state) (r .carriers)) e4 in
+test-says : (a : Answer) (e : Expected) → saysTest a e ≡ true → Says a e
+unfolding saysTest stateTest hooksTest carriersTest
+test-says a e t =
+    let (n, t1) = and-two (eqb (a .number) (e .number)) _ t in
+    let (p, t2) = and-two (eqb (a .place) (e .place)) _ t1 in
+    let (c, t3) = and-two (sameBool (a .complete) (e .complete)) _ t2 in
+    let (r, t4) = and-two (eqZ (a .state .racking .0) (e .racking)) _ t3 in
+    let (h, k) = and-two (hooksTest (a .state) (e .hooks)) (carriersTest (a .state) (e .carriers)) t4 in
     record {
-      number = eqb-true _ _ p;
-      place = eqb-true _ _ q;
-      complete = same-bool _ _ t;
-      racking = eqZ-true _ _ w;
-      hooks = each _ _ (λ h f. eqb-true _ _ f) (r .hooks) u;
-      carriers = each _ _ (λ k f. same-carrier _ _ f) (r .carriers) v;
+      number = eqb-true _ _ n;
+      place = eqb-true _ _ p;
+      complete = same-bool _ _ c;
+      racking = eqZ-true _ _ r;
+      hooks = each _ _ (λ h f. eqb-true _ _ f) (e .hooks) h;
+      carriers = each _ _ (λ k f. same-carrier _ _ f) (e .carriers) k;
     }
+
+rowTest : Row → Bool
+rowTest r = saysTest (runOf (r .program)) (r .answer)
+
+row-says : (r : Row) → rowTest r ≡ true → Holds r
+unfolding rowTest
+row-says r e = test-says _ _ e
 
 swapTest : Swap → Bool
 swapTest r =
-    eqb (rewritten r .answer .number) (r .number)
-    && (eqb (rewritten r .answer .place) (r .place) && (sameBytes (rewritten r .output) (front (r .wrote) (r .program)) && sameBytes (rewritten r .work) (front (r .starts) (r .program))))
+    saysTest (rewritten r .answer) (r .answer)
+    && (sameBytes (rewritten r .output) (front (r .wrote) (r .output)) && sameBytes (rewritten r .work) (front (r .starts) (r .work)))
 
 swap-says : (r : Swap) → swapTest r ≡ true → Rewrites r
 unfolding swapTest
 swap-says r e =
-    let (p, e1) = and-two (eqb (rewritten r .answer .number) (r .number)) _ e in
-    let (q, e2) = and-two (eqb (rewritten r .answer .place) (r .place)) _ e1 in
-    let (t, u) = and-two (sameBytes (rewritten r .output) (front (r .wrote) (r .program))) _ e2 in
-    record { number = eqb-true _ _ p; place = eqb-true _ _ q; output = lawful .same-eq _ _ t; work = lawful .same-eq _ _ u }
+    let (p, e1) = and-two (saysTest (rewritten r .answer) (r .answer)) _ e in
+    let (t, u) = and-two (sameBytes (rewritten r .output) (front (r .wrote) (r .output))) _ e1 in
+    record { answer = test-says _ _ p; output = lawful .same-eq _ _ t; work = lawful .same-eq _ _ u }
 
 pairTest : Pair → Bool
-pairTest r = sameBool (tied knitting rackingZero (r .first) (r .second)) (r .tied)
+pairTest r = sameBool (tied knitting (inForce r) (r .first) (r .second)) (r .tied) && sameBool (tied knitting (inForce r) (r .second) (r .first)) (r .tied)
 
 pair-says : (r : Pair) → pairTest r ≡ true → Ties r
 unfolding pairTest
-pair-says r e = same-bool _ _ e
+pair-says r e =
+    let (p, q) = and-two (sameBool (tied knitting (inForce r) (r .first) (r .second)) (r .tied)) _ e in
+    record { forth = same-bool _ _ p; back = same-bool _ _ q }
 
-computed : (every test rows && (every swapTest swaps && every pairTest pairs)) ≡ true
-unfolding swapTest pairTest rewriteOf lentNo replay cut startsOf sameBytes halfColumn layerOf extentOf meets member common sizeOf test stateTest hooksTest carriersTest sameBool sameCarrier runOf runFrom turn stepOf answerOf emptyState completeOf all inactiveCarrier movedTo attachedAt sameNeedle eqZ columnOf entryOf exitOf sameColumn withinFloat decodeOf whole ranged refusedAs rackOk needleOk workOk signedOf needleCount carrierCount needlesOf carriersOf lookOf seeOf parkedNo floatNo carrierNo oppositeNo firstAfter secondAfter roomNo numberOf edit actOf acted moveAttachments rackingAfter numberAt applyOf
-computed = refl
+-- the tests, computed in three parts: antt takes fifty million steps at most for one
+rows-computed : every rowTest rows ≡ true
+unfolding rowTest saysTest stateTest hooksTest carriersTest sameBool sameCarrier runOf runFrom turn stepOf answerOf emptyState completeOf all inactiveCarrier movedTo attachedAt sameNeedle eqZ columnOf entryOf exitOf sameColumn withinFloat decodeOf whole ranged refusedAs rackOk needleOk workOk signedOf needleCount carrierCount needlesOf carriersOf lookOf seeOf parkedNo floatNo carrierNo oppositeNo firstAfter secondAfter roomNo numberOf edit actOf acted moveAttachments rackingAfter numberAt applyOf
+rows-computed = refl
+
+swaps-computed : every swapTest swaps ≡ true
+unfolding swapTest saysTest rewriteOf lentNo replay cut startsOf sameBytes halfColumn layerOf extentOf meets member common sizeOf stateTest hooksTest carriersTest sameBool sameCarrier runOf runFrom turn stepOf answerOf emptyState completeOf all inactiveCarrier movedTo attachedAt sameNeedle eqZ columnOf entryOf exitOf sameColumn withinFloat decodeOf whole ranged refusedAs rackOk needleOk workOk signedOf needleCount carrierCount needlesOf carriersOf lookOf seeOf parkedNo floatNo carrierNo oppositeNo firstAfter secondAfter roomNo numberOf edit actOf acted moveAttachments rackingAfter numberAt applyOf
+swaps-computed = refl
+
+ties-computed : (every pairTest pairs && every pairTest edges) ≡ true
+unfolding pairTest sameBool halfColumn layerOf extentOf meets member common columnOf decodeOf whole ranged refusedAs rackOk needleOk workOk signedOf carrierCount carriersOf
+ties-computed = refl
 
 -- the pieces
 pub pieces : PiecesHold
 pieces =
-    let (p, e) = and-two (every test rows) _ computed in
-    let (q, r) = and-two (every swapTest swaps) (every pairTest pairs) e in
-    (each Holds test test-says rows p, each Rewrites swapTest swap-says swaps q, each Ties pairTest pair-says pairs r)
+    let (p, e) = and-two (every pairTest pairs) (every pairTest edges) ties-computed in (
+      each Holds rowTest row-says rows rows-computed,
+      each Rewrites swapTest swap-says swaps swaps-computed,
+      each Ties pairTest pair-says pairs p,
+      each Ties pairTest pair-says edges e,
+      refl,
+    )

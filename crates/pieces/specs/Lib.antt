@@ -1,3 +1,5 @@
 -- The pieces to try.
+pub mod Spelled
 pub mod Rows
+pub mod Edges
 pub mod Pieces

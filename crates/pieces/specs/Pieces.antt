@@ -1,43 +1,56 @@
 -- What the rows claim: the definitions of the run, the rewriter and ties, which the code equals, answer each as it says.
-use Prim.Native.Nat.{ℕ, _+_}
+use Prim.Native.Nat.{ℕ, zero, suc, _-_}
 use mathlib.Core.Path.{_≡_}
 use mathlib.Core.List.{List, [], _∷_, _++_}
-use lib.ListN.{length, drop, replicate}
+use lib.ListN.{length, drop}
 use Rattle.machine.specs.declared.Needle.{Needle}
 use Rattle.machine.specs.declared.Carrier.{Carrier}
+use Rattle.machine.specs.declared.Racking.{Racking}
 use Rattle.machine.specs.Machine.{loopsOn, carrierOf, Each}
+use Rattle.run.specs.declared.Answer.{Answer}
 use Rattle.run.specs.Run.{runOf}
 use Rattle.trace.specs.Records.{tied}
 use Rattle.rewrite.specs.Programs.{knitting}
-use Rattle.rewrite.specs.Rewrite.{rackingZero, Rewritten, rewriteOf}
-use Rattle.pieces.specs.Rows.{Row, rows, Swap, swaps, Pair, pairs}
+use Rattle.rewrite.specs.Rewrite.{Rewritten, rewriteOf}
+use Rattle.pieces.specs.Rows.{Expected, Row, rows, Swap, swaps}
+use Rattle.pieces.specs.Edges.{Pair, pairs, edges}
 
-pub record Holds (r : Row) : Type 0 where
-  pub number : runOf (r .program) .number ≡ r .number
-  pub place : runOf (r .program) .place ≡ r .place
-  pub complete : runOf (r .program) .complete ≡ r .complete
-  pub racking : runOf (r .program) .state .racking .0 ≡ r .racking
-  pub hooks : Each (λ (h : Needle × ℕ). loopsOn (runOf (r .program) .state) (h .0) ≡ h .1) (r .hooks)
-  pub carriers : Each (λ (k : ℕ × Carrier). carrierOf (runOf (r .program) .state) (k .0) ≡ k .1) (r .carriers)
+-- an answer is as expected
+pub record Says (a : Answer) (e : Expected) : Type 0 where
+  pub number : a .number ≡ e .number
+  pub place : a .place ≡ e .place
+  pub complete : a .complete ≡ e .complete
+  pub racking : a .state .racking .0 ≡ e .racking
+  pub hooks : Each (λ (h : Needle × ℕ). loopsOn (a .state) (h .0) ≡ h .1) (e .hooks)
+  pub carriers : Each (λ (k : ℕ × Carrier). carrierOf (a .state) (k .0) ≡ k .1) (e .carriers)
 
--- an output and a work area with room to spare, filled with 255 beforehand: what is not written keeps it
-abbrev pub lent : List ℕ → List ℕ
-lent p = replicate (length p + 2) 255
+abbrev pub Holds : Row → Type 0
+Holds r = Says (runOf (r .program)) (r .answer)
 
-abbrev pub front : List ℕ → List ℕ → List ℕ
-front q p = q ++ drop (length q) (lent p)
+-- an output or a work area of a length; it ends .. 253, 254, 255, so that what is not written is seen to stay in place
+abbrev pub lent : ℕ → List ℕ
+lent zero = []
+lent (suc n) = (255 - n) ∷ lent n
+
+abbrev pub front : List ℕ → ℕ → List ℕ
+front q n = q ++ drop (length q) (lent n)
 
 abbrev pub rewritten : Swap → Rewritten
-rewritten r = rewriteOf (r .program) (r .log) (lent (r .program)) (lent (r .program))
+rewritten r = rewriteOf (r .program) (r .log) (lent (r .output)) (lent (r .work))
 
 pub record Rewrites (r : Swap) : Type 0 where
-  pub number : rewritten r .answer .number ≡ r .number
-  pub place : rewritten r .answer .place ≡ r .place
-  pub output : rewritten r .output ≡ front (r .wrote) (r .program)
-  pub work : rewritten r .work ≡ front (r .starts) (r .program)
+  pub answer : Says (rewritten r .answer) (r .answer)
+  pub output : rewritten r .output ≡ front (r .wrote) (r .output)
+  pub work : rewritten r .work ≡ front (r .starts) (r .work)
 
-abbrev pub Ties : Pair → Type 0
-Ties r = tied knitting rackingZero (r .first) (r .second) ≡ r .tied
+-- two records are tied, or not, in either order
+abbrev pub inForce : Pair → Racking
+inForce r = record { 0 = r .racking }
 
+pub record Ties (r : Pair) : Type 0 where
+  pub forth : tied knitting (inForce r) (r .first) (r .second) ≡ r .tied
+  pub back : tied knitting (inForce r) (r .second) (r .first) ≡ r .tied
+
+-- the edges are listed by a function: that many
 abbrev pub PiecesHold : Type 0
-PiecesHold = Each Holds rows × Each Rewrites swaps × Each Ties pairs
+PiecesHold = Each Holds rows × Each Rewrites swaps × Each Ties pairs × Each Ties edges × (length edges ≡ 5592)

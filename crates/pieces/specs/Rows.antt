@@ -1,14 +1,16 @@
--- The starred pieces of document 01, 'Pieces to try', and 11: bytes, what the run and the rewriter answer, and what the rewriter writes.
-use Prim.Native.Nat.{ℕ}
+-- The pieces of document 01, 'Pieces to try', and rows besides them: programs and logs, what the run and the rewriter answer, and what the rewriter writes.
+use Prim.Native.Nat.{ℕ, zero, suc, _+_, _-_}
 use mathlib.Core.Bool.{Bool, true, false}
 use mathlib.Core.List.{List, [], _∷_, _++_}
 use lib.IntN.{ℤ, pos, negsuc}
+use lib.ListN.{length, replicate}
 use Rattle.machine.specs.declared.Needle.{Needle}
 use Rattle.machine.specs.declared.Carrier.{Carrier}
+use Rattle.machine.specs.Machine.{inactive}
+use Rattle.pieces.specs.Spelled.{f, b, left, right, rack, drop, xfer, bring-in, take-out, miss, tuck, knit, split}
 
--- what the run answers: number, place, complete; of the state its racking, some needles with their loops, some carriers
-pub record Row : Type 0 where
-  pub program : List ℕ
+-- what an answer says: number, place, complete; of the state its racking, some needles with their loops, some carriers
+pub record Expected : Type 0 where
   pub number : ℕ
   pub place : ℕ
   pub complete : Bool
@@ -16,42 +18,67 @@ pub record Row : Type 0 where
   pub hooks : List (Needle × ℕ)
   pub carriers : List (ℕ × Carrier)
 
--- a row at racking 0 or another that says nothing of hooks and carriers
-abbrev racked : List ℕ → ℕ → ℕ → Bool → ℤ → Row
-racked p n at done r = record { program = p; number = n; place = at; complete = done; racking = r; hooks = []; carriers = [] }
+abbrev expected : ℕ → ℕ → Bool → ℤ → List (Needle × ℕ) → List (ℕ × Carrier) → Expected
+expected n at done r hs cs = record { number = n; place = at; complete = done; racking = r; hooks = hs; carriers = cs }
 
-abbrev row : List ℕ → ℕ → ℕ → Bool → Row
-row p n at done = racked p n at done (pos 0)
+-- the empty state, which complete says whole
+abbrev empty : ℕ → ℕ → Expected
+empty n at = expected n at true (pos 0) [] []
 
--- a row at racking 0, not complete, with hooks and carriers
+-- a carrier parked at slot z, attached to a needle on a side, or to none
+abbrev parked : ℤ → ℕ → Needle → Carrier
+parked z side n = record { active = 1; side = side; slot = record { 0 = z }; needle = n }
+
+abbrev on-left : ℕ → Needle → Carrier
+on-left z n = parked (pos z) 1 n
+
+abbrev on-right : ℕ → Needle → Carrier
+on-right z n = parked (pos z) 2 n
+
+abbrev unattached : ℕ → Carrier
+unattached z = parked (pos z) 0 (f 0)
+
+-- ---- the run: a program and its answer
+pub record Row : Type 0 where
+  pub program : List ℕ
+  pub answer : Expected
+
+-- rows that end in the empty state; in another at racking 0; at another racking
+abbrev row : List ℕ → ℕ → ℕ → Row
+row p n at = record { program = p; answer = empty n at }
+
 abbrev knitted : List ℕ → ℕ → ℕ → List (Needle × ℕ) → List (ℕ × Carrier) → Row
-knitted p n at hs cs = record { program = p; number = n; place = at; complete = false; racking = pos 0; hooks = hs; carriers = cs }
+knitted p n at hs cs = record { program = p; answer = expected n at false (pos 0) hs cs }
 
-abbrev f : ℕ → Needle
-f n = record { 0 = 0; 1 = n }
+abbrev racked : List ℕ → ℕ → ℕ → ℤ → List (Needle × ℕ) → List (ℕ × Carrier) → Row
+racked p n at r hs cs = record { program = p; answer = expected n at false r hs cs }
 
-abbrev b : ℕ → Needle
-b n = record { 0 = 1; 1 = n }
+-- carrier 3 comes in right at f.10, parked at slot 10
+abbrev in-3 : List ℕ
+in-3 = bring-in right (f 10) 3
 
--- carrier 3 at front needle n: in right, a tuck or a miss in a direction
-abbrev in-right : ℕ → List ℕ
-in-right n = 4 ∷ 1 ∷ 0 ∷ n ∷ 3 ∷ []
+-- four tucks at a needle, right and left in turn, or left and right
+abbrev tucks : Needle → ℕ → List ℕ
+tucks n k = tuck right n k ++ tuck left n k ++ tuck right n k ++ tuck left n k
 
-abbrev tuck : ℕ → ℕ → List ℕ
-tuck right n = 7 ∷ right ∷ 0 ∷ n ∷ 3 ∷ []
+abbrev back-tucks : Needle → ℕ → List ℕ
+back-tucks n k = tuck left n k ++ tuck right n k ++ tuck left n k ++ tuck right n k
 
-abbrev miss : ℕ → List ℕ
-miss n = 6 ∷ 1 ∷ 0 ∷ n ∷ 3 ∷ []
+-- misses of carrier 3: right over so many needles from n on, or left from n down
+abbrev misses-right : (ℕ → Needle) → ℕ → ℕ → List ℕ
+misses-right bed n zero = []
+misses-right bed n (suc count) = miss right (bed n) 3 ++ misses-right bed (suc n) count
 
--- four tucks, right and left in turn
-abbrev four-tucks : List ℕ
-four-tucks = tuck 1 10 ++ (tuck 0 10 ++ (tuck 1 10 ++ tuck 0 10))
+abbrev misses-left : ℕ → ℕ → List ℕ
+misses-left n zero = []
+misses-left n (suc count) = miss left (f n) 3 ++ misses-left (n - 1) count
 
--- misses right over f.11 to f.29
-abbrev misses : List ℕ
-misses =
-    miss 11 ++ (miss 12 ++ (miss 13 ++ (miss 14 ++ (miss 15 ++ (miss 16 ++ (miss 17 ++ (miss 18 ++ (miss 19 ++ (miss 20
-    ++ (miss 21 ++ (miss 22 ++ (miss 23 ++ (miss 24 ++ (miss 25 ++ (miss 26 ++ (miss 27 ++ (miss 28 ++ miss 29)))))))))))))))))
+-- carrier 3 attached to f.10, on its right, and led on over f.11 to f.29 (to slot 30), or to f.30 (to slot 31)
+abbrev led-20 : List ℕ
+led-20 = in-3 ++ tuck right (f 10) 3 ++ misses-right f 11 19
+
+abbrev led-21 : List ℕ
+led-21 = in-3 ++ tuck right (f 10) 3 ++ misses-right f 11 20
 
 -- piece 8's program P
 abbrev P : List ℕ
@@ -59,104 +86,316 @@ P = 4 ∷ 1 ∷ 0 ∷ 10 ∷ 3 ∷ 4 ∷ 1 ∷ 1 ∷ 10 ∷ 4 ∷ 8 ∷ 1 ∷ 0 
 
 -- piece 9's program
 abbrev in-out-in : List ℕ
-in-out-in = in-right 10 ++ ((5 ∷ 0 ∷ 0 ∷ 10 ∷ 3 ∷ []) ++ in-right 50)
+in-out-in = in-3 ++ take-out left (f 10) 3 ++ bring-in right (f 50) 3
 
--- parked at slot z, attached to a needle on a side (1 left, 2 right), or to none
-abbrev attached : ℕ → Needle → ℕ → Carrier
-attached z n side = record { active = 1; side = side; slot = record { 0 = pos z }; needle = n }
-
-abbrev unattached : ℕ → Carrier
-unattached z = attached z (f 0) 0
-
-abbrev pub rows : List Row
-rows =
+-- the pieces
+abbrev pieces : List Row
+pieces =
     -- 1: the empty program
-    row [] 0 0 true
+    row [] 0 0
     -- 2: rack bytes 08 and F8 pass, 09 and F7 give 5
-    ∷ racked (1 ∷ 8 ∷ []) 0 0 false (pos 8)
-    ∷ racked (1 ∷ 248 ∷ []) 0 0 false (negsuc 7)
-    ∷ row (1 ∷ 9 ∷ []) 5 0 true
-    ∷ row (1 ∷ 247 ∷ []) 5 0 true
+    ∷ racked (1 ∷ 8 ∷ []) 0 0 (pos 8) [] []
+    ∷ racked (1 ∷ 248 ∷ []) 0 0 (negsuc 7) [] []
+    ∷ row (1 ∷ 9 ∷ []) 5 0
+    ∷ row (1 ∷ 247 ∷ []) 5 0
     -- 3: drop f.249 passes, f.250 gives 5
-    ∷ row (2 ∷ 0 ∷ 249 ∷ []) 0 0 true
-    ∷ row (2 ∷ 0 ∷ 250 ∷ []) 5 0 true
+    ∷ row (2 ∷ 0 ∷ 249 ∷ []) 0 0
+    ∷ row (2 ∷ 0 ∷ 250 ∷ []) 5 0
     -- 4: in right f.10, knit left there: 8 at place 5
-    ∷ knitted (in-right 10 ++ (8 ∷ 0 ∷ 0 ∷ 10 ∷ 3 ∷ [])) 8 5 ((f 10, 0) ∷ []) ((3, unattached 10) ∷ [])
+    ∷ knitted (in-3 ++ knit left (f 10) 3) 8 5 ((f 10, 0) ∷ []) ((3, unattached 10) ∷ [])
     -- 5: rack 2: xfer f.12 to b.10 passes, f.8 to b.10 gives 10
-    ∷ racked (1 ∷ 2 ∷ 3 ∷ 0 ∷ 12 ∷ 10 ∷ []) 0 0 false (pos 2)
-    ∷ racked (1 ∷ 2 ∷ 3 ∷ 0 ∷ 8 ∷ 10 ∷ []) 10 2 false (pos 2)
+    ∷ racked (1 ∷ 2 ∷ 3 ∷ 0 ∷ 12 ∷ 10 ∷ []) 0 0 (pos 2) [] []
+    ∷ racked (1 ∷ 2 ∷ 3 ∷ 0 ∷ 8 ∷ 10 ∷ []) 10 2 (pos 2) [] []
     -- 6: eight tucks pass, the ninth gives 11 at 45
-    ∷ knitted (in-right 10 ++ (four-tucks ++ four-tucks)) 0 0 ((f 10, 8) ∷ []) ((3, attached 10 (f 10) 1) ∷ [])
-    ∷ knitted (in-right 10 ++ (four-tucks ++ (four-tucks ++ tuck 1 10))) 11 45 ((f 10, 8) ∷ []) ((3, attached 10 (f 10) 1) ∷ [])
+    ∷ knitted (in-3 ++ tucks (f 10) 3 ++ tucks (f 10) 3) 0 0 ((f 10, 8) ∷ []) ((3, on-left 10 (f 10)) ∷ [])
+    ∷ knitted (in-3 ++ tucks (f 10) 3 ++ tucks (f 10) 3 ++ tuck right (f 10) 3) 11 45 ((f 10, 8) ∷ []) ((3, on-left 10 (f 10)) ∷ [])
     -- 7: a float of 20 columns passes, one of 21 gives 9
-    ∷ knitted (in-right 10 ++ (tuck 1 10 ++ (misses ++ tuck 1 30))) 0 0 ((f 10, 1) ∷ (f 30, 1) ∷ []) ((3, attached 31 (f 30) 2) ∷ [])
-    ∷ knitted (in-right 10 ++ (tuck 1 10 ++ (misses ++ (miss 30 ++ tuck 1 31)))) 9 110 ((f 31, 0) ∷ []) ((3, attached 31 (f 10) 2) ∷ [])
+    ∷ knitted (led-20 ++ tuck right (f 30) 3) 0 0 ((f 10, 1) ∷ (f 30, 1) ∷ []) ((3, on-right 31 (f 30)) ∷ [])
+    ∷ knitted (led-21 ++ tuck right (f 31) 3) 9 110 ((f 31, 0) ∷ []) ((3, on-right 31 (f 10)) ∷ [])
     -- 8: P runs to the state that 01 lists
-    ∷ knitted P 0 0 ((f 10, 1) ∷ (b 10, 1) ∷ []) ((3, attached 11 (f 10) 2) ∷ (4, attached 11 (b 10) 2) ∷ [])
+    ∷ knitted P 0 0 ((f 10, 1) ∷ (b 10, 1) ∷ []) ((3, on-right 11 (f 10)) ∷ (4, on-right 11 (b 10)) ∷ [])
     -- 9: in right f.10, out left f.10, in right f.50: runs
     ∷ knitted in-out-in 0 0 [] ((3, unattached 50) ∷ [])
-    -- besides: an xfer takes a loop and an attachment along; a split does so and forms a loop
-    ∷ knitted (in-right 10 ++ (tuck 1 10 ++ (3 ∷ 0 ∷ 10 ∷ 10 ∷ []))) 0 0 ((f 10, 0) ∷ (b 10, 1) ∷ []) ((3, attached 11 (b 10) 2) ∷ [])
-    ∷ knitted (in-right 10 ++ (tuck 1 10 ++ (9 ∷ 0 ∷ 0 ∷ 10 ∷ 3 ∷ 10 ∷ []))) 0 0 ((f 10, 1) ∷ (b 10, 1) ∷ []) ((3, attached 10 (f 10) 1) ∷ [])
+    -- 12: kind 00 gives 3, bytes 08 01 give 4
+    ∷ row (0 ∷ []) 3 0
+    ∷ row (8 ∷ 1 ∷ []) 4 0
     ∷ []
 
--- ---- the rewriter: program and log, number and place, the program at the front of the output and the starts at the front of the work area
+-- each kind's step
+abbrev steps : List Row
+steps =
+    -- rack: parked slots stay, the needles of the back bed pass by them
+    racked (bring-in right (b 10) 3 ++ rack 2) 0 0 (pos 2) [] ((3, unattached 10) ∷ [])
+    ∷ racked (bring-in right (b 10) 3 ++ rack 2 ++ knit right (b 8) 3) 0 0 (pos 2) ((b 8, 1) ∷ (b 10, 0) ∷ []) ((3, on-right 11 (b 8)) ∷ [])
+    ∷ row (rack 2 ++ rack 0) 0 0
+    -- drop: of two loops, the attachment remains; of none
+    ∷ knitted (in-3 ++ tuck right (f 10) 3 ++ tuck left (f 10) 3 ++ drop (f 10)) 0 0 ((f 10, 0) ∷ []) ((3, on-left 10 (f 10)) ∷ [])
+    ∷ knitted (P ++ drop (b 10) ++ drop (b 10)) 0 0 ((f 10, 1) ∷ (b 10, 0) ∷ []) ((3, on-right 11 (f 10)) ∷ (4, on-right 11 (b 10)) ∷ [])
+    -- in: right at slot z, left at slot z + 1
+    ∷ knitted (bring-in right (f 10) 3) 0 0 [] ((3, unattached 10) ∷ [])
+    ∷ knitted (bring-in left (f 10) 3) 0 0 [] ((3, unattached 11) ∷ [])
+    -- out: inactive and unattached, the loop remains; with nothing left the state is the empty one
+    ∷ knitted (in-3 ++ knit right (f 10) 3 ++ take-out right (f 10) 3) 0 0 ((f 10, 1) ∷ []) ((3, inactive) ∷ [])
+    ∷ row (in-3 ++ knit right (f 10) 3 ++ take-out right (f 10) 3 ++ drop (f 10)) 0 0
+    -- miss: right and left; with an attachment, which it keeps; past 20 columns
+    ∷ knitted (in-3 ++ miss right (f 10) 3) 0 0 ((f 10, 0) ∷ []) ((3, unattached 11) ∷ [])
+    ∷ knitted (bring-in left (f 10) 3 ++ miss left (f 10) 3) 0 0 ((f 10, 0) ∷ []) ((3, unattached 10) ∷ [])
+    ∷ knitted (led-21 ++ miss right (f 31) 3) 0 0 ((f 10, 1) ∷ (f 31, 0) ∷ []) ((3, on-right 32 (f 10)) ∷ [])
+    -- tuck: one loop more, attached on the side it moved to
+    ∷ knitted (in-3 ++ tuck right (f 10) 3) 0 0 ((f 10, 1) ∷ []) ((3, on-right 11 (f 10)) ∷ [])
+    ∷ knitted (in-3 ++ tuck right (f 10) 3 ++ tuck left (f 10) 3) 0 0 ((f 10, 2) ∷ []) ((3, on-left 10 (f 10)) ∷ [])
+    -- knit: over two loops, over eight, over none
+    ∷ knitted (in-3 ++ tuck right (f 10) 3 ++ tuck left (f 10) 3 ++ knit right (f 10) 3) 0 0 ((f 10, 1) ∷ []) ((3, on-right 11 (f 10)) ∷ [])
+    ∷ knitted (in-3 ++ tucks (f 10) 3 ++ tucks (f 10) 3 ++ knit right (f 10) 3) 0 0 ((f 10, 1) ∷ []) ((3, on-right 11 (f 10)) ∷ [])
+    ∷ knitted (bring-in left (b 10) 3 ++ knit left (b 10) 3) 0 0 ((b 10, 1) ∷ []) ((3, on-left 10 (b 10)) ∷ [])
+    -- xfer: a loop and an attachment, front to back and back to front; of none
+    ∷ knitted (in-3 ++ tuck right (f 10) 3 ++ xfer (f 10) 10) 0 0 ((f 10, 0) ∷ (b 10, 1) ∷ []) ((3, on-right 11 (b 10)) ∷ [])
+    ∷ knitted (bring-in right (b 10) 3 ++ tuck right (b 10) 3 ++ xfer (b 10) 10) 0 0 ((f 10, 1) ∷ (b 10, 0) ∷ []) ((3, on-right 11 (f 10)) ∷ [])
+    ∷ row (xfer (b 10) 10) 0 0
+    -- two carriers' attachments with their sides; one at another needle stays
+    ∷ knitted
+    (bring-in right (f 10) 1 ++ tuck right (f 10) 1 ++ bring-in left (f 10) 3 ++ tuck left (f 10) 3 ++ bring-in right (f 11) 4 ++ tuck right (f 11) 4 ++ xfer (f 10) 10)
+    0 0 ((f 10, 0) ∷ (b 10, 2) ∷ (f 11, 1) ∷ []) ((1, on-right 11 (b 10)) ∷ (3, on-left 10 (b 10)) ∷ (4, on-right 12 (f 11)) ∷ [])
+    -- split: its own attachment ends at the needle it works, another carrier's goes along
+    ∷ knitted (in-3 ++ tuck right (f 10) 3 ++ split left (f 10) 3 10) 0 0 ((f 10, 1) ∷ (b 10, 1) ∷ []) ((3, on-left 10 (f 10)) ∷ [])
+    ∷ knitted (bring-in right (f 10) 1 ++ tuck right (f 10) 1 ++ in-3 ++ split right (f 10) 3 10) 0 0 ((f 10, 1) ∷ (b 10, 1) ∷ [])
+    ((1, on-right 11 (b 10)) ∷ (3, on-right 11 (f 10)) ∷ [])
+    ∷ racked (rack 2 ++ bring-in right (f 12) 3 ++ split right (f 12) 3 10) 0 0 (pos 2) ((f 12, 1) ∷ (b 10, 0) ∷ []) ((3, on-right 13 (f 12)) ∷ [])
+    -- eight loops in all pass
+    ∷ knitted (in-3 ++ tucks (f 10) 3 ++ tucks (b 10) 3 ++ xfer (f 10) 10) 0 0 ((f 10, 0) ∷ (b 10, 8) ∷ []) ((3, on-left 10 (b 10)) ∷ [])
+    ∷ knitted (in-3 ++ tucks (f 10) 3 ++ tucks (b 10) 3 ++ split right (f 10) 3 10) 0 0 ((f 10, 1) ∷ (b 10, 8) ∷ []) ((3, on-right 11 (f 10)) ∷ [])
+    -- the first and the last needle, column, slot and carrier
+    ∷ knitted (bring-in right (f 0) 1 ++ bring-in left (b 249) 10) 0 0 [] ((1, unattached 0) ∷ (10, unattached 250) ∷ [])
+    ∷ racked (rack 248 ++ bring-in right (b 0) 3) 0 0 (negsuc 7) [] ((3, parked (negsuc 7) 0 (f 0)) ∷ [])
+    ∷ racked (rack 248 ++ bring-in left (b 0) 3 ++ tuck left (b 0) 3) 0 0 (negsuc 7) ((b 0, 1) ∷ []) ((3, parked (negsuc 7) 1 (b 0)) ∷ [])
+    ∷ racked (rack 8 ++ bring-in left (b 249) 3) 0 0 (pos 8) [] ((3, unattached 258) ∷ [])
+    ∷ racked (rack 8 ++ bring-in right (b 249) 3 ++ knit right (b 249) 3) 0 0 (pos 8) ((b 249, 1) ∷ []) ((3, on-right 258 (b 249)) ∷ [])
+    ∷ racked (rack 248 ++ bring-in left (b 7) 3 ++ miss left (b 7) 3) 0 0 (negsuc 7) [] ((3, parked (negsuc 0) 0 (f 0)) ∷ [])
+    -- columns, not needles, are opposite: column 0; −8 is not 8
+    ∷ racked (rack 248 ++ xfer (b 8) 0) 0 0 (negsuc 7) [] []
+    ∷ racked (rack 248 ++ xfer (b 0) 8) 10 2 (negsuc 7) [] []
+    ∷ []
+
+-- floats of 20 and 21 columns
+abbrev floats : List Row
+floats =
+    -- knit and split as tuck
+    knitted (led-20 ++ knit right (f 30) 3) 0 0 ((f 30, 1) ∷ []) ((3, on-right 31 (f 30)) ∷ [])
+    ∷ knitted (led-21 ++ knit right (f 31) 3) 9 110 ((f 31, 0) ∷ []) ((3, on-right 31 (f 10)) ∷ [])
+    ∷ knitted (led-20 ++ split right (f 30) 3 30) 0 0 ((f 30, 1) ∷ (b 30, 0) ∷ []) ((3, on-right 31 (f 30)) ∷ [])
+    ∷ knitted (led-21 ++ split right (f 31) 3 31) 9 110 ((f 31, 0) ∷ []) ((3, on-right 31 (f 10)) ∷ [])
+    -- to the left
+    ∷ knitted (bring-in left (f 30) 3 ++ tuck left (f 30) 3 ++ misses-left 29 19 ++ tuck left (f 10) 3) 0 0 ((f 30, 1) ∷ (f 10, 1) ∷ []) ((3, on-left 10 (f 10)) ∷ [])
+    ∷ knitted (bring-in left (f 30) 3 ++ tuck left (f 30) 3 ++ misses-left 29 20 ++ tuck left (f 9) 3) 9 110 ((f 30, 1) ∷ (f 9, 0) ∷ []) ((3, on-left 10 (f 30)) ∷ [])
+    -- from column −8 to 12 and to 13
+    ∷ racked (rack 248 ++ bring-in right (b 0) 3 ++ tuck right (b 0) 3 ++ misses-right b 1 19 ++ tuck right (b 20) 3) 0 0 (negsuc 7) ((b 0, 1) ∷ (b 20, 1) ∷ [])
+    ((3, on-right 13 (b 20)) ∷ [])
+    ∷ racked (rack 248 ++ bring-in right (b 0) 3 ++ tuck right (b 0) 3 ++ misses-right b 1 20 ++ tuck right (b 21) 3) 9 112 (negsuc 7) ((b 0, 1) ∷ (b 21, 0) ∷ [])
+    ((3, on-right 13 (b 0)) ∷ [])
+    -- 'both columns at the current racking': rack −1 makes 20 columns 21, rack 1 makes 21 columns 20
+    ∷ racked (bring-in right (b 10) 3 ++ knit right (b 10) 3 ++ misses-right f 11 19 ++ rack 255 ++ tuck right (f 30) 3) 9 107 (negsuc 0) ((b 10, 1) ∷ (f 30, 0) ∷ [])
+    ((3, on-right 30 (b 10)) ∷ [])
+    ∷ racked (bring-in right (b 10) 3 ++ knit right (b 10) 3 ++ misses-right f 11 20 ++ rack 1 ++ tuck right (f 31) 3) 0 0 (pos 1) ((b 10, 1) ∷ (f 31, 1) ∷ [])
+    ((3, on-right 32 (f 31)) ∷ [])
+    -- no attachment, no float
+    ∷ knitted (in-3 ++ misses-right f 10 21 ++ tuck right (f 31) 3) 0 0 ((f 31, 1) ∷ []) ((3, on-right 32 (f 31)) ∷ [])
+    ∷ []
+
+-- each number, and which of two comes first
+abbrev refusals : List Row
+refusals =
+    -- 1, and one byte fewer
+    row (replicate 32769 0) 1 0
+    ∷ row (replicate 32768 0) 3 0
+    -- 3: also behind a record; before 4
+    ∷ row (10 ∷ []) 3 0
+    ∷ row (255 ∷ 0 ∷ 0 ∷ 0 ∷ 0 ∷ 0 ∷ []) 3 0
+    ∷ knitted (in-3 ++ (0 ∷ [])) 3 5 [] ((3, unattached 10) ∷ [])
+    -- 4: each kind without its last byte; before 5
+    ∷ row (1 ∷ []) 4 0
+    ∷ row (2 ∷ 0 ∷ []) 4 0
+    ∷ row (3 ∷ 0 ∷ 10 ∷ []) 4 0
+    ∷ row (4 ∷ 1 ∷ 0 ∷ 10 ∷ []) 4 0
+    ∷ row (5 ∷ 1 ∷ 0 ∷ 10 ∷ []) 4 0
+    ∷ row (6 ∷ 1 ∷ 0 ∷ 10 ∷ []) 4 0
+    ∷ row (7 ∷ 1 ∷ 0 ∷ 10 ∷ []) 4 0
+    ∷ row (8 ∷ 1 ∷ 0 ∷ 10 ∷ []) 4 0
+    ∷ row (9 ∷ 1 ∷ 0 ∷ 10 ∷ 3 ∷ []) 4 0
+    ∷ row (9 ∷ []) 4 0
+    ∷ row (8 ∷ 2 ∷ 2 ∷ 250 ∷ []) 4 0
+    ∷ knitted (in-3 ++ (3 ∷ 2 ∷ 250 ∷ [])) 4 5 [] ((3, unattached 10) ∷ [])
+    -- 5: each field; before 6, 7, 8 and 10
+    ∷ row (2 ∷ 2 ∷ 10 ∷ []) 5 0
+    ∷ row (3 ∷ 2 ∷ 10 ∷ 10 ∷ []) 5 0
+    ∷ row (3 ∷ 0 ∷ 250 ∷ 10 ∷ []) 5 0
+    ∷ row (3 ∷ 0 ∷ 10 ∷ 250 ∷ []) 5 0
+    ∷ row (8 ∷ 2 ∷ 0 ∷ 10 ∷ 3 ∷ []) 5 0
+    ∷ row (8 ∷ 1 ∷ 2 ∷ 10 ∷ 3 ∷ []) 5 0
+    ∷ row (8 ∷ 1 ∷ 0 ∷ 250 ∷ 3 ∷ []) 5 0
+    ∷ row (8 ∷ 1 ∷ 0 ∷ 10 ∷ 0 ∷ []) 5 0
+    ∷ row (8 ∷ 1 ∷ 0 ∷ 10 ∷ 11 ∷ []) 5 0
+    ∷ row (9 ∷ 1 ∷ 0 ∷ 10 ∷ 3 ∷ 250 ∷ []) 5 0
+    ∷ knitted (in-3 ++ bring-in right (f 250) 3) 5 5 [] ((3, unattached 10) ∷ [])
+    ∷ knitted (in-3 ++ knit left (f 250) 3) 5 5 [] ((3, unattached 10) ∷ [])
+    -- 6
+    ∷ knitted (in-3 ++ bring-in right (f 20) 3) 6 5 [] ((3, unattached 10) ∷ [])
+    -- 7: any other use; before 10 and 11
+    ∷ row (take-out right (f 10) 3) 7 0
+    ∷ row (miss right (f 10) 3) 7 0
+    ∷ row (tuck right (f 10) 3) 7 0
+    ∷ row (knit right (f 10) 3) 7 0
+    ∷ row (split right (f 10) 3 10) 7 0
+    ∷ row (split right (f 10) 3 11) 7 0
+    ∷ knitted (in-3 ++ tucks (f 10) 3 ++ tucks (f 10) 3 ++ tuck right (f 10) 4) 7 45 ((f 10, 8) ∷ []) ((3, on-left 10 (f 10)) ∷ (4, inactive) ∷ [])
+    -- 8: out at the entry slot, the rest at the exit slot; before 9, 10 and 11
+    ∷ knitted (in-3 ++ take-out right (f 10) 3) 8 5 [] ((3, unattached 10) ∷ [])
+    ∷ knitted (in-3 ++ miss left (f 10) 3) 8 5 [] ((3, unattached 10) ∷ [])
+    ∷ knitted (in-3 ++ tuck left (f 10) 3) 8 5 ((f 10, 0) ∷ []) ((3, unattached 10) ∷ [])
+    ∷ knitted (in-3 ++ split left (f 10) 3 10) 8 5 ((f 10, 0) ∷ []) ((3, unattached 10) ∷ [])
+    ∷ knitted (bring-in left (f 10) 3 ++ knit right (f 10) 3) 8 5 ((f 10, 0) ∷ []) ((3, unattached 11) ∷ [])
+    ∷ knitted (led-21 ++ tuck right (f 40) 3) 8 110 ((f 40, 0) ∷ []) ((3, on-right 31 (f 10)) ∷ [])
+    ∷ knitted (in-3 ++ split left (f 10) 3 11) 8 5 ((f 10, 0) ∷ []) ((3, unattached 10) ∷ [])
+    ∷ knitted (in-3 ++ tucks (f 10) 3 ++ tucks (f 10) 3 ++ tuck left (f 10) 3) 8 45 ((f 10, 8) ∷ []) ((3, on-left 10 (f 10)) ∷ [])
+    -- 9 before 10 and 11
+    ∷ knitted (led-21 ++ split right (f 31) 3 30) 9 110 ((f 31, 0) ∷ []) ((3, on-right 31 (f 10)) ∷ [])
+    ∷ knitted (bring-in right (f 31) 4 ++ tucks (f 31) 4 ++ tucks (f 31) 4 ++ led-21 ++ tuck right (f 31) 3) 9 155 ((f 31, 8) ∷ [])
+    ((3, on-right 31 (f 10)) ∷ (4, on-left 31 (f 31)) ∷ [])
+    -- 10 of a split; before 11
+    ∷ knitted (in-3 ++ split right (f 10) 3 11) 10 5 ((f 10, 0) ∷ (b 11, 0) ∷ []) ((3, unattached 10) ∷ [])
+    ∷ knitted (in-3 ++ tucks (f 10) 3 ++ tuck right (f 10) 3 ++ tucks (b 11) 3 ++ xfer (f 10) 11) 10 50 ((f 10, 5) ∷ (b 11, 4) ∷ []) ((3, on-left 11 (b 11)) ∷ [])
+    -- 11: nine loops in all
+    ∷ knitted (in-3 ++ tucks (f 10) 3 ++ tuck right (f 10) 3 ++ back-tucks (b 10) 3 ++ xfer (f 10) 10) 11 50 ((f 10, 5) ∷ (b 10, 4) ∷ []) ((3, on-right 11 (b 10)) ∷ [])
+    ∷ knitted (in-3 ++ tucks (f 10) 3 ++ tuck right (f 10) 3 ++ back-tucks (b 10) 3 ++ split left (f 10) 3 10) 11 50 ((f 10, 5) ∷ (b 10, 4) ∷ [])
+    ((3, on-right 11 (b 10)) ∷ [])
+    ∷ []
+
+abbrev pub rows : List Row
+rows = pieces ++ steps ++ floats ++ refusals
+
+-- ---- the rewriter: program, log, the lengths of output and work area; its answer, the program at the front of the output and the starts at the front of the work area
 pub record Swap : Type 0 where
   pub program : List ℕ
   pub log : List ℕ
-  pub number : ℕ
-  pub place : ℕ
+  pub output : ℕ
+  pub work : ℕ
+  pub answer : Expected
   pub wrote : List ℕ
   pub starts : List ℕ
 
-abbrev swap : List ℕ → List ℕ → ℕ → ℕ → List ℕ → List ℕ → Swap
-swap p log n at q v = record { program = p; log = log; number = n; place = at; wrote = q; starts = v }
+abbrev lending : List ℕ → List ℕ → ℕ → ℕ → Expected → List ℕ → List ℕ → Swap
+lending p log output work a q v = record { program = p; log = log; output = output; work = work; answer = a; wrote = q; starts = v }
 
--- P after its log, as 01 lists it; P with carrier 5 for 3
+-- with room to spare
+abbrev swap : List ℕ → List ℕ → Expected → List ℕ → List ℕ → Swap
+swap p log a q v = lending p log (length p + 2) (length p + 2) a q v
+
+-- refused in the empty state, nothing written
+abbrev unmade : List ℕ → List ℕ → ℕ → ℕ → ℕ → Swap
+unmade p log output work n = lending p log output work (empty n 0) [] []
+
+-- a log record, below position 256
+abbrev at : ℕ → List ℕ
+at i = 64 ∷ 0 ∷ i ∷ []
+
+-- P after its log, as 01 lists it, and its final state
 abbrev swapped-P : List ℕ
 swapped-P = 4 ∷ 1 ∷ 0 ∷ 10 ∷ 3 ∷ 4 ∷ 1 ∷ 1 ∷ 10 ∷ 4 ∷ 8 ∷ 1 ∷ 1 ∷ 10 ∷ 4 ∷ 8 ∷ 1 ∷ 0 ∷ 10 ∷ 3 ∷ []
 
+abbrev of-P : ℕ → ℕ → Expected
+of-P n place = expected n place false (pos 0) ((f 10, 1) ∷ (b 10, 1) ∷ []) ((3, on-right 11 (f 10)) ∷ (4, on-right 11 (b 10)) ∷ (5, inactive) ∷ [])
+
+abbrev fives : List ℕ
+fives = 0 ∷ 5 ∷ 10 ∷ 15 ∷ []
+
+-- P with carrier 5 for 3
 abbrev P-5 : List ℕ
-P-5 = 4 ∷ 1 ∷ 0 ∷ 10 ∷ 5 ∷ 4 ∷ 1 ∷ 1 ∷ 10 ∷ 4 ∷ 8 ∷ 1 ∷ 0 ∷ 10 ∷ 5 ∷ 8 ∷ 1 ∷ 1 ∷ 10 ∷ 4 ∷ []
+P-5 = bring-in right (f 10) 5 ++ bring-in right (b 10) 4 ++ knit right (f 10) 5 ++ knit right (b 10) 4
 
-abbrev fours : List ℕ
-fours = 0 ∷ 5 ∷ 10 ∷ 15 ∷ []
-
--- piece 10's pair with carrier 1 brought in before it: an xfer from f.n to b.n
+-- piece 10's pair with carrier 1 brought in before it, and its final state
 abbrev in-1 : List ℕ
-in-1 = 4 ∷ 1 ∷ 0 ∷ 10 ∷ 1 ∷ []
+in-1 = bring-in right (f 10) 1
 
 abbrev tuck-1 : List ℕ
-tuck-1 = 7 ∷ 1 ∷ 0 ∷ 10 ∷ 1 ∷ []
+tuck-1 = tuck right (f 10) 1
 
-abbrev xfer : ℕ → List ℕ
-xfer n = 3 ∷ 0 ∷ n ∷ n ∷ []
+abbrev tucked : ℕ → Needle → Expected
+tucked n at-needle = expected n 0 false (pos 0) ((at-needle, 1) ∷ []) ((1, on-right 11 at-needle) ∷ [])
+
+-- 256 racks to 0
+abbrev racks : ℕ → List ℕ
+racks zero = []
+racks (suc n) = rack 0 ++ racks n
+
+abbrev evens : ℕ → ℕ → List ℕ
+evens place zero = []
+evens place (suc n) = place ∷ evens (place + 2) n
 
 abbrev pub swaps : List Swap
 swaps =
     -- 1: an empty log: the output equals the program
-    swap [] [] 0 0 [] []
-    ∷ swap P [] 0 0 P fours
+    swap [] [] (empty 0 0) [] []
+    ∷ swap P [] (of-P 0 0) P fives
     -- 8: the two knits change places; with carrier 5 for 3 they are tied
-    ∷ swap P (64 ∷ 0 ∷ 2 ∷ []) 0 0 swapped-P fours
-    ∷ swap P-5 (64 ∷ 0 ∷ 2 ∷ []) 13 0 P-5 fours
+    ∷ swap P (at 2) (of-P 0 0) swapped-P fives
+    ∷ swap P-5 (at 2) (expected 13 0 false (pos 0) ((f 10, 1) ∷ (b 10, 1) ∷ []) ((4, on-right 11 (b 10)) ∷ (5, on-right 11 (f 10)) ∷ [])) P-5 fives
     -- 9: extents apart, but one carrier
-    ∷ swap in-out-in (64 ∷ 0 ∷ 1 ∷ []) 13 0 in-out-in (0 ∷ 5 ∷ 10 ∷ [])
-    -- 10: the starts follow the lengths; tied at one column
-    ∷ swap (in-1 ++ (tuck-1 ++ xfer 11)) (64 ∷ 0 ∷ 1 ∷ []) 0 0 (in-1 ++ (xfer 11 ++ tuck-1)) (0 ∷ 5 ∷ 9 ∷ [])
-    ∷ swap (in-1 ++ (tuck-1 ++ xfer 10)) (64 ∷ 0 ∷ 1 ∷ []) 13 0 (in-1 ++ (tuck-1 ++ xfer 10)) (0 ∷ 5 ∷ 10 ∷ [])
+    ∷ swap in-out-in (at 1) (expected 13 0 false (pos 0) [] ((3, unattached 50) ∷ [])) in-out-in (0 ∷ 5 ∷ 10 ∷ [])
+    -- 10: the starts follow the lengths; tied in one column
+    ∷ swap (in-1 ++ tuck-1 ++ xfer (f 11) 11) (at 1) (tucked 0 (f 10)) (in-1 ++ xfer (f 11) 11 ++ tuck-1) (0 ∷ 5 ∷ 9 ∷ [])
+    ∷ swap (in-1 ++ tuck-1 ++ xfer (f 10) 10) (at 1) (tucked 13 (b 10)) (in-1 ++ tuck-1 ++ xfer (f 10) 10) (0 ∷ 5 ∷ 10 ∷ [])
     -- 11: no pair; a torn log after a swap that was made
-    ∷ swap P (64 ∷ 0 ∷ 3 ∷ []) 12 0 P fours
-    ∷ swap P (64 ∷ 0 ∷ 2 ∷ 64 ∷ []) 14 3 swapped-P fours
-    -- besides: a program that is refused is not written
-    ∷ swap (1 ∷ 9 ∷ []) (64 ∷ 0 ∷ 0 ∷ []) 5 0 [] []
+    ∷ swap P (at 3) (of-P 12 0) P fives
+    ∷ swap P (at 2 ++ (64 ∷ [])) (of-P 14 3) swapped-P fives
+    -- two swaps; one and back; one record past two
+    ∷ swap P (at 2 ++ at 0) (of-P 0 0) (bring-in right (b 10) 4 ++ bring-in right (f 10) 3 ++ knit right (b 10) 4 ++ knit right (f 10) 3) fives
+    ∷ swap P (at 2 ++ at 2) (of-P 0 0) P fives
+    ∷ swap (in-1 ++ tuck-1 ++ xfer (f 11) 11 ++ drop (f 20)) (at 1 ++ at 2) (tucked 0 (f 10)) (in-1 ++ xfer (f 11) 11 ++ drop (f 20) ++ tuck-1) (0 ∷ 5 ∷ 9 ∷ 12 ∷ [])
+    -- complete
+    ∷ swap (drop (f 1) ++ drop (f 2)) (at 0) (empty 0 0) (drop (f 2) ++ drop (f 1)) (0 ∷ 3 ∷ [])
+    ∷ swap (in-3 ++ bring-in right (f 50) 4 ++ take-out left (f 10) 3 ++ take-out left (f 50) 4) (at 1) (empty 0 0)
+    (in-3 ++ take-out left (f 10) 3 ++ bring-in right (f 50) 4 ++ take-out left (f 50) 4) fives
+    -- the racking in force: at racking 2 f.12 and b.10 are in one column, f.10 is not; no record passes a rack
+    ∷ swap (rack 2 ++ drop (f 12) ++ xfer (b 10) 12) (at 1) (expected 13 0 false (pos 2) [] []) (rack 2 ++ drop (f 12) ++ xfer (b 10) 12) (0 ∷ 2 ∷ 5 ∷ [])
+    ∷ swap (rack 2 ++ drop (f 10) ++ xfer (b 10) 12) (at 1) (expected 0 0 false (pos 2) [] []) (rack 2 ++ xfer (b 10) 12 ++ drop (f 10)) (0 ∷ 2 ∷ 6 ∷ [])
+    ∷ swap (rack 2 ++ rack 0 ++ drop (f 12) ++ xfer (b 10) 10) (at 2) (empty 0 0) (rack 2 ++ rack 0 ++ xfer (b 10) 10 ++ drop (f 12)) (0 ∷ 2 ∷ 4 ∷ 8 ∷ [])
+    ∷ swap (drop (f 1) ++ rack 0) (at 0) (empty 13 0) (drop (f 1) ++ rack 0) (0 ∷ 3 ∷ [])
+    ∷ swap (rack 0 ++ drop (f 1)) (at 0) (empty 13 0) (rack 0 ++ drop (f 1)) (0 ∷ 2 ∷ [])
+    -- 12: one record, none; a position's high byte comes first; after a swap that was made
+    ∷ swap (drop (f 1)) (at 0) (empty 12 0) (drop (f 1)) (0 ∷ [])
+    ∷ swap [] (at 0) (empty 12 0) [] []
+    ∷ swap P (64 ∷ 2 ∷ 0 ∷ []) (of-P 12 0) P fives
+    ∷ swap (racks 256 ++ drop (f 1) ++ xfer (f 2) 2) (64 ∷ 1 ∷ 0 ∷ []) (empty 0 0) (racks 256 ++ xfer (f 2) 2 ++ drop (f 1)) (evens 0 256 ++ (512 ∷ 516 ∷ []))
+    ∷ swap P (at 2 ++ at 3) (of-P 12 3) swapped-P fives
+    -- 13 after a swap that was made: in and knit of carrier 4
+    ∷ swap P (at 2 ++ at 1) (of-P 13 3) swapped-P fives
+    ∷ swap P (at 2 ++ at 1 ++ at 2) (of-P 13 3) swapped-P fives
+    -- 14: one byte, two; kinds 3F, 41 and 42, first and after a swap that was made; before 12
+    ∷ swap P (64 ∷ []) (of-P 14 0) P fives
+    ∷ swap P (64 ∷ 0 ∷ []) (of-P 14 0) P fives
+    ∷ swap P (63 ∷ 0 ∷ 2 ∷ []) (of-P 14 0) P fives
+    ∷ swap P (65 ∷ 0 ∷ 2 ∷ []) (of-P 14 0) P fives
+    ∷ swap P (66 ∷ 0 ∷ 2 ∷ []) (of-P 14 0) P fives
+    ∷ swap P (at 2 ++ (63 ∷ 0 ∷ 2 ∷ [])) (of-P 14 3) swapped-P fives
+    ∷ swap P (at 2 ++ (65 ∷ 0 ∷ 2 ∷ [])) (of-P 14 3) swapped-P fives
+    ∷ swap P (at 2 ++ (66 ∷ 0 ∷ 2 ∷ [])) (of-P 14 3) swapped-P fives
+    ∷ swap P (at 2 ++ (64 ∷ 0 ∷ [])) (of-P 14 3) swapped-P fives
+    ∷ swap P (63 ∷ 0 ∷ 3 ∷ []) (of-P 14 0) P fives
+    -- 3 to 11: a program that is refused is not written; before 14
+    ∷ swap (1 ∷ 9 ∷ []) (at 0) (empty 5 0) [] []
+    ∷ swap (in-3 ++ knit left (f 10) 3) (63 ∷ []) (expected 8 5 false (pos 0) ((f 10, 0) ∷ []) ((3, unattached 10) ∷ [])) [] []
+    -- 1: program or log; before 2. One byte fewer is not too long
+    ∷ unmade (replicate 32769 0) [] 32769 16384 1
+    ∷ unmade (replicate 32769 0) [] 0 0 1
+    ∷ unmade P (replicate 32769 64) 20 10 1
+    ∷ unmade P (replicate 32769 64) 19 10 1
+    ∷ unmade (replicate 32768 0) [] 32768 16384 3
+    ∷ lending P (replicate 32768 65) 20 10 (of-P 14 0) P fives
+    -- 2: output a byte short, work area an entry short; exactly enough; half of 3 is 1; before 5
+    ∷ unmade P (at 2) 19 10 2
+    ∷ unmade P (at 2) 20 9 2
+    ∷ lending P (at 2) 20 10 (of-P 0 0) swapped-P fives
+    ∷ unmade (drop (f 1)) [] 3 0 2
+    ∷ lending (drop (f 1)) [] 3 1 (empty 0 0) (drop (f 1)) (0 ∷ [])
+    ∷ lending [] [] 0 0 (empty 0 0) [] []
+    ∷ unmade (1 ∷ 9 ∷ []) [] 1 1 2
     ∷ []
-
--- 10 again, as a pair at racking 0: two records and whether they are tied
-pub record Pair : Type 0 where
-  pub first : List ℕ
-  pub second : List ℕ
-  pub tied : Bool
-
-abbrev pub pairs : List Pair
-pairs = record { first = tuck-1; second = xfer 11; tied = false } ∷ record { first = tuck-1; second = xfer 10; tied = true } ∷ []

@@ -1,0 +1,120 @@
+-- Each service gives and leaves what 01 says of the call, and nothing else. Assumes nothing.
+use borrow.Table.Steps.{cases}
+use Prim.Native.Nat.{ℕ, suc, _-_, _≤_, _<_}
+use mathlib.Core.Path.{_≡_, refl, sym, ap, subst, _∙_}
+use mathlib.Core.Bool.{true, false, true≢false}
+use mathlib.Core.List.{List}
+use native.Mathlib.Omega.{arith}
+use lib.Dec.{ltb}
+use lib.ListN.{length, getD, List·getD-append}
+use lib.Seq.{ext-getD}
+use borrow.Author.Tests.{ltb-true, ltb-false}
+use Rattle.machine.specs.declared.Carrier.{Carrier}
+use Rattle.machine.specs.declared.State.{State}
+use Rattle.machine.specs.Machine.{inactive}
+use Rattle.machine.specs.Range.{StateInRange, stateOk}
+use Rattle.run.specs.declared.Stepped.{Stepped}
+use Rattle.run.specs.Run.{stay, stepOf}
+use Rattle.run.proofs.Premises.{is}
+use Rattle.run.proofs.Demand.{step-accepts, step-done, step-refused}
+use Rattle.panel.specs.declared.Served.{Served}
+use Rattle.panel.specs.Panel.{panelStep, listAnswer, carrierList}
+use Rattle.panel.specs.Exact.{Serves, StepExactly, Listed, Lists, ListExactly}
+use Rattle.panel.proofs.Services.{foul-step, foul-list, short-list, long-list, list-number}
+use Rattle.panel.proofs.Filled.{list-long, list-kept, list-written, long-written, rest-written}
+use Rattle.panel.proofs.Demand.{fine, either, service-is-step, step-keeps}
+
+not-ok : {s : State} → (StateInRange s → ⊥) → stateOk s ≡ false
+not-ok {s} h = either s (λ k. absurd (h k)) (λ e. e)
+
+not-in-range : {s : State} → stateOk s ≡ false → StateInRange s → ⊥
+not-in-range e h = true≢false (sym (fine h) ∙ e)
+
+-- ---- the step
+-- the least number of which something holds is one
+one-least : {P : ℕ → Type 0} (n m : ℕ) → P n → ((k : ℕ) → k < n → P k → ⊥) → P m → ((k : ℕ) → k < m → P k → ⊥) → n ≡ m
+one-least n m p p-least q q-least =
+    cases (ltb n m) (λ t. absurd (q-least n (ltb-true n m t) p))
+    (λ t. cases (ltb m n) (λ u. absurd (p-least m (ltb-true m n u) q))
+    (λ u. omega (arith, ltb-false n m t, ltb-false m n u)))
+
+module _ (s : State) (l : List ℕ) where
+  served : Serves s l (panelStep s l)
+  served = either s fair (λ e. subst (Serves s l) (foul-step s l e) (Serves.foul (not-in-range e)))
+    where
+      fair : StateInRange s → Serves s l (panelStep s l)
+      fair h = subst (Serves s l) (sym (service-is-step s l h)) (is (stepOf s l .number) 0 accepted kept)
+        where
+          accepted : stepOf s l .number ≡ 0 → Serves s l (stepOf s l)
+          accepted e =
+              let (bytes, rest, x, t, whole, form, step) = step-accepts s l .0 e in
+              subst (Serves s l) (sym (ap (stepOf s) whole ∙ step-done s bytes rest x t form step)) (Serves.done h bytes rest x t whole form step)
+
+          kept : (stepOf s l .number ≡ 0 → ⊥) → Serves s l (stepOf s l)
+          kept d = let r = step-refused s l d in subst (Serves s l) (sym (step-keeps s l d)) (Serves.refused h (r .no-step) (stepOf s l .number) (r .reason) (r .least))
+
+  serves-one : {a : Stepped} → Serves s l a → panelStep s l ≡ a
+  serves-one (Serves.foul h) = sym (foul-step s l (not-ok h))
+  serves-one (Serves.done h bytes rest x t whole form step) = service-is-step s l h ∙ ap (stepOf s) whole ∙ step-done s bytes rest x t form step
+  serves-one (Serves.refused h none n reason least) =
+      let r = step-refused s l refused in
+      service-is-step s l h ∙ step-keeps s l refused ∙ ap (λ (m : ℕ). stay m s) (one-least (stepOf s l .number) n (r .reason) (r .least) reason least)
+    where
+      refused : stepOf s l .number ≡ 0 → ⊥
+      refused e = let (bytes, rest, x, t, whole, form, step) = step-accepts s l .0 e in none bytes rest x t whole form step
+
+pub step-exactly : StepExactly
+step-exactly s l a = ((λ e. subst (Serves s l) e (served s l)), serves-one s l)
+
+-- ---- the carrier list
+module _ (s : State) (list : List Carrier) where
+  -- carriers 1 to 10 and the rest of the old list make one list
+  one-list : {a b : List Carrier} → Listed s list a → Listed s list b → a ≡ b
+  one-list {a} {b} p q = ext-getD inactive a b (p .long ∙ sym (q .long)) (λ i _. cases (ltb i 10) (λ t. first i (ltb-true i 10 t)) (λ t. later i (ltb-false i 10 t)))
+    where
+      first : (i : ℕ) → i < 10 → getD a i inactive ≡ getD b i inactive
+      first i h =
+          let e : suc i - 1 ≡ i = omega arith in
+          subst (λ (j : ℕ). getD a j inactive ≡ getD b j inactive) e (p .carriers (suc i) (omega arith) (omega (arith, h)) ∙ sym (q .carriers (suc i) (omega arith) (omega (arith, h))))
+
+      later : (i : ℕ) → 10 ≤ i → getD a i inactive ≡ getD b i inactive
+      later i h = p .later i h ∙ sym (q .later i h)
+
+  kept : {a : Served} → listAnswer s (length list) ≡ a → (a .number ≡ 0 → ⊥) → carrierList s list ≡ list
+  kept e d = sym (list-kept s list (λ z. d (sym (list-number e) ∙ z)))
+
+  same : {a b : Served} {l m : List Carrier} → a ≡ b → l ≡ m → Lists s list a l → Lists s list b m
+  same {b = b} {l = l} e f k = subst (Lists s list b) f (subst (λ (a : Served). Lists s list a l) e k)
+
+  module _ (ten : length (s .carriers) ≡ 10) where
+    written : listAnswer s (length list) .number ≡ 0 → Listed s list (carrierList s list)
+    written e =
+        let enough : length (s .carriers) ≤ length list = omega (arith, ten, list-long s (length list) e) in
+        subst (Listed s list) (list-written s list ten e) (record {
+          long = long-written (s .carriers) list enough;
+          carriers = λ k h j. List·getD-append (s .carriers) _ inactive (k - 1) (omega (arith, ten));
+          later = λ i h. rest-written inactive (s .carriers) list i (omega (arith, ten));
+        })
+
+    listed : Lists s list (listAnswer s (length list)) (carrierList s list)
+    listed = either s fair foul
+      where
+        foul : stateOk s ≡ false → Lists s list (listAnswer s (length list)) (carrierList s list)
+        foul f = let e = foul-list s (length list) f in same (sym e) (sym (kept e (λ z. omega (arith, z)))) (Lists.foul (not-in-range f))
+
+        fair : StateInRange s → Lists s list (listAnswer s (length list)) (carrierList s list)
+        fair h = cases (ltb (length list) 10) (λ t. short (ltb-true _ 10 t)) (λ t. long (ltb-false _ 10 t))
+          where
+            short : length list < 10 → Lists s list (listAnswer s (length list)) (carrierList s list)
+            short k = let e = short-list s (length list) (fine h) k in same (sym e) (sym (kept e (λ z. omega (arith, z)))) (Lists.short h k)
+
+            long : 10 ≤ length list → Lists s list (listAnswer s (length list)) (carrierList s list)
+            long k = let e = long-list s (length list) (fine h) k in same (sym e) refl (Lists.done h k (carrierList s list) (written (list-number e)))
+
+    lists-one : {a : Served} {after : List Carrier} → Lists s list a after → (listAnswer s (length list) ≡ a) × (carrierList s list ≡ after)
+    lists-one (Lists.foul h) = let e = foul-list s (length list) (not-ok h) in (e, kept e (λ z. omega (arith, z)))
+    lists-one (Lists.short h k) = let e = short-list s (length list) (fine h) k in (e, kept e (λ z. omega (arith, z)))
+    lists-one (Lists.done h k after w) = let e = long-list s (length list) (fine h) k in (e, one-list (written (list-number e)) w)
+
+pub list-exactly : ListExactly
+list-exactly s list a after ten = ((λ (e, f). same s list e f (listed s list ten)), lists-one s list ten)

@@ -1,0 +1,52 @@
+-- The panel's services in one statement each: every way a call can end, in document 01's words, and that a call ends so and in no other way.
+use Prim.Native.Nat.{ℕ, _-_, _≤_, _<_}
+use mathlib.Core.Path.{_≡_}
+use mathlib.Core.List.{List, _++_}
+use mathlib.Core.Logic.{_↔_}
+use lib.ListN.{length, getD}
+use Rattle.machine.specs.declared.Carrier.{Carrier}
+use Rattle.machine.specs.declared.State.{State}
+use Rattle.machine.specs.Machine.{inactive, carrierOf}
+use Rattle.machine.specs.Range.{StateInRange}
+use Rattle.record.specs.declared.Record.{Record}
+use Rattle.record.specs.Format.{Encodes}
+use Rattle.run.specs.declared.Stepped.{Stepped}
+use Rattle.run.specs.Relation.{Step}
+use Rattle.run.specs.Reason.{Reason}
+use Rattle.run.specs.Claims.{NoStep}
+use Rattle.panel.specs.declared.Served.{Served}
+use Rattle.panel.specs.Panel.{panelStep, listAnswer, carrierList}
+
+-- ---- the one-record step: number, the record's length, the lent state afterwards
+-- (01: '15 is looked at first, then 3 to 11'; refused, it leaves its loan untouched and gives length 0)
+pub data Serves (s : State) (l : List ℕ) : Stepped → Type 0 where
+  -- a foul state, whatever the bytes
+  foul : (StateInRange s → ⊥) → Serves s l (record { number = 15; length = 0; state = s })
+  -- the bytes begin with a record that has a step
+  done : StateInRange s → (bytes rest : List ℕ) (x : Record) (t : State) → l ≡ bytes ++ rest → Encodes bytes x → Step s x t
+      → Serves s l (record { number = 0; length = length bytes; state = t })
+  -- they do not: the least reason
+  refused : StateInRange s → NoStep s l → (n : ℕ) → Reason n s l → ((m : ℕ) → m < n → Reason m s l → ⊥)
+      → Serves s l (record { number = n; length = 0; state = s })
+
+abbrev pub StepExactly : Type 0
+StepExactly = (s : State) (l : List ℕ) (a : Stepped) → (panelStep s l ≡ a) ↔ Serves s l a
+
+-- ---- the carrier list: number and length, the lent list afterwards
+-- 'the first ten become carriers 1 to 10 of a machine state handed to it, later ones keep their contents'
+pub record Listed (s : State) (list after : List Carrier) : Type 0 where
+  pub long : length after ≡ length list
+  pub carriers : (k : ℕ) → 1 ≤ k → k ≤ 10 → getD after (k - 1) inactive ≡ carrierOf s k
+  pub later : (i : ℕ) → 10 ≤ i → getD after i inactive ≡ getD list i inactive
+
+-- '15 is looked at first, then 2', a carrier list under ten; refused, it leaves its loan untouched and gives length 0
+pub data Lists (s : State) (list : List Carrier) : Served → List Carrier → Type 0 where
+  foul : (StateInRange s → ⊥) → Lists s list (record { number = 15; length = 0 }) list
+  short : StateInRange s → length list < 10 → Lists s list (record { number = 2; length = 0 }) list
+  done : StateInRange s → 10 ≤ length list → (after : List Carrier) → Listed s list after → Lists s list (record { number = 0; length = 10 }) after
+
+-- (a state in code has ten carriers; the definitions take lists of any length)
+abbrev pub ListExactly : Type 0
+ListExactly =
+    (s : State) (list : List Carrier) (a : Served) (after : List Carrier) → length (s .carriers) ≡ 10
+    → ((listAnswer s (length list) ≡ a) × (carrierList s list ≡ after)) ↔ Lists s list a after
