@@ -61,8 +61,8 @@ in-3 = bring-in right (f 10) 3
 abbrev tucks : Needle → ℕ → List ℕ
 tucks n k = tuck right n k ++ tuck left n k ++ tuck right n k ++ tuck left n k
 
-abbrev back-tucks : Needle → ℕ → List ℕ
-back-tucks n k = tuck left n k ++ tuck right n k ++ tuck left n k ++ tuck right n k
+abbrev left-tucks : Needle → ℕ → List ℕ
+left-tucks n k = tuck left n k ++ tuck right n k ++ tuck left n k ++ tuck right n k
 
 -- misses of carrier 3: right over so many needles from n on, or left from n down
 abbrev misses-right : (ℕ → Needle) → ℕ → ℕ → List ℕ
@@ -264,8 +264,8 @@ refusals =
     ∷ knitted (in-3 ++ split right (f 10) 3 11) 10 5 ((f 10, 0) ∷ (b 11, 0) ∷ []) ((3, unattached 10) ∷ [])
     ∷ knitted (in-3 ++ tucks (f 10) 3 ++ tuck right (f 10) 3 ++ tucks (b 11) 3 ++ xfer (f 10) 11) 10 50 ((f 10, 5) ∷ (b 11, 4) ∷ []) ((3, on-left 11 (b 11)) ∷ [])
     -- 11: nine loops in all
-    ∷ knitted (in-3 ++ tucks (f 10) 3 ++ tuck right (f 10) 3 ++ back-tucks (b 10) 3 ++ xfer (f 10) 10) 11 50 ((f 10, 5) ∷ (b 10, 4) ∷ []) ((3, on-right 11 (b 10)) ∷ [])
-    ∷ knitted (in-3 ++ tucks (f 10) 3 ++ tuck right (f 10) 3 ++ back-tucks (b 10) 3 ++ split left (f 10) 3 10) 11 50 ((f 10, 5) ∷ (b 10, 4) ∷ [])
+    ∷ knitted (in-3 ++ tucks (f 10) 3 ++ tuck right (f 10) 3 ++ left-tucks (b 10) 3 ++ xfer (f 10) 10) 11 50 ((f 10, 5) ∷ (b 10, 4) ∷ []) ((3, on-right 11 (b 10)) ∷ [])
+    ∷ knitted (in-3 ++ tucks (f 10) 3 ++ tuck right (f 10) 3 ++ left-tucks (b 10) 3 ++ split left (f 10) 3 10) 11 50 ((f 10, 5) ∷ (b 10, 4) ∷ [])
     ((3, on-right 11 (b 10)) ∷ [])
     ∷ []
 
