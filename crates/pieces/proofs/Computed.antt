@@ -1,4 +1,4 @@
--- The pieces hold: one test over all rows, computed, and that the test says so. Assumes nothing.
+-- The pieces hold: a test of every row, computed in three parts, and that the test says so. Assumes nothing.
 use Prim.Native.Nat.{ℕ}
 use mathlib.Core.Path.{_≡_, refl, sym}
 use mathlib.Core.Bool.{Bool, true, false, _&&_, not}
@@ -121,7 +121,7 @@ pair-says r e =
     let (p, q) = and-two (sameBool (tied knitting (inForce r) (r .first) (r .second)) (r .tied)) _ e in
     record { forth = same-bool _ _ p; back = same-bool _ _ q }
 
--- the tests, computed in three parts: antt takes fifty million steps at most for one
+-- the tests, computed: rows, swaps and ties apart, since a declaration is checked in fifty million steps at most
 rows-computed : every rowTest rows ≡ true
 unfolding rowTest saysTest stateTest hooksTest carriersTest sameBool sameCarrier runOf runFrom turn stepOf answerOf emptyState completeOf all inactiveCarrier movedTo attachedAt sameNeedle eqZ columnOf entryOf exitOf sameColumn withinFloat decodeOf whole ranged refusedAs rackOk needleOk workOk signedOf needleCount carrierCount needlesOf carriersOf lookOf seeOf parkedNo floatNo carrierNo oppositeNo firstAfter secondAfter roomNo numberOf edit actOf acted moveAttachments rackingAfter numberAt applyOf
 rows-computed = refl

@@ -143,11 +143,11 @@ half-columns s =
     ++ xfers 5 (s .near-right)
     ++ splits 6 (s .far-right)
 
--- a drop sees layer 0 or 11, a miss its carrier's: the first, the last, and those beside 1, 5 and 10
-abbrev layers : Spot → List (ℕ × List ℕ)
-layers s =
-    map (λ (n : Needle). (cond (eqb (n .0) 0) 0 11, drop n)) (s .here)
-    ++ forEach (1 ∷ 2 ∷ 4 ∷ 6 ∷ 9 ∷ 10 ∷ []) (λ (k : ℕ). seeing k (λ n. miss right n k) (s .here))
+-- a drop sees layer 0 or 11; a miss, here at a needle n, sees its carrier's: the first, the last, and those beside 1, 5 and 10
+abbrev layers : Spot → Needle → List (ℕ × List ℕ)
+layers s n =
+    map (λ (m : Needle). (cond (eqb (m .0) 0) 0 11, drop m)) (s .here)
+    ++ map (λ (k : ℕ). (k, miss right n k)) (1 ∷ 2 ∷ 4 ∷ 6 ∷ 9 ∷ 10 ∷ [])
 
 -- ---- a record is tied to the probes that see what it covers, and to no other
 abbrev probed : ℤ → List ℕ → ℕ → ℕ → List (ℕ × List ℕ) → List Pair
@@ -156,7 +156,7 @@ probed r x low high l = map (λ (p : ℕ × List ℕ). pair r x (p .1) (leb low 
 abbrev edgesOf : Spot → Needle → Cover → List Pair
 edgesOf s n c =
     probed (s .racking) (c .made n) (c .left) (c .right) (half-columns s)
-    ++ probed (s .racking) (c .made n) (c .low) (c .high) (layers s)
+    ++ probed (s .racking) (c .made n) (c .low) (c .high) (layers s n)
 
 abbrev edgesAt : List ℕ → Spot → List Pair
 edgesAt ks s = forEach (s .here) (λ n. forEach (covers ks n) (edgesOf s n))

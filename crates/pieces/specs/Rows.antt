@@ -61,8 +61,8 @@ in-3 = bring-in right (f 10) 3
 abbrev tucks : Needle → ℕ → List ℕ
 tucks n k = tuck right n k ++ tuck left n k ++ tuck right n k ++ tuck left n k
 
-abbrev back-tucks : Needle → ℕ → List ℕ
-back-tucks n k = tuck left n k ++ tuck right n k ++ tuck left n k ++ tuck right n k
+abbrev left-tucks : Needle → ℕ → List ℕ
+left-tucks n k = tuck left n k ++ tuck right n k ++ tuck left n k ++ tuck right n k
 
 -- misses of carrier 3: right over so many needles from n on, or left from n down
 abbrev misses-right : (ℕ → Needle) → ℕ → ℕ → List ℕ
@@ -156,6 +156,8 @@ steps =
     ∷ knitted
     (bring-in right (f 10) 1 ++ tuck right (f 10) 1 ++ bring-in left (f 10) 3 ++ tuck left (f 10) 3 ++ bring-in right (f 11) 4 ++ tuck right (f 11) 4 ++ xfer (f 10) 10)
     0 0 ((f 10, 0) ∷ (b 10, 2) ∷ (f 11, 1) ∷ []) ((1, on-right 11 (b 10)) ∷ (3, on-left 10 (b 10)) ∷ (4, on-right 12 (f 11)) ∷ [])
+    -- the attachment at a needle of the same number on the other bed stays
+    ∷ racked (bring-in right (b 10) 3 ++ tuck right (b 10) 3 ++ rack 2 ++ xfer (f 10) 8) 0 0 (pos 2) ((b 8, 0) ∷ (b 10, 1) ∷ []) ((3, on-right 11 (b 10)) ∷ [])
     -- split: its own attachment ends at the needle it works, another carrier's goes along
     ∷ knitted (in-3 ++ tuck right (f 10) 3 ++ split left (f 10) 3 10) 0 0 ((f 10, 1) ∷ (b 10, 1) ∷ []) ((3, on-left 10 (f 10)) ∷ [])
     ∷ knitted (bring-in right (f 10) 1 ++ tuck right (f 10) 1 ++ in-3 ++ split right (f 10) 3 10) 0 0 ((f 10, 1) ∷ (b 10, 1) ∷ [])
@@ -197,7 +199,9 @@ floats =
     ((3, on-right 30 (b 10)) ∷ [])
     ∷ racked (bring-in right (b 10) 3 ++ knit right (b 10) 3 ++ misses-right f 11 20 ++ rack 1 ++ tuck right (f 31) 3) 0 0 (pos 1) ((b 10, 1) ∷ (f 31, 1) ∷ [])
     ((3, on-right 32 (f 31)) ∷ [])
-    -- no attachment, no float
+    -- none for out
+    ∷ knitted (led-21 ++ miss right (f 31) 3 ++ take-out right (f 31) 3) 0 0 ((f 10, 1) ∷ []) ((3, inactive) ∷ [])
+    -- none without an attachment
     ∷ knitted (in-3 ++ misses-right f 10 21 ++ tuck right (f 31) 3) 0 0 ((f 31, 1) ∷ []) ((3, on-right 32 (f 31)) ∷ [])
     ∷ []
 
@@ -264,8 +268,8 @@ refusals =
     ∷ knitted (in-3 ++ split right (f 10) 3 11) 10 5 ((f 10, 0) ∷ (b 11, 0) ∷ []) ((3, unattached 10) ∷ [])
     ∷ knitted (in-3 ++ tucks (f 10) 3 ++ tuck right (f 10) 3 ++ tucks (b 11) 3 ++ xfer (f 10) 11) 10 50 ((f 10, 5) ∷ (b 11, 4) ∷ []) ((3, on-left 11 (b 11)) ∷ [])
     -- 11: nine loops in all
-    ∷ knitted (in-3 ++ tucks (f 10) 3 ++ tuck right (f 10) 3 ++ back-tucks (b 10) 3 ++ xfer (f 10) 10) 11 50 ((f 10, 5) ∷ (b 10, 4) ∷ []) ((3, on-right 11 (b 10)) ∷ [])
-    ∷ knitted (in-3 ++ tucks (f 10) 3 ++ tuck right (f 10) 3 ++ back-tucks (b 10) 3 ++ split left (f 10) 3 10) 11 50 ((f 10, 5) ∷ (b 10, 4) ∷ [])
+    ∷ knitted (in-3 ++ tucks (f 10) 3 ++ tuck right (f 10) 3 ++ left-tucks (b 10) 3 ++ xfer (f 10) 10) 11 50 ((f 10, 5) ∷ (b 10, 4) ∷ []) ((3, on-right 11 (b 10)) ∷ [])
+    ∷ knitted (in-3 ++ tucks (f 10) 3 ++ tuck right (f 10) 3 ++ left-tucks (b 10) 3 ++ split left (f 10) 3 10) 11 50 ((f 10, 5) ∷ (b 10, 4) ∷ [])
     ((3, on-right 11 (b 10)) ∷ [])
     ∷ []
 
