@@ -109,6 +109,8 @@ pub fn extent_of(x: Record, r: Racking) -> Extent
         // tuck, knit
         7..=8 => form(n, r, x.carrier),
         // split
+        9 => broad(n, r, 0, BACK),
+        // a rack has no extent: no tie asks for it
         _ => broad(n, r, 0, BACK),
     }
 }
