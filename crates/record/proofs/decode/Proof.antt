@@ -83,9 +83,9 @@ returns-7 : tie.Need-returns-7
 returns-7 c = let b = c .before .before .before in let no = c .before .before .match .rest in
     c .refused2 .ensures
     ∙ ⊎-elim {C = refusedAs 3 ≡ readAt (kind b) (bytes b)}
-      (λ w. unknown-low (bytes b) (kind b) (no .0 .0 .0 .1) (no .0 .0 .1) (no .0 .1) (no .1) (omega arith))
-      (λ w. unknown-high (bytes b) (kind b) (no .0 .0 .0 .1) (no .0 .0 .1) (no .0 .1) (no .1) (omega arith))
-      (c .before .if2 .came)
+    (λ w. unknown-low (bytes b) (kind b) (no .0 .0 .0 .1) (no .0 .0 .1) (no .0 .1) (no .1) (omega arith))
+    (λ w. unknown-high (bytes b) (kind b) (no .0 .0 .0 .1) (no .0 .0 .1) (no .0 .1) (no .1) (omega arith))
+    (c .before .if2 .came)
     ∙ by-kind b
 
 pub decode-spec : {M : Type 1} → statement M

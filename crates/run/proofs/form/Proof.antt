@@ -1,30 +1,25 @@
+-- By the kind. Assumes nothing.
 use borrow.Author.Needs.{needs}
+use native.Mathlib.Omega.{arith}
+use mathlib.Core.Path.{_≡_, refl, sym}
 use Rattle.run.proofs.form.Statement.{statement}
 use Rattle.run.proofs.form.Tie as tie
-use Rattle.run.proofs.form.Reads as reads
-use Rattle.run.proofs.form.Lts as lts
-use Rattle.run.proofs.put.Reads as put-reads
-use Rattle.run.proofs.tuck.Reads as tuck-reads
 
--- src/lib.rt:197:14
 tuck-requires : tie.Need-tuck-requires
 tuck-requires c κs = search needs
 
--- src/lib.rt:199:13
 put-requires : tie.Need-put-requires
 put-requires c κs = search needs
 
--- src/lib.rt:191:1
 returns : tie.Need-returns
-returns c = ?
+returns c = simp (c .before .before .match .keys1) (c .tuck .ensures)
 
--- src/lib.rt:191:1
 returns-2 : tie.Need-returns-2
-returns-2 c = ?
+returns-2 c = simp (c .before .before .match .keys2) (refl, c .put .ensures)
 
--- src/lib.rt:191:1
+-- kinds are 7 and 8
 returns-3 : tie.Need-returns-3
-returns-3 c = ?
+returns-3 c = let no = c .match .rest in absurd (omega (arith, c .before .pre .0, c .before .pre .1, no .0 .1, no .1))
 
 pub form-spec : {M : Type 1} → statement M
 form-spec = tie.close (tie.spec tuck-requires put-requires returns returns-2 returns-3)

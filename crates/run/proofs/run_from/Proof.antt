@@ -1,469 +1,403 @@
+-- The run: after each turn the rest of the program is run from the state so far. Each arm cites the law of its kinds. Assumes nothing.
+use Prim.Native.Nat.{ℕ, _+_, _-_, _≤_, _<_}
+use mathlib.Core.Path.{_≡_, refl, sym, _∙_}
+use mathlib.Core.List.{List}
+use native.Mathlib.Omega.{arith}
+use borrow.Author.Needs.{needs}
+use lib.ListN.{length, drop}
+use Rattle.machine.specs.declared.State.{State}
+use Rattle.record.specs.declared.Record.{Record}
+use Rattle.record.specs.declared.Decoded.{Decoded}
+use Rattle.record.proofs.Ranges.{InRange, four}
+use Rattle.run.specs.Step.{numberAt}
+use Rattle.run.specs.Run.{reached, runFrom}
+use Rattle.run.proofs.Turns.{Turn, ended, turned, refused, in-range, sized, stopped, goes}
+use Rattle.run.proofs.Arms.{Made, transfer-kept, unmoved, rack-made, drop-made, xfer-stopped, xfer-made, in-out-stopped, in-out-made, miss-stopped, miss-made}
+use Rattle.run.proofs.Arms.{loop-unready, loop-stopped, loop-kept, loop-made, split-unready, split-stopped, split-made}
 use Rattle.run.proofs.run_from.Statement.{statement}
 use Rattle.run.proofs.run_from.Tie as tie
-use Rattle.run.proofs.run_from.Reads as reads
-use Rattle.run.proofs.run_from.Lts as lts
-use Rattle.machine.proofs.any_beside.Reads as any-beside-reads
-use Rattle.machine.proofs.attachments_moved.Reads as attachments-moved-reads
-use Rattle.record.proofs.decode.Reads as decode-reads
-use Rattle.run.proofs.asked.Reads as asked-reads
-use Rattle.run.proofs.attach.Reads as attach-reads
-use Rattle.run.proofs.enter_or_leave.Reads as enter-or-leave-reads
-use Rattle.run.proofs.form.Reads as form-reads
-use Rattle.run.proofs.pass.Reads as pass-reads
-use Rattle.run.proofs.put.Reads as put-reads
-use Rattle.run.proofs.ready.Reads as ready-reads
-use Rattle.run.proofs.stop.Reads as stop-reads
-use Rattle.run.proofs.transfer.Reads as transfer-reads
 
 abbrev Inv-loop : tie.InvT-loop
-Inv-loop program st₀ at₀ st at = ?
+Inv-loop program st₀ at₀ st at = (at ≤ length program) × (runFrom 0 program 0 st₀ ≡ runFrom 0 (drop at program) at st)
 
 abbrev μ-loop : tie.MeasureT-loop
-μ-loop program st₀ at₀ st at = ?
+μ-loop program st₀ at₀ st at = length program - at
 
--- src/lib.rt:251:5
+-- what is known once a record is decoded: the program, the place, the state, the record
+module _ (b : tie.Else1 Inv-loop μ-loop) where
+  abbrev s₀ : State
+  s₀ = b .before .before .before .before .before .before .before .args .state
+
+  abbrev p : List ℕ
+  p = b .before .before .before .before .before .before .before .args .program .now
+
+  abbrev place : ℕ
+  place = b .before .before .before .before .before .loop .at
+
+  abbrev s : State
+  s = b .before .before .before .before .before .loop .st
+
+  abbrev d : Decoded
+  d = b .before .before .decode .result
+
+  abbrev x : Record
+  x = d .what
+
+  here : Turn s₀ p place s d
+  here = turned (b .before .before .before .before .loop-test .taken) (b .before .before .before .before .before .loop .inv .1) (b .before .before .decode .ensures)
+
+  known : InRange x
+  known = in-range here (b .if1 .left)
+
+  size : (0 < d .size) × (d .size ≤ length p - place)
+  size = sized here (b .if1 .left)
+
+  -- a record that is refused, and one that has its step
+  halt : {n : ℕ} → n ≡ numberAt s x → (n ≡ 0 → ⊥) → reached n place s ≡ runFrom 0 p 0 s₀
+  halt e h = stopped here (b .if1 .left) _ e h
+
+  on : {u : State} → Made s x u → (place + d .size ≤ length p) × (runFrom 0 p 0 s₀ ≡ runFrom 0 (drop (place + d .size) p) (place + d .size) u)
+  on m = (omega (arith, size .1, b .before .before .before .before .loop-test .taken), goes here (b .if1 .left) _ (m .0) (m .1))
+
+  -- what is left gets shorter
+  less : length p - (place + d .size) < length p - place
+  less = omega (arith, size .0, size .1, b .before .before .before .before .loop-test .taken)
+
+  -- the carrier of a kind that has one is one of the ten
+  abbrev Carried : Type 0
+  Carried = (1 ≤ x .carrier) × (x .carrier ≤ 10)
+
+  carried : 4 ≤ x .kind → Carried
+  carried h = (known .carrier-low h, known .carrier-high)
+
+miss-carrier : (m : tie.At-match-keys4 Inv-loop μ-loop) → Carried (m .before .before .before .before .before)
+miss-carrier m = carried (m .before .before .before .before .before) (omega (arith, m .match .keys4))
+
+split-carrier : (m : tie.At-match-keys5 Inv-loop μ-loop) → Carried (m .before .before .before .before .before)
+split-carrier m = carried (m .before .before .before .before .before) (omega (arith, m .match .keys5))
+
+-- the arm of in and out
+module _ (t : tie.Then9 Inv-loop μ-loop) where
+  abbrev in-out : tie.Else1 Inv-loop μ-loop
+  in-out = t .before .before .before .before .before .before .before
+
+  in-out-low : 4 ≤ x in-out .kind
+  in-out-low = let no = t .before .before .match .rest in
+      four (x in-out .kind) (known in-out .low) (no .0 .0 .0 .0 .1) (no .0 .0 .0 .1) (no .0 .0 .1)
+
+  in-out-high : x in-out .kind ≤ 5
+  in-out-high = omega (arith, t .if9 .taken, t .before .before .match .rest .0 .1)
+
+  in-out-carrier : Carried in-out
+  in-out-carrier = carried in-out in-out-low
+
+-- the arm of tuck and knit
+module _ (t : tie.Then11 Inv-loop μ-loop) where
+  abbrev loop : tie.Else1 Inv-loop μ-loop
+  loop = t .before .before .before .before .before .before .before .before
+
+  loop-low : 7 ≤ x loop .kind
+  loop-low = omega (arith, t .before .if9 .left, t .before .before .before .match .rest .0 .1)
+
+  loop-high : x loop .kind ≤ 8
+  loop-high = omega (arith, t .if11 .taken, t .before .before .before .match .rest .1)
+
+  loop-carrier : Carried loop
+  loop-carrier = carried loop (omega (arith, loop-low))
+
+-- below, m or t is where an arm begins and b where its record has been decoded
 loop-holds : tie.Need-loop-holds Inv-loop μ-loop
-loop-holds c = ?
+loop-holds c = (search needs, refl)
 
--- src/lib.rt:252:32
 sub-decode : tie.Need-sub-decode Inv-loop μ-loop
-sub-decode c = ?
+sub-decode c = search needs
 
--- src/lib.rt:252:32
 part-decode-start : tie.Need-part-decode-start Inv-loop μ-loop
-part-decode-start c = ?
+part-decode-start c = search needs
 
--- src/lib.rt:252:32
 part-decode-end : tie.Need-part-decode-end Inv-loop μ-loop
-part-decode-end c = ?
+part-decode-end c = search needs
 
--- src/lib.rt:252:13
 decode-requires : tie.Need-decode-requires Inv-loop μ-loop
-decode-requires c κs = ?
+decode-requires c κs = search needs
 
--- src/lib.rt:254:13
 stop-requires : tie.Need-stop-requires Inv-loop μ-loop
-stop-requires c κs = ?
+stop-requires c κs = search needs
 
--- src/lib.rt:254:13
 returns : tie.Need-returns Inv-loop μ-loop
-returns c = ?
+returns c = c .stop .ensures ∙ refused (turned (c .before .before .before .before .before .loop-test .taken) (c .before .before .before .before .before .before .loop .inv .1) (c .before .before .before .decode .ensures)) (c .before .if1 .taken)
 
--- src/lib.rt:256:20
 add-next : tie.Need-add-next Inv-loop μ-loop
-add-next c = ?
+add-next c = let z = size (c .before) in omega (arith, z .1, c .before .before .before .before .before .loop-test .taken, c .before .before .before .before .before .before .before .before .good)
 
--- src/lib.rt:268:18
 put-requires : tie.Need-put-requires Inv-loop μ-loop
-put-requires c κs = ?
+put-requires c κs = known (c .before .before .before .before .before .before) .at-bed
 
--- src/lib.rt:272:21
 transfer-requires : tie.Need-transfer-requires Inv-loop μ-loop
-transfer-requires c κs = ?
+transfer-requires c κs = let b = c .before .before .before .before .before .before .before in (known b .at-bed, known b .to-bed)
 
--- src/lib.rt:274:21
 stop-requires-2 : tie.Need-stop-requires-2 Inv-loop μ-loop
-stop-requires-2 c κs = ?
+stop-requires-2 c κs = search needs
 
--- src/lib.rt:274:21
 returns-2 : tie.Need-returns-2 Inv-loop μ-loop
-returns-2 c = ?
+returns-2 c = let m = c .before .before .before .before .before in let b = m .before .before .before .before .before in let e = m .match .keys3 in let told = c .before .before .transfer .ensures in
+    c .stop2 .ensures ∙ simp (told .1, transfer-kept (s b .loops) (x b .at) (x b .to) (s b .racking) 0 _ (told .0) (c .before .if2 .taken)) (halt b (xfer-stopped (s b) (x b) e _ (told .0)) (c .before .if2 .taken))
 
--- src/lib.rt:277:20
 any-beside-requires : tie.Need-any-beside-requires Inv-loop μ-loop
-any-beside-requires c κs = ?
+any-beside-requires c κs = search needs
 
--- src/lib.rt:278:25
 attachments-moved-requires : tie.Need-attachments-moved-requires Inv-loop μ-loop
-attachments-moved-requires c κs = ?
+attachments-moved-requires c κs = search needs
 
--- src/lib.rt:295:26
 cast-k : tie.Need-cast-k Inv-loop μ-loop
-cast-k c = ?
+cast-k c = search needs
 
--- src/lib.rt:295:25
 sub-k : tie.Need-sub-k Inv-loop μ-loop
-sub-k c = ?
+sub-k c = omega (arith, miss-carrier (c .before))
 
--- src/lib.rt:296:25
 mul-c : tie.Need-mul-c Inv-loop μ-loop
-mul-c c = ?
+mul-c c = omega (arith, miss-carrier (c .before))
 
--- src/lib.rt:296:25
 element-copy-out-c : tie.Need-element-copy-out-c Inv-loop μ-loop
-element-copy-out-c c = ?
+element-copy-out-c c = omega (arith, miss-carrier (c .before))
 
--- src/lib.rt:297:21
 asked-requires : tie.Need-asked-requires Inv-loop μ-loop
-asked-requires c κs = ?
+asked-requires c κs = let b = c .before .before .before .before .before .before .before in (known b .high, known b .at-bed)
 
--- src/lib.rt:299:21
 stop-requires-3 : tie.Need-stop-requires-3 Inv-loop μ-loop
-stop-requires-3 c κs = ?
+stop-requires-3 c κs = search needs
 
--- src/lib.rt:299:21
 returns-3 : tie.Need-returns-3 Inv-loop μ-loop
-returns-3 c = ?
+returns-3 c = let m = c .before .before .before .before .before in let b = m .before .before .before .before .before in
+    c .stop3 .ensures ∙ halt b (miss-stopped (s b) (x b) _ (c .before .before .asked .ensures) (m .match .keys4)) (c .before .if4 .taken)
 
--- src/lib.rt:301:21
 pass-requires : tie.Need-pass-requires Inv-loop μ-loop
-pass-requires c κs = ?
+pass-requires c κs = known (c .before .before .before .before .before .before .before .before .before) .at-bed
 
--- src/lib.rt:302:17
 mul-then : tie.Need-mul-then Inv-loop μ-loop
-mul-then c = ?
+mul-then c = omega (arith, miss-carrier (c .before .before .before .before .before))
 
--- src/lib.rt:302:17
 element-set-from-then : tie.Need-element-set-from-then Inv-loop μ-loop
-element-set-from-then c = ?
+element-set-from-then c = omega (arith, miss-carrier (c .before .before .before .before .before))
 
--- src/lib.rt:322:26
 cast-k-2 : tie.Need-cast-k-2 Inv-loop μ-loop
-cast-k-2 c = ?
+cast-k-2 c = search needs
 
--- src/lib.rt:322:25
 sub-k-2 : tie.Need-sub-k-2 Inv-loop μ-loop
-sub-k-2 c = ?
+sub-k-2 c = omega (arith, split-carrier (c .before .before))
 
--- src/lib.rt:323:25
 mul-c-2 : tie.Need-mul-c-2 Inv-loop μ-loop
-mul-c-2 c = ?
+mul-c-2 c = omega (arith, split-carrier (c .before .before))
 
--- src/lib.rt:323:25
 element-copy-out-c-2 : tie.Need-element-copy-out-c-2 Inv-loop μ-loop
-element-copy-out-c-2 c = ?
+element-copy-out-c-2 c = omega (arith, split-carrier (c .before .before))
 
--- src/lib.rt:324:21
 asked-requires-2 : tie.Need-asked-requires-2 Inv-loop μ-loop
-asked-requires-2 c κs = ?
+asked-requires-2 c κs = let b = c .before .before .before .before .before .before .before .before in (known b .high, known b .at-bed)
 
--- src/lib.rt:326:21
 stop-requires-4 : tie.Need-stop-requires-4 Inv-loop μ-loop
-stop-requires-4 c κs = ?
+stop-requires-4 c κs = search needs
 
--- src/lib.rt:326:21
 returns-4 : tie.Need-returns-4 Inv-loop μ-loop
-returns-4 c = ?
+returns-4 c = let m = c .before .before .before .before .before .before in let b = m .before .before .before .before .before in
+    c .stop4 .ensures ∙ halt b (split-unready (s b) (x b) (m .match .keys5) _ (c .before .before .asked2 .ensures) (c .before .if5 .taken)) (c .before .if5 .taken)
 
--- src/lib.rt:328:21
 transfer-requires-2 : tie.Need-transfer-requires-2 Inv-loop μ-loop
-transfer-requires-2 c κs = ?
+transfer-requires-2 c κs = let b = c .before .before .before .before .before .before .before .before .before .before .before in (known b .at-bed, known b .to-bed)
 
--- src/lib.rt:330:21
 stop-requires-5 : tie.Need-stop-requires-5 Inv-loop μ-loop
-stop-requires-5 c κs = ?
+stop-requires-5 c κs = search needs
 
--- src/lib.rt:330:21
 returns-5 : tie.Need-returns-5 Inv-loop μ-loop
-returns-5 c = ?
+returns-5 c = let m = c .before .before .before .before .before .before .before .before .before in let b = m .before .before .before .before .before in let told = c .before .before .transfer2 .ensures in
+    c .stop5 .ensures ∙ simp (told .1, transfer-kept (s b .loops) (x b .at) (x b .to) (s b .racking) 1 _ (told .0) (c .before .if6 .taken)) (halt b (split-stopped (s b) (x b) (m .match .keys5) _ (c .before .before .before .before .before .asked2 .ensures) (c .before .before .before .before .if5 .left) _ (told .0)) (c .before .if6 .taken))
 
--- src/lib.rt:332:21
 attach-requires : tie.Need-attach-requires Inv-loop μ-loop
-attach-requires c κs = ?
+attach-requires c κs = known (c .before .before .before .before .before .before .before .before .before .before .before .before .before) .at-bed
 
--- src/lib.rt:334:20
 any-beside-requires-2 : tie.Need-any-beside-requires-2 Inv-loop μ-loop
-any-beside-requires-2 c κs = ?
+any-beside-requires-2 c κs = search needs
 
--- src/lib.rt:335:34
 attachments-moved-requires-2 : tie.Need-attachments-moved-requires-2 Inv-loop μ-loop
-attachments-moved-requires-2 c κs = ?
+attachments-moved-requires-2 c κs = search needs
 
--- src/lib.rt:336:21
 mul-ds : tie.Need-mul-ds Inv-loop μ-loop
-mul-ds c = ?
+mul-ds c = omega (arith, split-carrier (c .before .before .before .before .before .before .before .before .before .before .before .before .before))
 
--- src/lib.rt:336:21
 array-set-from-ds : tie.Need-array-set-from-ds Inv-loop μ-loop
-array-set-from-ds c = ?
+array-set-from-ds c = omega (arith, split-carrier (c .before .before .before .before .before .before .before .before .before .before .before .before .before))
 
--- src/lib.rt:339:21
 mul-then-2 : tie.Need-mul-then-2 Inv-loop μ-loop
-mul-then-2 c = ?
+mul-then-2 c = omega (arith, split-carrier (c .before .before .before .before .before .before .before .before .before .before .before .before))
 
--- src/lib.rt:339:21
 element-set-from-then-2 : tie.Need-element-set-from-then-2 Inv-loop μ-loop
-element-set-from-then-2 c = ?
+element-set-from-then-2 c = omega (arith, split-carrier (c .before .before .before .before .before .before .before .before .before .before .before .before))
 
--- src/lib.rt:284:26
 cast-k-3 : tie.Need-cast-k-3 Inv-loop μ-loop
-cast-k-3 c = ?
+cast-k-3 c = search needs
 
--- src/lib.rt:284:25
 sub-k-3 : tie.Need-sub-k-3 Inv-loop μ-loop
-sub-k-3 c = ?
+sub-k-3 c = omega (arith, in-out-carrier (c .before))
 
--- src/lib.rt:285:25
 mul-c-3 : tie.Need-mul-c-3 Inv-loop μ-loop
-mul-c-3 c = ?
+mul-c-3 c = omega (arith, in-out-carrier (c .before))
 
--- src/lib.rt:285:25
 element-copy-out-c-3 : tie.Need-element-copy-out-c-3 Inv-loop μ-loop
-element-copy-out-c-3 c = ?
+element-copy-out-c-3 c = omega (arith, in-out-carrier (c .before))
 
--- src/lib.rt:286:21
 asked-requires-3 : tie.Need-asked-requires-3 Inv-loop μ-loop
-asked-requires-3 c κs = ?
+asked-requires-3 c κs = let b = c .before .before .before .before .before .before .before .before .before in (known b .high, known b .at-bed)
 
--- src/lib.rt:288:21
 stop-requires-6 : tie.Need-stop-requires-6 Inv-loop μ-loop
-stop-requires-6 c κs = ?
+stop-requires-6 c κs = search needs
 
--- src/lib.rt:288:21
 returns-6 : tie.Need-returns-6 Inv-loop μ-loop
-returns-6 c = ?
+returns-6 c = let t = c .before .before .before .before .before in let b = in-out t in
+    c .stop6 .ensures ∙ halt b (in-out-stopped (s b) (x b) _ (c .before .before .asked3 .ensures) (in-out-low t) (in-out-high t)) (c .before .if10 .taken)
 
--- src/lib.rt:290:21
 enter-or-leave-requires : tie.Need-enter-or-leave-requires Inv-loop μ-loop
-enter-or-leave-requires c κs = ?
+enter-or-leave-requires c κs = let t = c .before .before .before .before in (in-out-low t, in-out-high t, known (in-out t) .at-bed)
 
--- src/lib.rt:291:17
 mul-then-3 : tie.Need-mul-then-3 Inv-loop μ-loop
-mul-then-3 c = ?
+mul-then-3 c = omega (arith, in-out-carrier (c .before .before .before .before .before))
 
--- src/lib.rt:291:17
 element-set-from-then-3 : tie.Need-element-set-from-then-3 Inv-loop μ-loop
-element-set-from-then-3 c = ?
+element-set-from-then-3 c = omega (arith, in-out-carrier (c .before .before .before .before .before))
 
--- src/lib.rt:306:26
 cast-k-4 : tie.Need-cast-k-4 Inv-loop μ-loop
-cast-k-4 c = ?
+cast-k-4 c = search needs
 
--- src/lib.rt:306:25
 sub-k-4 : tie.Need-sub-k-4 Inv-loop μ-loop
-sub-k-4 c = ?
+sub-k-4 c = omega (arith, loop-carrier (c .before))
 
--- src/lib.rt:307:25
 mul-c-4 : tie.Need-mul-c-4 Inv-loop μ-loop
-mul-c-4 c = ?
+mul-c-4 c = omega (arith, loop-carrier (c .before))
 
--- src/lib.rt:307:25
 element-copy-out-c-4 : tie.Need-element-copy-out-c-4 Inv-loop μ-loop
-element-copy-out-c-4 c = ?
+element-copy-out-c-4 c = omega (arith, loop-carrier (c .before))
 
--- src/lib.rt:308:21
 ready-requires : tie.Need-ready-requires Inv-loop μ-loop
-ready-requires c κs = ?
+ready-requires c κs = known (c .before .before .before .before .before .before .before .before .before .before) .at-bed
 
--- src/lib.rt:310:21
 stop-requires-7 : tie.Need-stop-requires-7 Inv-loop μ-loop
-stop-requires-7 c κs = ?
+stop-requires-7 c κs = search needs
 
--- src/lib.rt:310:21
 returns-7 : tie.Need-returns-7 Inv-loop μ-loop
-returns-7 c = ?
+returns-7 c = let t = c .before .before .before .before .before in let b = loop t in
+    c .stop7 .ensures ∙ halt b (loop-unready (s b) (x b) (loop-low t) (loop-high t) _ (c .before .before .ready .ensures) (c .before .if12 .taken)) (c .before .if12 .taken)
 
--- src/lib.rt:312:21
 form-requires : tie.Need-form-requires Inv-loop μ-loop
-form-requires c κs = ?
+form-requires c κs = let t = c .before .before .before .before .before in (loop-low t, loop-high t, known (loop t) .at-bed)
 
--- src/lib.rt:314:21
 stop-requires-8 : tie.Need-stop-requires-8 Inv-loop μ-loop
-stop-requires-8 c κs = ?
+stop-requires-8 c κs = search needs
 
--- src/lib.rt:314:21
 returns-8 : tie.Need-returns-8 Inv-loop μ-loop
-returns-8 c = ?
+returns-8 c = let t = c .before .before .before .before .before .before .before .before in let b = loop t in let told = c .before .before .form .ensures in let ready = c .before .before .before .before .before .ready .ensures in let h = c .before .before .before .before .if12 .left in
+    c .stop8 .ensures ∙ simp (told .1, loop-kept (s b) (x b) (loop-low t) (loop-high t) _ ready h _ (told .0) (c .before .if13 .taken)) (halt b (loop-stopped (s b) (x b) (loop-low t) (loop-high t) _ ready h _ (told .0)) (c .before .if13 .taken))
 
--- src/lib.rt:316:21
 attach-requires-2 : tie.Need-attach-requires-2 Inv-loop μ-loop
-attach-requires-2 c κs = ?
+attach-requires-2 c κs = known (c .before .before .before .before .before .before .before .before .before .before .before .before .before .before .before) .at-bed
 
--- src/lib.rt:317:17
 mul-then-4 : tie.Need-mul-then-4 Inv-loop μ-loop
-mul-then-4 c = ?
+mul-then-4 c = omega (arith, loop-carrier (c .before .before .before .before .before .before .before .before))
 
--- src/lib.rt:317:17
 element-set-from-then-4 : tie.Need-element-set-from-then-4 Inv-loop μ-loop
-element-set-from-then-4 c = ?
+element-set-from-then-4 c = omega (arith, loop-carrier (c .before .before .before .before .before .before .before .before))
 
--- src/lib.rt:251:5
 loop-less : tie.Need-loop-less Inv-loop μ-loop
-loop-less c = ?
+loop-less c = less (c .before .before .before .before .before .before)
 
--- src/lib.rt:251:5
 loop-again : tie.Need-loop-again Inv-loop μ-loop
-loop-again c = ?
+loop-again c = let m = c .before in let b = m .before .before .before .before .before in let e = m .match .keys1 in
+    on b (rack-made (s b) (x b) e)
 
--- src/lib.rt:251:5
 loop-less-2 : tie.Need-loop-less-2 Inv-loop μ-loop
-loop-less-2 c = ?
+loop-less-2 c = less (c .before .before .before .before .before .before .before)
 
--- src/lib.rt:251:5
 loop-again-2 : tie.Need-loop-again-2 Inv-loop μ-loop
-loop-again-2 c = ?
+loop-again-2 c = let m = c .before .before in let b = m .before .before .before .before .before in let e = m .match .keys2 in
+    on b (drop-made (s b) (x b) e _ (c .put .ensures))
 
--- src/lib.rt:251:5
 loop-less-3 : tie.Need-loop-less-3 Inv-loop μ-loop
-loop-less-3 c = ?
+loop-less-3 c = less (c .before .before .before .before .before .before .before .before .before .before .before .before .before)
 
--- src/lib.rt:251:5
 loop-again-3 : tie.Need-loop-again-3 Inv-loop μ-loop
-loop-again-3 c = ?
+loop-again-3 c = let m = c .before .before .before .before .before .before .before .before in let b = m .before .before .before .before .before in let e = m .match .keys3 in let told = c .before .before .before .before .before .transfer .ensures in
+    on b (xfer-made (s b) (x b) e _ (told .0) (c .before .before .before .before .if2 .left) _ _ (told .1) (c .attachments-moved .ensures))
 
--- src/lib.rt:251:5
 loop-less-4 : tie.Need-loop-less-4 Inv-loop μ-loop
-loop-less-4 c = ?
+loop-less-4 c = less (c .before .before .before .before .before .before .before .before .before .before .before .before)
 
--- src/lib.rt:251:5
 loop-again-4 : tie.Need-loop-again-4 Inv-loop μ-loop
-loop-again-4 c = ?
+loop-again-4 c = let m = c .before .before .before .before .before .before .before in let b = m .before .before .before .before .before in let e = m .match .keys3 in let told = c .before .before .before .before .transfer .ensures in
+    on b (xfer-made (s b) (x b) e _ (told .0) (c .before .before .before .if2 .left) _ _ (told .1) (unmoved (x b .at) (x b .to) (s b .carriers) (sym (c .before .any-beside .ensures) ∙ c .if3 .left)))
 
--- src/lib.rt:251:5
 loop-less-5 : tie.Need-loop-less-5 Inv-loop μ-loop
-loop-less-5 c = ?
+loop-less-5 c = less (c .before .before .before .before .before .before .before .before .before .before)
 
--- src/lib.rt:251:5
 loop-again-5 : tie.Need-loop-again-5 Inv-loop μ-loop
-loop-again-5 c = ?
+loop-again-5 c = let m = c .before .before .before .before .before in let b = m .before .before .before .before .before in
+    on b (miss-made (s b) (x b) _ (c .before .before .asked .ensures) (m .match .keys4) (c .before .if4 .left) _ (c .pass .ensures))
 
--- src/lib.rt:251:5
 loop-less-6 : tie.Need-loop-less-6 Inv-loop μ-loop
-loop-less-6 c = ?
+loop-less-6 c = less (c .before .before .before .before .before .before .before .before .before .before .before .before .before .before .before .before .before .before)
 
--- src/lib.rt:251:5
 loop-again-6 : tie.Need-loop-again-6 Inv-loop μ-loop
-loop-again-6 c = ?
+loop-again-6 c = let m = c .before .before .before .before .before .before .before .before .before .before .before .before .before in let b = m .before .before .before .before .before in let told = c .before .before .before .before .before .before .transfer2 .ensures in
+    on b (split-made (s b) (x b) (m .match .keys5) _ (c .before .before .before .before .before .before .before .before .before .asked2 .ensures) (c .before .before .before .before .before .before .before .before .if5 .left) _ (told .0) (c .before .before .before .before .before .if6 .left) _ (c .before .before .before .before .attach .ensures) _ _ (told .1) (c .attachments-moved2 .ensures))
 
--- src/lib.rt:251:5
 loop-less-7 : tie.Need-loop-less-7 Inv-loop μ-loop
-loop-less-7 c = ?
+loop-less-7 c = less (c .before .before .before .before .before .before .before .before .before .before .before .before .before .before .before .before .before)
 
--- src/lib.rt:251:5
 loop-again-7 : tie.Need-loop-again-7 Inv-loop μ-loop
-loop-again-7 c = ?
+loop-again-7 c = let m = c .before .before .before .before .before .before .before .before .before .before .before .before in let b = m .before .before .before .before .before in let told = c .before .before .before .before .before .transfer2 .ensures in
+    on b (split-made (s b) (x b) (m .match .keys5) _ (c .before .before .before .before .before .before .before .before .asked2 .ensures) (c .before .before .before .before .before .before .before .if5 .left) _ (told .0) (c .before .before .before .before .if6 .left) _ (c .before .before .before .attach .ensures) _ _ (told .1) (unmoved (x b .at) (x b .to) (s b .carriers) (sym (c .before .any-beside2 .ensures) ∙ c .if7 .left)))
 
--- src/lib.rt:251:5
+-- decode gives no kind below 1
 loop-less-8 : tie.Need-loop-less-8 Inv-loop μ-loop
-loop-less-8 c = ?
+loop-less-8 c = less (c .before .before .before .before .before .before)
 
--- src/lib.rt:251:5
 loop-again-8 : tie.Need-loop-again-8 Inv-loop μ-loop
-loop-again-8 c = ?
+loop-again-8 c = absurd (omega (arith, c .if8 .taken, known (c .before .before .before .before .before .before) .low))
 
--- src/lib.rt:251:5
 loop-less-9 : tie.Need-loop-less-9 Inv-loop μ-loop
-loop-less-9 c = ?
+loop-less-9 c = less (c .before .before .before .before .before .before .before .before .before .before .before .before)
 
--- src/lib.rt:251:5
 loop-again-9 : tie.Need-loop-again-9 Inv-loop μ-loop
-loop-again-9 c = ?
+loop-again-9 c = let t = c .before .before .before .before .before in let b = in-out t in
+    on b (in-out-made (s b) (x b) _ (c .before .before .asked3 .ensures) (in-out-low t) (in-out-high t) (c .before .if10 .left) _ (c .enter-or-leave .ensures))
 
--- src/lib.rt:251:5
 loop-less-10 : tie.Need-loop-less-10 Inv-loop μ-loop
-loop-less-10 c = ?
+loop-less-10 c = less (c .before .before .before .before .before .before .before .before .before .before .before .before .before .before .before .before)
 
--- src/lib.rt:251:5
 loop-again-10 : tie.Need-loop-again-10 Inv-loop μ-loop
-loop-again-10 c = ?
+loop-again-10 c = let t = c .before .before .before .before .before .before .before .before in let b = loop t in let told = c .before .before .form .ensures in
+    on b (loop-made (s b) (x b) (loop-low t) (loop-high t) _ (c .before .before .before .before .before .ready .ensures) (c .before .before .before .before .if12 .left) _ (told .0) (c .before .if13 .left) _ (c .attach2 .ensures) _ (told .1))
 
--- src/lib.rt:251:5
+-- and none above 9
 loop-less-11 : tie.Need-loop-less-11 Inv-loop μ-loop
-loop-less-11 c = ?
+loop-less-11 c = less (c .before .before .before .before .before .before .before .before)
 
--- src/lib.rt:251:5
 loop-again-11 : tie.Need-loop-again-11 Inv-loop μ-loop
-loop-again-11 c = ?
+loop-again-11 c = absurd (omega (arith, c .if11 .left, c .before .before .before .match .rest .1, known (c .before .before .before .before .before .before .before .before) .high))
 
--- src/lib.rt:347:5
 stop-requires-9 : tie.Need-stop-requires-9 Inv-loop μ-loop
-stop-requires-9 c κs = ?
+stop-requires-9 c κs = search needs
 
--- src/lib.rt:246:1
 returns-9 : tie.Need-returns-9 Inv-loop μ-loop
-returns-9 c = ?
+returns-9 c = c .stop9 .ensures ∙ ended (c .before .before .before .before .args .state) (c .before .before .before .before .args .program .now) (c .before .before .loop .at) (c .before .before .loop .st) (omega arith) (c .before .before .loop .inv .1)
 
 pub run-from-spec : {M : Type 1} → statement M
 run-from-spec =
-    tie.close
-    (tie.spec
-    Inv-loop
-    μ-loop
-    loop-holds
-    sub-decode
-    part-decode-start
-    part-decode-end
-    decode-requires
-    stop-requires
-    returns
-    add-next
-    put-requires
-    transfer-requires
-    stop-requires-2
-    returns-2
-    any-beside-requires
-    attachments-moved-requires
-    cast-k
-    sub-k
-    mul-c
-    element-copy-out-c
-    asked-requires
-    stop-requires-3
-    returns-3
-    pass-requires
-    mul-then
-    element-set-from-then
-    cast-k-2
-    sub-k-2
-    mul-c-2
-    element-copy-out-c-2
-    asked-requires-2
-    stop-requires-4
-    returns-4
-    transfer-requires-2
-    stop-requires-5
-    returns-5
-    attach-requires
-    any-beside-requires-2
-    attachments-moved-requires-2
-    mul-ds
-    array-set-from-ds
-    mul-then-2
-    element-set-from-then-2
-    cast-k-3
-    sub-k-3
-    mul-c-3
-    element-copy-out-c-3
-    asked-requires-3
-    stop-requires-6
-    returns-6
-    enter-or-leave-requires
-    mul-then-3
-    element-set-from-then-3
-    cast-k-4
-    sub-k-4
-    mul-c-4
-    element-copy-out-c-4
-    ready-requires
-    stop-requires-7
-    returns-7
-    form-requires
-    stop-requires-8
-    returns-8
-    attach-requires-2
-    mul-then-4
-    element-set-from-then-4
-    loop-less
-    loop-again
-    loop-less-2
-    loop-again-2
-    loop-less-3
-    loop-again-3
-    loop-less-4
-    loop-again-4
-    loop-less-5
-    loop-again-5
-    loop-less-6
-    loop-again-6
-    loop-less-7
-    loop-again-7
-    loop-less-8
-    loop-again-8
-    loop-less-9
-    loop-again-9
-    loop-less-10
-    loop-again-10
-    loop-less-11
-    loop-again-11
-    stop-requires-9
-    returns-9)
+    tie.close (tie.spec
+    Inv-loop μ-loop loop-holds sub-decode part-decode-start part-decode-end decode-requires stop-requires returns add-next put-requires
+    transfer-requires stop-requires-2 returns-2 any-beside-requires attachments-moved-requires cast-k sub-k mul-c element-copy-out-c
+    asked-requires stop-requires-3 returns-3 pass-requires mul-then element-set-from-then cast-k-2 sub-k-2 mul-c-2 element-copy-out-c-2
+    asked-requires-2 stop-requires-4 returns-4 transfer-requires-2 stop-requires-5 returns-5 attach-requires any-beside-requires-2
+    attachments-moved-requires-2 mul-ds array-set-from-ds mul-then-2 element-set-from-then-2 cast-k-3 sub-k-3 mul-c-3 element-copy-out-c-3
+    asked-requires-3 stop-requires-6 returns-6 enter-or-leave-requires mul-then-3 element-set-from-then-3 cast-k-4 sub-k-4 mul-c-4
+    element-copy-out-c-4 ready-requires stop-requires-7 returns-7 form-requires stop-requires-8 returns-8 attach-requires-2 mul-then-4
+    element-set-from-then-4 loop-less loop-again loop-less-2 loop-again-2 loop-less-3 loop-again-3 loop-less-4 loop-again-4 loop-less-5
+    loop-again-5 loop-less-6 loop-again-6 loop-less-7 loop-again-7 loop-less-8 loop-again-8 loop-less-9 loop-again-9 loop-less-10
+    loop-again-10 loop-less-11 loop-again-11 stop-requires-9 returns-9)
