@@ -20,11 +20,14 @@ narrow-requires-2 c κs = search needs
 broad-requires : tie.Need-broad-requires
 broad-requires c κs = search needs
 
+broad-requires-2 : tie.Need-broad-requires-2
+broad-requires-2 c κs = search needs
+
 form-requires : tie.Need-form-requires
 form-requires c κs = search needs
 
-broad-requires-2 : tie.Need-broad-requires-2
-broad-requires-2 c κs = search needs
+broad-requires-3 : tie.Need-broad-requires-3
+broad-requires-3 c κs = search needs
 
 returns : tie.Need-returns
 returns c = let a = c .before .before .before .before .args in
@@ -34,29 +37,22 @@ returns-2 : tie.Need-returns-2
 returns-2 c = let a = c .before .before .before .args in c .narrow2 .ensures ∙ sym (xfer-extent (a .r) (a .x) (c .before .match .keys2))
 
 returns-3 : tie.Need-returns-3
-returns-3 c = let a = c .before .before .before .before .before .args in
-    c .broad .ensures ∙ sym (pass-extent (a .r) (a .x) (omega (arith, c .before .before .if1 .left)) (omega (arith, c .before .if2 .taken)))
+returns-3 c = let a = c .before .before .before .args in c .broad .ensures ∙ sym (split-extent (a .r) (a .x) (omega (arith, c .before .match .keys3)))
 
 returns-4 : tie.Need-returns-4
-returns-4 c = let a = c .before .before .before .before .before .before .args in
-    c .form .ensures ∙ sym (form-extent (a .r) (a .x) (omega (arith, c .before .before .if2 .left)) (omega (arith, c .before .if3 .taken)))
+returns-4 c = let a = c .before .before .before .before .before .args in
+    c .broad2 .ensures ∙ sym (pass-extent (a .r) (a .x) (omega (arith, c .before .before .if1 .left)) (omega (arith, c .before .if2 .taken)))
 
 returns-5 : tie.Need-returns-5
-returns-5 c = let a = c .before .before .before .before .args in let no = c .before .before .match .rest in
-    c .broad2 .ensures ∙ sym (⊎-elim {C = extentOf (a .r) (a .x) ≡ broad (halfColumn (a .x .at) (a .r)) 0 11} (λ w. below-extent (a .r) (a .x) (omega arith)) (λ w. split-extent (a .r) (a .x) (omega arith)) (c .before .if1 .came))
+returns-5 c = let a = c .before .before .before .before .before .before .args in
+    c .form .ensures ∙ sym (form-extent (a .r) (a .x) (omega (arith, c .before .before .if2 .left)) (omega (arith, c .before .if3 .taken)))
+
+returns-6 : tie.Need-returns-6
+returns-6 c = let a = c .before .before .before .before .args in let no = c .before .before .match .rest in
+    c .broad3 .ensures ∙ sym (⊎-elim {C = extentOf (a .r) (a .x) ≡ broad (halfColumn (a .x .at) (a .r)) 0 11} (λ w. below-extent (a .r) (a .x) (omega arith)) (λ w. split-extent (a .r) (a .x) (omega arith)) (c .before .if1 .came))
 
 pub extent-of-spec : {M : Type 1} → statement M
 extent-of-spec =
-    tie.close
-    (tie.spec
-    layer-requires
-    narrow-requires
-    narrow-requires-2
-    broad-requires
-    form-requires
-    broad-requires-2
-    returns
-    returns-2
-    returns-3
-    returns-4
-    returns-5)
+    tie.close (tie.spec
+    layer-requires narrow-requires narrow-requires-2 broad-requires broad-requires-2 form-requires broad-requires-3 returns returns-2
+    returns-3 returns-4 returns-5 returns-6)
