@@ -111,7 +111,7 @@ fn asked(kind: u8, n: Needle, right: bool, c: Carrier, r: Racking) -> u8
     }
 }
 
-// The carrier after in, after in or out, after a miss, and after it formed a loop at the needle.
+// The carrier after in; after in or out, by the kind; after a miss; after it formed a loop at the needle.
 fn enter(n: Needle, r: Racking, right: bool) -> Carrier
     requires { ⌜ OnBed n ⌝ }
     ensures { λ c. ⌜ c ≡ unattached (entryOf (columnOf n r) right) ⌝ }
@@ -187,7 +187,7 @@ fn tuck(loops: &mut [u8; State::HOOKS], n: Needle) -> u8
     0
 }
 
-// Tuck or knit: the loop that is formed on the needle's hook: 0, or 11 and no store.
+// The loop that a tuck or a knit forms on the needle's hook: 0, or 11 and no store.
 fn form(kind: u8, loops: &mut [u8; State::HOOKS], n: Needle) -> u8
     requires { ⌜ (7 ≤ kind) × (kind ≤ 8) × (OnBed n) ⌝ }
     ensures { λ k. ⌜ (k ≡ cond (eqb kind 7) (tuckNo (getD (now (loops .entry)) (hookOf n) 0)) 0)
@@ -301,7 +301,7 @@ fn run_from(state: State, program: &[u8]) -> Reached
                 let then = pass(c, n, r, x.right);
                 st.carriers[k] = then;
             }
-            // tuck, knit: both ask what `ready` says
+            // tuck, knit: `asked` says `ready` of both, with one more look at the kind
             7..=8 => {
                 let k = (x.carrier as usize) - 1;
                 let c = st.carriers[k];

@@ -58,7 +58,7 @@ split-requires c κs = search needs
 
 work-requires : tie.Need-work-requires
 work-requires c κs = let no = c .before .before .match .rest in
-    (four (kind (c .before .before .before)) (c .before .if2 .left) (no .0 .0 .0 .1) (no .0 .0 .1) (no .0 .1), omega (arith, c .if3 .taken))
+    (omega (arith, c .before .if2 .left, no .0 .0 .0 .1, no .0 .0 .1, no .0 .1), omega (arith, c .if3 .taken))
 
 refused-requires-2 : tie.Need-refused-requires-2
 refused-requires-2 c κs = search needs

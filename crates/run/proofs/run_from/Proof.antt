@@ -256,7 +256,7 @@ returns-6 c = let t = c .before .before .before .before .before in let b = in-ou
     c .stop6 .ensures ∙ halt b (in-out-stopped (s b) (x b) _ (c .before .before .asked3 .ensures) (in-out-low t) (in-out-high t)) (c .before .if10 .taken)
 
 enter-or-leave-requires : tie.Need-enter-or-leave-requires Inv-loop μ-loop
-enter-or-leave-requires c κs = let t = c .before .before .before .before in (in-out-low t, in-out-high t, known (in-out t) .at-bed)
+enter-or-leave-requires c κs = let t = c .before .before .before .before in (omega (arith, in-out-low t), omega (arith, in-out-high t), known (in-out t) .at-bed)
 
 mul-then-3 : tie.Need-mul-then-3 Inv-loop μ-loop
 mul-then-3 c = omega (arith, in-out-carrier (c .before .before .before .before .before))
@@ -287,7 +287,7 @@ returns-7 c = let t = c .before .before .before .before .before in let b = loop 
     c .stop7 .ensures ∙ halt b (loop-unready (s b) (x b) (loop-low t) (loop-high t) _ (c .before .before .ready .ensures) (c .before .if12 .taken)) (c .before .if12 .taken)
 
 form-requires : tie.Need-form-requires Inv-loop μ-loop
-form-requires c κs = let t = c .before .before .before .before .before in (loop-low t, loop-high t, known (loop t) .at-bed)
+form-requires c κs = let t = c .before .before .before .before .before in (omega (arith, loop-low t), omega (arith, loop-high t), known (loop t) .at-bed)
 
 stop-requires-8 : tie.Need-stop-requires-8 Inv-loop μ-loop
 stop-requires-8 c κs = search needs
