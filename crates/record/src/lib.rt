@@ -122,20 +122,20 @@ fn needle_ok(bed: u8, n: u8) -> bool
     a.on_bed()
 }
 
-// Whether direction, needle and carrier are in range.
+// Whether carrier, needle and direction are in range.
 fn work_ok(right: u8, bed: u8, n: u8, k: u8) -> bool
     ensures { λ b. ⌜ b ≡ workOk right bed n k ⌝ }
 {
-    if 1 < right {
+    if k < 1 {
+        return false;
+    }
+    if State::CARRIER_MOST < k {
         return false;
     }
     if !needle_ok(bed, n) {
         return false;
     }
-    if k < 1 {
-        return false;
-    }
-    k <= State::CARRIER_MOST
+    right <= 1
 }
 
 // Drop: bed, needle.
@@ -221,7 +221,7 @@ fn work(kind: u8, l: &[u8]) -> Decoded
     let what = Record {
         kind,
         racking: Racking(0),
-        right: right == 1,
+        right: right != 0,
         at,
         carrier: k,
         to: Needle(0, 0),
@@ -257,7 +257,7 @@ fn split(l: &[u8]) -> Decoded
     let what = Record {
         kind: 9,
         racking: Racking(0),
-        right: right == 1,
+        right: right != 0,
         at,
         carrier: k,
         to,
