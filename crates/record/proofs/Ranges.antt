@@ -1,11 +1,12 @@
 -- What the range tests say, and what holds of every record that bytes encode. Assumes nothing.
 use Prim.Native.Nat.{ℕ, _≤_}
 use mathlib.Core.Path.{_≡_}
-use mathlib.Core.Bool.{true, _&&_}
+use mathlib.Core.Bool.{true, not, _&&_}
 use mathlib.Core.List.{List}
 use native.Mathlib.Omega.{arith}
-use lib.Dec.{leb}
-use borrow.Author.Tests.{leb-true, le-leb, ne-eqb}
+use lib.Dec.{leb, eqb}
+use borrow.Table.Steps.{cases}
+use borrow.Author.Tests.{eqb-true, eqb-false, leb-true, le-leb, ne-eqb}
 use Rattle.machine.proofs.Laws.{and-two}
 use Rattle.machine.proofs.Ranges.{bed-is}
 use Rattle.machine.specs.Machine.{OnBed, hookOf}
@@ -41,6 +42,14 @@ module _ (right bed n k : ℕ) (e : workOk right bed n k ≡ true) where
 
   pub work-high : k ≤ 10
   work-high = leb-true k 10 (and-two (leb 1 k) _ (work-rest .1) .1)
+
+-- a direction is 0 or 1
+pub direction : (right : ℕ) → right ≤ 1 → eqb right 1 ≡ not (eqb right 0)
+direction right h =
+    cases (eqb right 0) (λ t. let e = eqb-true right 0 t in simp e) (λ t. let e = one right h (eqb-false right 0 t) in simp e)
+  where
+    one : (k : ℕ) → k ≤ 1 → (k ≡ 0 → ⊥) → k ≡ 1
+    one k h a = omega arith
 
 pub four : (k : ℕ) → 1 ≤ k → (k ≡ 1 → ⊥) → (k ≡ 2 → ⊥) → (k ≡ 3 → ⊥) → 4 ≤ k
 four k h a b d = omega arith

@@ -122,20 +122,20 @@ fn needle_ok(bed: u8, n: u8) -> bool
     a.on_bed()
 }
 
-// Whether direction, needle and carrier are in range.
+// Whether carrier, needle and direction are in range.
 fn work_ok(right: u8, bed: u8, n: u8, k: u8) -> bool
     ensures { λ b. ⌜ b ≡ workOk right bed n k ⌝ }
 {
-    if 1 < right {
+    if k < 1 {
+        return false;
+    }
+    if State::CARRIER_MOST < k {
         return false;
     }
     if !needle_ok(bed, n) {
         return false;
     }
-    if k < 1 {
-        return false;
-    }
-    k <= State::CARRIER_MOST
+    right <= 1
 }
 
 // Drop: bed, needle.
@@ -221,7 +221,7 @@ fn work(kind: u8, l: &[u8]) -> Decoded
     let what = Record {
         kind,
         racking: Racking(0),
-        right: right == 1,
+        right: right != 0,
         at,
         carrier: k,
         to: Needle(0, 0),
@@ -257,7 +257,7 @@ fn split(l: &[u8]) -> Decoded
     let what = Record {
         kind: 9,
         racking: Racking(0),
-        right: right == 1,
+        right: right != 0,
         at,
         carrier: k,
         to,
@@ -269,21 +269,7 @@ fn split(l: &[u8]) -> Decoded
     }
 }
 
-// A record of a known kind: its fields in range, or refused.
-fn read(kind: u8, l: &[u8]) -> Decoded
-    requires { ⌜ (1 ≤ kind) × (kind ≤ 9) ⌝ }
-    ensures { λ d. ⌜ d ≡ readAt kind (now (l .entry)) ⌝ }
-{
-    match kind {
-        1 => rack(l),
-        2 => drop(l),
-        3 => xfer(l),
-        4..=8 => work(kind, l),
-        _ => split(l),
-    }
-}
-
-// The first record of the slice. Each kind is read by itself, so that the compiler knows it where the run looks at it again.
+// The first record of the slice.
 pub fn decode(l: &[u8]) -> Decoded
     ensures { λ d. ⌜ d ≡ decodeOf (now (l .entry)) ⌝ }
 {
@@ -292,15 +278,12 @@ pub fn decode(l: &[u8]) -> Decoded
     }
     let kind = byte(l, 0);
     match kind {
-        1 => read(1, l),
-        2 => read(2, l),
-        3 => read(3, l),
-        4 => read(4, l),
-        5 => read(5, l),
-        6 => read(6, l),
-        7 => read(7, l),
-        8 => read(8, l),
-        9 => read(9, l),
+        1 => rack(l),
+        2 => drop(l),
+        3 => xfer(l),
+        // in, out, miss, tuck, knit
+        4..=8 => work(kind, l),
+        9 => split(l),
         _ => refused(UNKNOWN_KIND),
     }
 }

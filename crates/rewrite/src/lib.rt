@@ -96,6 +96,7 @@ pub fn extent_of(x: Record, r: Racking) -> Extent
 {
     let n = x.at;
     let kind = x.kind;
+    let all = broad(n, r, 0, BACK);
     match kind {
         // drop
         2 => {
@@ -109,7 +110,9 @@ pub fn extent_of(x: Record, r: Racking) -> Extent
         // tuck, knit
         7..=8 => form(n, r, x.carrier),
         // split
-        _ => broad(n, r, 0, BACK),
+        9 => all,
+        // a rack has no extent: no tie asks for it
+        _ => all,
     }
 }
 

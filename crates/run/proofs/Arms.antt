@@ -1,11 +1,13 @@
 -- The arms of the run's loop: from what the small functions promise, the number of a record and the state after it. Assumes nothing.
+use borrow.Table.Steps.{cases}
 use Prim.Native.Nat.{ℕ, _+_, _-_, _≤_}
 use mathlib.Core.Path.{_≡_, sym, _∙_}
 use mathlib.Core.Bool.{false, cond}
 use mathlib.Core.List.{List, map}
 use native.Mathlib.Omega.{arith}
 use lib.ListN.{getD, set}
-use borrow.Author.Tests.{eq-eqb, ne-eqb, not-false}
+use lib.Dec.{eqb}
+use borrow.Author.Tests.{eq-eqb, ne-eqb, eqb-true, eqb-false, not-false}
 use Rattle.machine.specs.declared.Needle.{Needle}
 use Rattle.machine.specs.declared.Racking.{Racking}
 use Rattle.machine.specs.declared.Carrier.{Carrier}
@@ -14,22 +16,10 @@ use Rattle.machine.specs.Machine.{inactive, hookOf, loopsOn, carrierOf, movedTo
 use Rattle.machine.specs.Looks.{anyBeside}
 use Rattle.machine.proofs.Laws.{none-moved}
 use Rattle.record.specs.declared.Record.{Record}
-use Rattle.record.proofs.Ranges.{InRange, four}
 use Rattle.run.specs.Relation.{racked, entrySlot, exitSlot, unattached, reparked, attached}
-use Rattle.run.specs.Step.{orNumber, parkedNo, numberAt, applyOf}
+use Rattle.run.specs.Step.{orNumber, parkedNo, askedNo, numberAt, applyOf}
 use Rattle.run.specs.Loops.{tuckNo, tucked, transferNo, transferredLoops}
 use Rattle.run.proofs.ByKind.{seen, readyNo, rack-number, rack-state, drop-number, drop-state, xfer-number, xfer-state, in-number, in-state, out-number, out-state, miss-number, miss-state, tuck-number, tuck-state, knit-number, knit-state, split-number, split-state}
-
--- a kind that is none of 1 to 8 is split's
-pub nine : {x : Record} → InRange x → (x .kind ≡ 1 → ⊥) → (x .kind ≡ 2 → ⊥) → (x .kind ≡ 3 → ⊥) → (x .kind ≡ 4 → ⊥) → (x .kind ≡ 5 → ⊥) → (x .kind ≡ 6 → ⊥)
-    → (x .kind ≡ 7 → ⊥) → (x .kind ≡ 8 → ⊥) → x .kind ≡ 9
-nine {x} i n1 n2 n3 n4 n5 n6 n7 n8 = last (x .kind) (seven (x .kind) (four (x .kind) (i .low) n1 n2 n3) n4 n5 n6) (i .high) n7 n8
-  where
-    seven : (k : ℕ) → 4 ≤ k → (k ≡ 4 → ⊥) → (k ≡ 5 → ⊥) → (k ≡ 6 → ⊥) → 7 ≤ k
-    seven k h a b c = omega arith
-
-    last : (k : ℕ) → 7 ≤ k → k ≤ 9 → (k ≡ 7 → ⊥) → (k ≡ 8 → ⊥) → k ≡ 9
-    last k h i a b = omega arith
 
 -- the loops after a transfer or a tuck, by its number
 module _ (l : List ℕ) (a b : Needle) (r : Racking) (v n : ℕ) (is : n ≡ transferNo l a b r) where
@@ -42,7 +32,7 @@ module _ (l : List ℕ) (a b : Needle) (r : Racking) (v n : ℕ) (is : n ≡ tra
   transfer-made h = simp (← is, eq-eqb n 0 h)
 
 module _ (l : List ℕ) (a : Needle) (n : ℕ) (is : n ≡ tuckNo (getD l (hookOf a) 0)) where
-  pub tuck-kept : (n ≡ 0 → ⊥) → tucked l a ≡ l
+  tuck-kept : (n ≡ 0 → ⊥) → tucked l a ≡ l
   unfolding tucked
   tuck-kept h = simp (← is, ne-eqb n 0 h)
 
@@ -85,52 +75,112 @@ module _ (s : State) (x : Record) where
     xfer-made h l cs p q =
         (xfer-number s x e ∙ sym is ∙ h, xfer-state s x e ∙ simp (p ∙ transfer-made (s .loops) (x .at) (x .to) (s .racking) 0 n is h, q))
 
-  -- what the record asks of its carrier, as `asked` says it, is all that in, out, miss and knit ask
-  module _ (n : ℕ) where
-    module _ (e : x .kind ≡ 4) (is : n ≡ cond (seen s x .active) 6 0) where
-      pub in-stopped : n ≡ numberAt s x
-      in-stopped = is ∙ sym (in-number s x e)
+  -- what the record asks of its carrier, as `asked` says it
+  abbrev asks : ℕ
+  asks = askedNo (x .kind) (x .at) (x .right) (s .racking) (seen s x)
 
-      pub in-made : n ≡ 0 → (c : Carrier) → c ≡ unattached (entrySlot s x) → Made (parts (s .loops) (set (s .carriers) (x .carrier - 1) c))
-      in-made h c q = (sym in-stopped ∙ h, in-state s x e ∙ simp q)
+  -- the state with another carrier
+  abbrev with : List ℕ → Carrier → State
+  with l c = parts l (set (s .carriers) (x .carrier - 1) c)
 
-    module _ (e : x .kind ≡ 5) (is : n ≡ parkedNo (seen s x) (exitSlot s x)) where
-      pub out-stopped : n ≡ numberAt s x
-      out-stopped = is ∙ sym (out-number s x e)
+  asks-in : x .kind ≡ 4 → asks ≡ cond (seen s x .active) 6 0
+  asks-in e = simp e
 
-      pub out-made : n ≡ 0 → (c : Carrier) → c ≡ inactive → Made (parts (s .loops) (set (s .carriers) (x .carrier - 1) c))
-      out-made h c q = (sym out-stopped ∙ h, out-state s x e ∙ simp q)
+  asks-out : x .kind ≡ 5 → asks ≡ parkedNo (seen s x) (exitSlot s x)
+  asks-out e = simp e
 
-    module _ (e : x .kind ≡ 6) (is : n ≡ parkedNo (seen s x) (entrySlot s x)) where
-      pub miss-stopped : n ≡ numberAt s x
-      miss-stopped = is ∙ sym (miss-number s x e)
+  asks-miss : x .kind ≡ 6 → asks ≡ parkedNo (seen s x) (entrySlot s x)
+  asks-miss e = simp e
 
-      pub miss-made : n ≡ 0 → (c : Carrier) → c ≡ reparked (carrierOf s (x .carrier)) (exitSlot s x) → Made (parts (s .loops) (set (s .carriers) (x .carrier - 1) c))
-      miss-made h c q = (sym miss-stopped ∙ h, miss-state s x e ∙ simp q)
+  asks-split : x .kind ≡ 9 → asks ≡ readyNo s x
+  asks-split e = simp e
 
-    module _ (e : x .kind ≡ 8) (is : n ≡ readyNo s x) where
-      pub knit-stopped : n ≡ numberAt s x
-      knit-stopped = is ∙ sym (knit-number s x e)
+  -- it is all that in, out and miss ask
+  module _ (n : ℕ) (is : n ≡ asks) where
+    in-stopped : x .kind ≡ 4 → n ≡ numberAt s x
+    in-stopped e = is ∙ asks-in e ∙ sym (in-number s x e)
 
-      pub knit-made : n ≡ 0 → (c : Carrier) → c ≡ attached (exitSlot s x) (x .at) (x .right) → (l : List ℕ) → l ≡ set (s .loops) (hookOf (x .at)) 1
-          → Made (parts l (set (s .carriers) (x .carrier - 1) c))
-      knit-made h c q l t = (sym knit-stopped ∙ h, knit-state s x e ∙ simp (t, q))
+    in-made : x .kind ≡ 4 → n ≡ 0 → (c : Carrier) → c ≡ unattached (entrySlot s x) → Made (with (s .loops) c)
+    in-made e h c q = (sym (in-stopped e) ∙ h, in-state s x e ∙ simp q)
 
-  -- a tuck asks for room besides
-  module _ (e : x .kind ≡ 7) (n : ℕ) (is : n ≡ readyNo s x) where
-    pub tuck-unready : (n ≡ 0 → ⊥) → n ≡ numberAt s x
-    tuck-unready h = simp (← is) (before n _ h) ∙ sym (tuck-number s x e)
+    out-stopped : x .kind ≡ 5 → n ≡ numberAt s x
+    out-stopped e = is ∙ asks-out e ∙ sym (out-number s x e)
 
-    module _ (h : n ≡ 0) (m : ℕ) (f : m ≡ tuckNo (loopsOn s (x .at))) where
-      pub tuck-stopped : m ≡ numberAt s x
-      tuck-stopped = after (readyNo s x) _ m (sym is ∙ h) f ∙ sym (tuck-number s x e)
+    out-made : x .kind ≡ 5 → n ≡ 0 → (c : Carrier) → c ≡ inactive → Made (with (s .loops) c)
+    out-made e h c q = (sym (out-stopped e) ∙ h, out-state s x e ∙ simp q)
 
-      pub tuck-done : m ≡ 0 → (c : Carrier) → c ≡ attached (exitSlot s x) (x .at) (x .right) → (l : List ℕ) → l ≡ tucked (s .loops) (x .at)
-          → Made (parts l (set (s .carriers) (x .carrier - 1) c))
-      tuck-done g c q l t = (sym tuck-stopped ∙ g, tuck-state s x e ∙ simp (t ∙ tuck-made (s .loops) (x .at) m f g, q))
+    pub miss-stopped : x .kind ≡ 6 → n ≡ numberAt s x
+    miss-stopped e = is ∙ asks-miss e ∙ sym (miss-number s x e)
+
+    pub miss-made : x .kind ≡ 6 → n ≡ 0 → (c : Carrier) → c ≡ reparked (carrierOf s (x .carrier)) (exitSlot s x) → Made (with (s .loops) c)
+    miss-made e h c q = (sym (miss-stopped e) ∙ h, miss-state s x e ∙ simp q)
+
+    -- kinds 4 to 5
+    module _ (low : 4 ≤ x .kind) (high : x .kind ≤ 5) where
+      one : {G : Type 0} → (x .kind ≡ 4 → G) → (x .kind ≡ 5 → G) → G
+      one f g = cases (eqb (x .kind) 4) (λ t. f (eqb-true _ _ t)) (λ t. g (last (x .kind) low high (eqb-false _ _ t)))
+        where
+          last : (k : ℕ) → 4 ≤ k → k ≤ 5 → (k ≡ 4 → ⊥) → k ≡ 5
+          last k h i a = omega arith
+
+      pub in-out-stopped : n ≡ numberAt s x
+      in-out-stopped = one in-stopped out-stopped
+
+      pub in-out-made : n ≡ 0 → (c : Carrier) → c ≡ cond (eqb (x .kind) 4) (unattached (entrySlot s x)) inactive → Made (with (s .loops) c)
+      in-out-made h c q = one (λ e. in-made e h c (q ∙ simp e)) (λ e. out-made e h c (q ∙ simp e))
+
+  -- kinds 7 to 8: a tuck asks for room besides
+  module _ (low : 7 ≤ x .kind) (high : x .kind ≤ 8) (n : ℕ) (is : n ≡ readyNo s x) where
+    either : {G : Type 0} → (x .kind ≡ 7 → G) → (x .kind ≡ 8 → G) → G
+    either f g = cases (eqb (x .kind) 7) (λ t. f (eqb-true _ _ t)) (λ t. g (last (x .kind) low high (eqb-false _ _ t)))
+      where
+        last : (k : ℕ) → 7 ≤ k → k ≤ 8 → (k ≡ 7 → ⊥) → k ≡ 8
+        last k h i a = omega arith
+
+    pub loop-unready : (n ≡ 0 → ⊥) → n ≡ numberAt s x
+    loop-unready h =
+        either (λ e. simp (← is) (before n _ h) ∙ sym (tuck-number s x e)) (λ e. is ∙ sym (knit-number s x e))
+
+    module _ (h : n ≡ 0) (m : ℕ) (f : m ≡ cond (eqb (x .kind) 7) (tuckNo (loopsOn s (x .at))) 0) where
+      tuck-stopped : x .kind ≡ 7 → m ≡ numberAt s x
+      tuck-stopped e = after (readyNo s x) _ m (sym is ∙ h) (f ∙ simp e) ∙ sym (tuck-number s x e)
+
+      knit-zero : x .kind ≡ 8 → m ≡ 0
+      knit-zero e = f ∙ simp e
+
+      knit-stopped : x .kind ≡ 8 → m ≡ numberAt s x
+      knit-stopped e = knit-zero e ∙ sym (knit-number s x e ∙ sym is ∙ h)
+
+      pub loop-stopped : m ≡ numberAt s x
+      loop-stopped = either tuck-stopped knit-stopped
+
+      -- the loops, by the number
+      abbrev formed : List ℕ
+      formed = cond (eqb (x .kind) 7) (tucked (s .loops) (x .at)) (set (s .loops) (hookOf (x .at)) 1)
+
+      formed-tuck : x .kind ≡ 7 → formed ≡ tucked (s .loops) (x .at)
+      formed-tuck e = simp e
+
+      formed-knit : x .kind ≡ 8 → formed ≡ set (s .loops) (hookOf (x .at)) 1
+      formed-knit e = simp e
+
+      pub loop-kept : (m ≡ 0 → ⊥) → formed ≡ s .loops
+      loop-kept g =
+          either (λ e. formed-tuck e ∙ tuck-kept (s .loops) (x .at) m (f ∙ simp e) g) (λ e. absurd (g (knit-zero e)))
+
+      pub loop-made : m ≡ 0 → (c : Carrier) → c ≡ attached (exitSlot s x) (x .at) (x .right) → (l : List ℕ) → l ≡ formed → Made (with l c)
+      loop-made g c q l t = (
+        sym loop-stopped ∙ g,
+        either
+            (λ e. tuck-state s x e ∙ simp (t ∙ formed-tuck e ∙ tuck-made (s .loops) (x .at) m (f ∙ simp e) g, q))
+            (λ e. knit-state s x e ∙ simp (t ∙ formed-knit e, q)),
+      )
 
   -- a split asks for room and for opposite needles
-  module _ (e : x .kind ≡ 9) (n : ℕ) (is : n ≡ readyNo s x) where
+  module _ (e : x .kind ≡ 9) (n : ℕ) (said : n ≡ asks) where
+    is : n ≡ readyNo s x
+    is = said ∙ asks-split e
+
     pub split-unready : (n ≡ 0 → ⊥) → n ≡ numberAt s x
     split-unready h = simp (← is) (before n _ h) ∙ sym (split-number s x e)
 

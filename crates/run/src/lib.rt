@@ -2,7 +2,9 @@
 ghost use mathlib.Core.Path.{_≡_};
 ghost use Prim.Native.Nat.{_≤_, _<_};
 ghost use lib.ListN.{getD, set};
-ghost use Rattle.machine.specs.Machine.{OnBed, hookOf, emptyState};
+ghost use lib.Dec.{eqb};
+ghost use mathlib.Core.Bool.{cond};
+ghost use Rattle.machine.specs.Machine.{OnBed, hookOf, inactive, emptyState};
 ghost use Rattle.machine.specs.Geometry.{columnOf, entryOf, exitOf};
 ghost use Rattle.run.specs.Relation.{unattached, reparked, attached};
 ghost use Rattle.run.specs.Step.{lookOf, parkedNo, floatNo, orNumber, askedNo};
@@ -109,7 +111,7 @@ fn asked(kind: u8, n: Needle, right: bool, c: Carrier, r: Racking) -> u8
     }
 }
 
-// The carrier after in, after a miss, and after it formed a loop at the needle.
+// The carrier after in; after in or out, by the kind; after a miss; after it formed a loop at the needle.
 fn enter(n: Needle, r: Racking, right: bool) -> Carrier
     requires { ⌜ OnBed n ⌝ }
     ensures { λ c. ⌜ c ≡ unattached (entryOf (columnOf n r) right) ⌝ }
@@ -120,6 +122,17 @@ fn enter(n: Needle, r: Racking, right: bool) -> Carrier
         side: 0,
         slot,
         needle: Needle(0, 0),
+    }
+}
+
+fn enter_or_leave(kind: u8, n: Needle, r: Racking, right: bool) -> Carrier
+    requires { ⌜ (4 ≤ kind) × (kind ≤ 5) × (OnBed n) ⌝ }
+    ensures { λ c. ⌜ c ≡ cond (eqb kind 4) (unattached (entryOf (columnOf n r) right)) inactive ⌝ }
+{
+    match kind {
+        4 => enter(n, r, right),
+        5 => Carrier::inactive(),
+        _ => Carrier::inactive(),
     }
 }
 
@@ -172,6 +185,22 @@ fn tuck(loops: &mut [u8; State::HOOKS], n: Needle) -> u8
     }
     loops[i] = here + 1;
     0
+}
+
+// The loop that a tuck or a knit forms on the needle's hook: 0, or 11 and no store.
+fn form(kind: u8, loops: &mut [u8; State::HOOKS], n: Needle) -> u8
+    requires { ⌜ (7 ≤ kind) × (kind ≤ 8) × (OnBed n) ⌝ }
+    ensures { λ k. ⌜ (k ≡ cond (eqb kind 7) (tuckNo (getD (now (loops .entry)) (hookOf n) 0)) 0)
+        × (now (loops .exit) ≡ cond (eqb kind 7) (tucked (now (loops .entry)) n) (set (now (loops .entry)) (hookOf n) 1)) ⌝ }
+{
+    match kind {
+        7 => tuck(loops, n),
+        8 => {
+            put(loops, n, 1);
+            0
+        }
+        _ => 0,
+    }
 }
 
 // The loops at a go to b, and a then holds v: 0, or 10 or 11 and no store.
@@ -250,72 +279,49 @@ fn run_from(state: State, program: &[u8]) -> Reached
                     st.carriers = ds;
                 }
             }
-            // in
-            4 => {
+            // in, out
+            4..=5 => {
                 let k = (x.carrier as usize) - 1;
                 let c = st.carriers[k];
-                let number = asked(4, n, x.right, c, r);
+                let number = asked(kind, n, x.right, c, r);
                 if number != 0 {
                     return stop(number, at, st);
                 }
-                let then = enter(n, r, x.right);
-                st.carriers[k] = then;
-            }
-            // out
-            5 => {
-                let k = (x.carrier as usize) - 1;
-                let c = st.carriers[k];
-                let number = asked(5, n, x.right, c, r);
-                if number != 0 {
-                    return stop(number, at, st);
-                }
-                let then = Carrier::inactive();
+                let then = enter_or_leave(kind, n, r, x.right);
                 st.carriers[k] = then;
             }
             // miss
             6 => {
                 let k = (x.carrier as usize) - 1;
                 let c = st.carriers[k];
-                let number = asked(6, n, x.right, c, r);
+                let number = asked(kind, n, x.right, c, r);
                 if number != 0 {
                     return stop(number, at, st);
                 }
                 let then = pass(c, n, r, x.right);
                 st.carriers[k] = then;
             }
-            // tuck
-            7 => {
+            // tuck, knit: `asked` says `ready` of both, with one more look at the kind
+            7..=8 => {
                 let k = (x.carrier as usize) - 1;
                 let c = st.carriers[k];
-                let number = asked(7, n, x.right, c, r);
+                let number = ready(c, n, r, x.right);
                 if number != 0 {
                     return stop(number, at, st);
                 }
-                let number = tuck(&mut st.loops, n);
+                let number = form(kind, &mut st.loops, n);
                 if number != 0 {
                     return stop(number, at, st);
                 }
                 let then = attach(n, r, x.right);
                 st.carriers[k] = then;
             }
-            // knit
-            8 => {
-                let k = (x.carrier as usize) - 1;
-                let c = st.carriers[k];
-                let number = asked(8, n, x.right, c, r);
-                if number != 0 {
-                    return stop(number, at, st);
-                }
-                put(&mut st.loops, n, 1);
-                let then = attach(n, r, x.right);
-                st.carriers[k] = then;
-            }
-            // split: decode gives no other kind
-            _ => {
+            // split
+            9 => {
                 let m = x.to;
                 let k = (x.carrier as usize) - 1;
                 let c = st.carriers[k];
-                let number = asked(9, n, x.right, c, r);
+                let number = asked(kind, n, x.right, c, r);
                 if number != 0 {
                     return stop(number, at, st);
                 }
@@ -333,6 +339,8 @@ fn run_from(state: State, program: &[u8]) -> Reached
                     st.carriers[k] = then;
                 }
             }
+            // decode gives no other kind
+            _ => {}
         }
         at = next;
     }

@@ -4,21 +4,21 @@ use native.Mathlib.Omega.{arith}
 use borrow.Author.Tests.{le-leb, lt-leb, lt-ltb, le-ltb, not-true, not-false}
 use mathlib.Core.Path.{_≡_, sym, _∙_}
 use Prim.Native.Nat.{ℕ, _-_, _≤_}
-use mathlib.Core.Bool.{true}
+use mathlib.Core.Bool.{true, not}
 use mathlib.Core.List.{List}
 use lib.Dec.{eqb}
 use lib.ListN.{length}
 use Rattle.record.specs.declared.Decoded.{Decoded}
 use Rattle.record.specs.Format.{byte, needle, workOk, splitRecord, sizeOf, whole, ranged, splitAt}
-use Rattle.record.proofs.Ranges.{work-bed}
+use Rattle.record.proofs.Ranges.{work-right, work-bed, direction}
 use Rattle.record.proofs.split.Statement.{statement}
 use Rattle.record.proofs.split.Tie as tie
 
 module _ (l : List ℕ) (right bed n k m : ℕ) (b1 : right ≡ byte l 1) (b2 : bed ≡ byte l 2) (b3 : n ≡ byte l 3) (b4 : k ≡ byte l 4) (b5 : m ≡ byte l 5) where
   in-range : 6 ≤ length l → workOk right bed n k ≡ true → m ≤ 249
-      → _≡_ {A = Decoded} (record { number = 0; size = 6; what = splitRecord (eqb right 1) (needle bed n) k (needle (1 - bed) m) }) (whole l 6 (splitAt l))
+      → _≡_ {A = Decoded} (record { number = 0; size = 6; what = splitRecord (not (eqb right 0)) (needle bed n) k (needle (1 - bed) m) }) (whole l 6 (splitAt l))
   unfolding whole ranged
-  in-range h w f = simp (le-ltb _ _ h, ← b1, ← b2, ← b3, ← b4, ← b5, w, le-leb _ _ f)
+  in-range h w f = simp (le-ltb _ _ h, ← b1, ← b2, ← b3, ← b4, ← b5, w, le-leb _ _ f, direction right (work-right right bed n k w))
 
 -- the record's length, and that so many bytes are there
 sized : (b : tie.After-size-of) → b .size-of .result ≡ 6

@@ -2,13 +2,23 @@
 use borrow.Author.Needs.{needs}
 use native.Mathlib.Omega.{arith}
 use borrow.Author.Tests.{lt-ltb, le-ltb, not-true, not-false}
-use mathlib.Core.Path.{_≡_, _∙_}
-use Prim.Native.Nat.{_≤_}
+use mathlib.Core.Path.{_≡_, sym, _∙_}
+use mathlib.Core.Bool.{true, not}
+use mathlib.Core.List.{List}
+use Prim.Native.Nat.{ℕ, _≤_}
+use lib.Dec.{eqb}
 use lib.ListN.{length}
-use Rattle.record.specs.Format.{whole, ranged}
-use Rattle.record.proofs.Ranges.{work-size}
+use Rattle.record.specs.declared.Decoded.{Decoded}
+use Rattle.record.specs.Format.{byte, needle, workOk, workRecord, whole, ranged, workAt}
+use Rattle.record.proofs.Ranges.{work-size, work-right, direction}
 use Rattle.record.proofs.work.Statement.{statement}
 use Rattle.record.proofs.work.Tie as tie
+
+module _ (kind : ℕ) (l : List ℕ) (right bed n k : ℕ) (b1 : right ≡ byte l 1) (b2 : bed ≡ byte l 2) (b3 : n ≡ byte l 3) (b4 : k ≡ byte l 4) where
+  in-range : 5 ≤ length l → workOk right bed n k ≡ true
+      → _≡_ {A = Decoded} (record { number = 0; size = 5; what = workRecord kind (not (eqb right 0)) (needle bed n) k }) (whole l 5 (workAt kind l))
+  unfolding whole ranged
+  in-range h w = simp (le-ltb _ _ h, ← b1, ← b2, ← b3, ← b4, w, direction right (work-right right bed n k w))
 
 -- the record's length, and that so many bytes are there
 sized : (b : tie.After-size-of) → b .size-of .result ≡ 5
@@ -57,9 +67,10 @@ cast-t14 : tie.Need-cast-t14
 cast-t14 c = search needs
 
 returns-3 : tie.Need-returns-3
-unfolding whole ranged
-returns-3 c = let w = c .before in let d = w .before in
-    simp (sized (d .before .before .before .before .before), le-ltb _ _ (long (d .before .before .before .before)), ← d .byte4 .ensures, ← d .before .byte3 .ensures, ← d .before .before .byte2 .ensures, ← d .before .before .before .byte .ensures, ← w .work-ok .ensures, not-false (w .work-ok .result) (c .if2 .left))
+returns-3 c = let w = c .before in let d = w .before in let a = d .before .before .before .before .before .before .before .args in
+    simp (sized (d .before .before .before .before .before))
+    (in-range (a .kind) (a .l .now) _ _ _ _ (d .before .before .before .byte .ensures) (d .before .before .byte2 .ensures) (d .before .byte3 .ensures) (d .byte4 .ensures) (long (d .before .before .before .before))
+    (sym (w .work-ok .ensures) ∙ not-false (w .work-ok .result) (c .if2 .left)))
 
 pub work-spec : {M : Type 1} → statement M
 work-spec =

@@ -1,4 +1,4 @@
--- The run: after each turn the rest of the program is run from the state so far. Each arm cites the law of its kind. Assumes nothing.
+-- The run: after each turn the rest of the program is run from the state so far. Each arm cites the law of its kinds. Assumes nothing.
 use Prim.Native.Nat.{ℕ, _+_, _-_, _≤_, _<_}
 use mathlib.Core.Path.{_≡_, refl, sym, _∙_}
 use mathlib.Core.List.{List}
@@ -8,12 +8,12 @@ use lib.ListN.{length, drop}
 use Rattle.machine.specs.declared.State.{State}
 use Rattle.record.specs.declared.Record.{Record}
 use Rattle.record.specs.declared.Decoded.{Decoded}
-use Rattle.record.proofs.Ranges.{InRange}
+use Rattle.record.proofs.Ranges.{InRange, four}
 use Rattle.run.specs.Step.{numberAt}
 use Rattle.run.specs.Run.{reached, runFrom}
 use Rattle.run.proofs.Turns.{Turn, ended, turned, refused, in-range, sized, stopped, goes}
-use Rattle.run.proofs.Arms.{Made, nine, transfer-kept, tuck-kept, unmoved, rack-made, drop-made, xfer-stopped, xfer-made, in-stopped, in-made, out-stopped, out-made}
-use Rattle.run.proofs.Arms.{miss-stopped, miss-made, tuck-unready, tuck-stopped, tuck-done, knit-stopped, knit-made, split-unready, split-stopped, split-made}
+use Rattle.run.proofs.Arms.{Made, transfer-kept, unmoved, rack-made, drop-made, xfer-stopped, xfer-made, in-out-stopped, in-out-made, miss-stopped, miss-made}
+use Rattle.run.proofs.Arms.{loop-unready, loop-stopped, loop-kept, loop-made, split-unready, split-stopped, split-made}
 use Rattle.run.proofs.run_from.Statement.{statement}
 use Rattle.run.proofs.run_from.Tie as tie
 
@@ -67,33 +67,45 @@ module _ (b : tie.Else1 Inv-loop μ-loop) where
   abbrev Carried : Type 0
   Carried = (1 ≤ x .carrier) × (x .carrier ≤ 10)
 
-  carried : {k : ℕ} → x .kind ≡ k → 4 ≤ k → Carried
-  carried e h = (known .carrier-low (omega (arith, e)), known .carrier-high)
+  carried : 4 ≤ x .kind → Carried
+  carried h = (known .carrier-low h, known .carrier-high)
 
-in-carrier : (m : tie.At-match-keys4 Inv-loop μ-loop) → Carried (m .before .before .before .before .before)
-in-carrier m = carried (m .before .before .before .before .before) (m .match .keys4) (omega arith)
+miss-carrier : (m : tie.At-match-keys4 Inv-loop μ-loop) → Carried (m .before .before .before .before .before)
+miss-carrier m = carried (m .before .before .before .before .before) (omega (arith, m .match .keys4))
 
-out-carrier : (m : tie.At-match-keys5 Inv-loop μ-loop) → Carried (m .before .before .before .before .before)
-out-carrier m = carried (m .before .before .before .before .before) (m .match .keys5) (omega arith)
+split-carrier : (m : tie.At-match-keys5 Inv-loop μ-loop) → Carried (m .before .before .before .before .before)
+split-carrier m = carried (m .before .before .before .before .before) (omega (arith, m .match .keys5))
 
-miss-carrier : (m : tie.At-match-keys6 Inv-loop μ-loop) → Carried (m .before .before .before .before .before)
-miss-carrier m = carried (m .before .before .before .before .before) (m .match .keys6) (omega arith)
+-- the arm of in and out
+module _ (t : tie.Then9 Inv-loop μ-loop) where
+  abbrev in-out : tie.Else1 Inv-loop μ-loop
+  in-out = t .before .before .before .before .before .before .before
 
-tuck-carrier : (m : tie.At-match-keys7 Inv-loop μ-loop) → Carried (m .before .before .before .before .before)
-tuck-carrier m = carried (m .before .before .before .before .before) (m .match .keys7) (omega arith)
+  in-out-low : 4 ≤ x in-out .kind
+  in-out-low = let no = t .before .before .match .rest in
+      four (x in-out .kind) (known in-out .low) (no .0 .0 .0 .0 .1) (no .0 .0 .0 .1) (no .0 .0 .1)
 
-knit-carrier : (m : tie.At-match-keys8 Inv-loop μ-loop) → Carried (m .before .before .before .before .before)
-knit-carrier m = carried (m .before .before .before .before .before) (m .match .keys8) (omega arith)
+  in-out-high : x in-out .kind ≤ 5
+  in-out-high = omega (arith, t .if9 .taken, t .before .before .match .rest .0 .1)
 
--- the last arm is split's
-split-kind : (m : tie.At-match-rest Inv-loop μ-loop) → x (m .before .before .before .before .before) .kind ≡ 9
-split-kind m = let no = m .match .rest in
-    nine (known (m .before .before .before .before .before)) (no .0 .0 .0 .0 .0 .0 .0 .1) (no .0 .0 .0 .0 .0 .0 .1) (no .0 .0 .0 .0 .0 .1) (no .0 .0 .0 .0 .1) (no .0 .0 .0 .1) (no .0 .0 .1) (no .0 .1) (no .1)
+  in-out-carrier : Carried in-out
+  in-out-carrier = carried in-out in-out-low
 
-split-carrier : (m : tie.At-match-rest Inv-loop μ-loop) → Carried (m .before .before .before .before .before)
-split-carrier m = carried (m .before .before .before .before .before) (split-kind m) (omega arith)
+-- the arm of tuck and knit
+module _ (t : tie.Then11 Inv-loop μ-loop) where
+  abbrev loop : tie.Else1 Inv-loop μ-loop
+  loop = t .before .before .before .before .before .before .before .before
 
--- below, m is where an arm begins and b where its record has been decoded
+  loop-low : 7 ≤ x loop .kind
+  loop-low = omega (arith, t .before .if9 .left, t .before .before .before .match .rest .0 .1)
+
+  loop-high : x loop .kind ≤ 8
+  loop-high = omega (arith, t .if11 .taken, t .before .before .before .match .rest .1)
+
+  loop-carrier : Carried loop
+  loop-carrier = carried loop (omega (arith, loop-low))
+
+-- below, m or t is where an arm begins and b where its record has been decoded
 loop-holds : tie.Need-loop-holds Inv-loop μ-loop
 loop-holds c = (search needs, refl)
 
@@ -141,204 +153,67 @@ cast-k : tie.Need-cast-k Inv-loop μ-loop
 cast-k c = search needs
 
 sub-k : tie.Need-sub-k Inv-loop μ-loop
-sub-k c = omega (arith, in-carrier (c .before))
+sub-k c = omega (arith, miss-carrier (c .before))
 
 mul-c : tie.Need-mul-c Inv-loop μ-loop
-mul-c c = omega (arith, in-carrier (c .before))
+mul-c c = omega (arith, miss-carrier (c .before))
 
 element-copy-out-c : tie.Need-element-copy-out-c Inv-loop μ-loop
-element-copy-out-c c = omega (arith, in-carrier (c .before))
+element-copy-out-c c = omega (arith, miss-carrier (c .before))
 
 asked-requires : tie.Need-asked-requires Inv-loop μ-loop
-asked-requires c κs = let b = c .before .before .before .before .before .before .before in (omega arith, known b .at-bed)
+asked-requires c κs = let b = c .before .before .before .before .before .before .before in (known b .high, known b .at-bed)
 
 stop-requires-3 : tie.Need-stop-requires-3 Inv-loop μ-loop
 stop-requires-3 c κs = search needs
 
 returns-3 : tie.Need-returns-3 Inv-loop μ-loop
-returns-3 c = let m = c .before .before .before .before .before in let b = m .before .before .before .before .before in let e = m .match .keys4 in
-    c .stop3 .ensures ∙ halt b (in-stopped (s b) (x b) _ e (c .before .before .asked .ensures)) (c .before .if4 .taken)
+returns-3 c = let m = c .before .before .before .before .before in let b = m .before .before .before .before .before in
+    c .stop3 .ensures ∙ halt b (miss-stopped (s b) (x b) _ (c .before .before .asked .ensures) (m .match .keys4)) (c .before .if4 .taken)
 
-enter-requires : tie.Need-enter-requires Inv-loop μ-loop
-enter-requires c κs = known (c .before .before .before .before .before .before .before .before .before) .at-bed
+pass-requires : tie.Need-pass-requires Inv-loop μ-loop
+pass-requires c κs = known (c .before .before .before .before .before .before .before .before .before) .at-bed
 
 mul-then : tie.Need-mul-then Inv-loop μ-loop
-mul-then c = omega (arith, in-carrier (c .before .before .before .before .before))
+mul-then c = omega (arith, miss-carrier (c .before .before .before .before .before))
 
 element-set-from-then : tie.Need-element-set-from-then Inv-loop μ-loop
-element-set-from-then c = omega (arith, in-carrier (c .before .before .before .before .before))
+element-set-from-then c = omega (arith, miss-carrier (c .before .before .before .before .before))
 
 cast-k-2 : tie.Need-cast-k-2 Inv-loop μ-loop
 cast-k-2 c = search needs
 
 sub-k-2 : tie.Need-sub-k-2 Inv-loop μ-loop
-sub-k-2 c = omega (arith, out-carrier (c .before))
+sub-k-2 c = omega (arith, split-carrier (c .before .before))
 
 mul-c-2 : tie.Need-mul-c-2 Inv-loop μ-loop
-mul-c-2 c = omega (arith, out-carrier (c .before))
+mul-c-2 c = omega (arith, split-carrier (c .before .before))
 
 element-copy-out-c-2 : tie.Need-element-copy-out-c-2 Inv-loop μ-loop
-element-copy-out-c-2 c = omega (arith, out-carrier (c .before))
+element-copy-out-c-2 c = omega (arith, split-carrier (c .before .before))
 
 asked-requires-2 : tie.Need-asked-requires-2 Inv-loop μ-loop
-asked-requires-2 c κs = let b = c .before .before .before .before .before .before .before in (omega arith, known b .at-bed)
+asked-requires-2 c κs = let b = c .before .before .before .before .before .before .before .before in (known b .high, known b .at-bed)
 
 stop-requires-4 : tie.Need-stop-requires-4 Inv-loop μ-loop
 stop-requires-4 c κs = search needs
 
 returns-4 : tie.Need-returns-4 Inv-loop μ-loop
-returns-4 c = let m = c .before .before .before .before .before in let b = m .before .before .before .before .before in let e = m .match .keys5 in
-    c .stop4 .ensures ∙ halt b (out-stopped (s b) (x b) _ e (c .before .before .asked2 .ensures)) (c .before .if5 .taken)
+returns-4 c = let m = c .before .before .before .before .before .before in let b = m .before .before .before .before .before in
+    c .stop4 .ensures ∙ halt b (split-unready (s b) (x b) (m .match .keys5) _ (c .before .before .asked2 .ensures) (c .before .if5 .taken)) (c .before .if5 .taken)
 
-inactive-requires : tie.Need-inactive-requires Inv-loop μ-loop
-inactive-requires c κs = search needs
-
-mul-then-2 : tie.Need-mul-then-2 Inv-loop μ-loop
-mul-then-2 c = omega (arith, out-carrier (c .before .before .before .before .before))
-
-element-set-from-then-2 : tie.Need-element-set-from-then-2 Inv-loop μ-loop
-element-set-from-then-2 c = omega (arith, out-carrier (c .before .before .before .before .before))
-
-cast-k-3 : tie.Need-cast-k-3 Inv-loop μ-loop
-cast-k-3 c = search needs
-
-sub-k-3 : tie.Need-sub-k-3 Inv-loop μ-loop
-sub-k-3 c = omega (arith, miss-carrier (c .before))
-
-mul-c-3 : tie.Need-mul-c-3 Inv-loop μ-loop
-mul-c-3 c = omega (arith, miss-carrier (c .before))
-
-element-copy-out-c-3 : tie.Need-element-copy-out-c-3 Inv-loop μ-loop
-element-copy-out-c-3 c = omega (arith, miss-carrier (c .before))
-
-asked-requires-3 : tie.Need-asked-requires-3 Inv-loop μ-loop
-asked-requires-3 c κs = let b = c .before .before .before .before .before .before .before in (omega arith, known b .at-bed)
+transfer-requires-2 : tie.Need-transfer-requires-2 Inv-loop μ-loop
+transfer-requires-2 c κs = let b = c .before .before .before .before .before .before .before .before .before .before .before in (known b .at-bed, known b .to-bed)
 
 stop-requires-5 : tie.Need-stop-requires-5 Inv-loop μ-loop
 stop-requires-5 c κs = search needs
 
 returns-5 : tie.Need-returns-5 Inv-loop μ-loop
-returns-5 c = let m = c .before .before .before .before .before in let b = m .before .before .before .before .before in let e = m .match .keys6 in
-    c .stop5 .ensures ∙ halt b (miss-stopped (s b) (x b) _ e (c .before .before .asked3 .ensures)) (c .before .if6 .taken)
-
-pass-requires : tie.Need-pass-requires Inv-loop μ-loop
-pass-requires c κs = known (c .before .before .before .before .before .before .before .before .before) .at-bed
-
-mul-then-3 : tie.Need-mul-then-3 Inv-loop μ-loop
-mul-then-3 c = omega (arith, miss-carrier (c .before .before .before .before .before))
-
-element-set-from-then-3 : tie.Need-element-set-from-then-3 Inv-loop μ-loop
-element-set-from-then-3 c = omega (arith, miss-carrier (c .before .before .before .before .before))
-
-cast-k-4 : tie.Need-cast-k-4 Inv-loop μ-loop
-cast-k-4 c = search needs
-
-sub-k-4 : tie.Need-sub-k-4 Inv-loop μ-loop
-sub-k-4 c = omega (arith, tuck-carrier (c .before))
-
-mul-c-4 : tie.Need-mul-c-4 Inv-loop μ-loop
-mul-c-4 c = omega (arith, tuck-carrier (c .before))
-
-element-copy-out-c-4 : tie.Need-element-copy-out-c-4 Inv-loop μ-loop
-element-copy-out-c-4 c = omega (arith, tuck-carrier (c .before))
-
-asked-requires-4 : tie.Need-asked-requires-4 Inv-loop μ-loop
-asked-requires-4 c κs = let b = c .before .before .before .before .before .before .before in (omega arith, known b .at-bed)
-
-stop-requires-6 : tie.Need-stop-requires-6 Inv-loop μ-loop
-stop-requires-6 c κs = search needs
-
-returns-6 : tie.Need-returns-6 Inv-loop μ-loop
-returns-6 c = let m = c .before .before .before .before .before in let b = m .before .before .before .before .before in let e = m .match .keys7 in
-    c .stop6 .ensures ∙ halt b (tuck-unready (s b) (x b) e _ (c .before .before .asked4 .ensures) (c .before .if7 .taken)) (c .before .if7 .taken)
-
-tuck-requires : tie.Need-tuck-requires Inv-loop μ-loop
-tuck-requires c κs = known (c .before .before .before .before .before .before .before .before .before .before) .at-bed
-
-stop-requires-7 : tie.Need-stop-requires-7 Inv-loop μ-loop
-stop-requires-7 c κs = search needs
-
-returns-7 : tie.Need-returns-7 Inv-loop μ-loop
-returns-7 c = let m = c .before .before .before .before .before .before .before .before in let b = m .before .before .before .before .before in let e = m .match .keys7 in let told = c .before .before .tuck .ensures in
-    c .stop7 .ensures ∙ simp (told .1, tuck-kept (s b .loops) (x b .at) _ (told .0) (c .before .if8 .taken)) (halt b (tuck-stopped (s b) (x b) e _ (c .before .before .before .before .before .asked4 .ensures) (c .before .before .before .before .if7 .left) _ (told .0)) (c .before .if8 .taken))
+returns-5 c = let m = c .before .before .before .before .before .before .before .before .before in let b = m .before .before .before .before .before in let told = c .before .before .transfer2 .ensures in
+    c .stop5 .ensures ∙ simp (told .1, transfer-kept (s b .loops) (x b .at) (x b .to) (s b .racking) 1 _ (told .0) (c .before .if6 .taken)) (halt b (split-stopped (s b) (x b) (m .match .keys5) _ (c .before .before .before .before .before .asked2 .ensures) (c .before .before .before .before .if5 .left) _ (told .0)) (c .before .if6 .taken))
 
 attach-requires : tie.Need-attach-requires Inv-loop μ-loop
-attach-requires c κs = known (c .before .before .before .before .before .before .before .before .before .before .before .before) .at-bed
-
-mul-then-4 : tie.Need-mul-then-4 Inv-loop μ-loop
-mul-then-4 c = omega (arith, tuck-carrier (c .before .before .before .before .before .before .before .before))
-
-element-set-from-then-4 : tie.Need-element-set-from-then-4 Inv-loop μ-loop
-element-set-from-then-4 c = omega (arith, tuck-carrier (c .before .before .before .before .before .before .before .before))
-
-cast-k-5 : tie.Need-cast-k-5 Inv-loop μ-loop
-cast-k-5 c = search needs
-
-sub-k-5 : tie.Need-sub-k-5 Inv-loop μ-loop
-sub-k-5 c = omega (arith, knit-carrier (c .before))
-
-mul-c-5 : tie.Need-mul-c-5 Inv-loop μ-loop
-mul-c-5 c = omega (arith, knit-carrier (c .before))
-
-element-copy-out-c-5 : tie.Need-element-copy-out-c-5 Inv-loop μ-loop
-element-copy-out-c-5 c = omega (arith, knit-carrier (c .before))
-
-asked-requires-5 : tie.Need-asked-requires-5 Inv-loop μ-loop
-asked-requires-5 c κs = let b = c .before .before .before .before .before .before .before in (omega arith, known b .at-bed)
-
-stop-requires-8 : tie.Need-stop-requires-8 Inv-loop μ-loop
-stop-requires-8 c κs = search needs
-
-returns-8 : tie.Need-returns-8 Inv-loop μ-loop
-returns-8 c = let m = c .before .before .before .before .before in let b = m .before .before .before .before .before in let e = m .match .keys8 in
-    c .stop8 .ensures ∙ halt b (knit-stopped (s b) (x b) _ e (c .before .before .asked5 .ensures)) (c .before .if9 .taken)
-
-put-requires-2 : tie.Need-put-requires-2 Inv-loop μ-loop
-put-requires-2 c κs = known (c .before .before .before .before .before .before .before .before .before .before) .at-bed
-
-attach-requires-2 : tie.Need-attach-requires-2 Inv-loop μ-loop
-attach-requires-2 c κs = known (c .before .before .before .before .before .before .before .before .before .before .before) .at-bed
-
-mul-then-5 : tie.Need-mul-then-5 Inv-loop μ-loop
-mul-then-5 c = omega (arith, knit-carrier (c .before .before .before .before .before .before .before))
-
-element-set-from-then-5 : tie.Need-element-set-from-then-5 Inv-loop μ-loop
-element-set-from-then-5 c = omega (arith, knit-carrier (c .before .before .before .before .before .before .before))
-
-cast-k-6 : tie.Need-cast-k-6 Inv-loop μ-loop
-cast-k-6 c = search needs
-
-sub-k-6 : tie.Need-sub-k-6 Inv-loop μ-loop
-sub-k-6 c = omega (arith, split-carrier (c .before .before))
-
-mul-c-6 : tie.Need-mul-c-6 Inv-loop μ-loop
-mul-c-6 c = omega (arith, split-carrier (c .before .before))
-
-element-copy-out-c-6 : tie.Need-element-copy-out-c-6 Inv-loop μ-loop
-element-copy-out-c-6 c = omega (arith, split-carrier (c .before .before))
-
-asked-requires-6 : tie.Need-asked-requires-6 Inv-loop μ-loop
-asked-requires-6 c κs = let b = c .before .before .before .before .before .before .before .before in (omega arith, known b .at-bed)
-
-stop-requires-9 : tie.Need-stop-requires-9 Inv-loop μ-loop
-stop-requires-9 c κs = search needs
-
-returns-9 : tie.Need-returns-9 Inv-loop μ-loop
-returns-9 c = let m = c .before .before .before .before .before .before in let b = m .before .before .before .before .before in let e = split-kind m in
-    c .stop9 .ensures ∙ halt b (split-unready (s b) (x b) e _ (c .before .before .asked6 .ensures) (c .before .if10 .taken)) (c .before .if10 .taken)
-
-transfer-requires-2 : tie.Need-transfer-requires-2 Inv-loop μ-loop
-transfer-requires-2 c κs = let b = c .before .before .before .before .before .before .before .before .before .before .before in (known b .at-bed, known b .to-bed)
-
-stop-requires-10 : tie.Need-stop-requires-10 Inv-loop μ-loop
-stop-requires-10 c κs = search needs
-
-returns-10 : tie.Need-returns-10 Inv-loop μ-loop
-returns-10 c = let m = c .before .before .before .before .before .before .before .before .before in let b = m .before .before .before .before .before in let e = split-kind m in let told = c .before .before .transfer2 .ensures in
-    c .stop10 .ensures ∙ simp (told .1, transfer-kept (s b .loops) (x b .at) (x b .to) (s b .racking) 1 _ (told .0) (c .before .if11 .taken)) (halt b (split-stopped (s b) (x b) e _ (c .before .before .before .before .before .asked6 .ensures) (c .before .before .before .before .if10 .left) _ (told .0)) (c .before .if11 .taken))
-
-attach-requires-3 : tie.Need-attach-requires-3 Inv-loop μ-loop
-attach-requires-3 c κs = known (c .before .before .before .before .before .before .before .before .before .before .before .before .before) .at-bed
+attach-requires c κs = known (c .before .before .before .before .before .before .before .before .before .before .before .before .before) .at-bed
 
 any-beside-requires-2 : tie.Need-any-beside-requires-2 Inv-loop μ-loop
 any-beside-requires-2 c κs = search needs
@@ -352,11 +227,83 @@ mul-ds c = omega (arith, split-carrier (c .before .before .before .before .befor
 array-set-from-ds : tie.Need-array-set-from-ds Inv-loop μ-loop
 array-set-from-ds c = omega (arith, split-carrier (c .before .before .before .before .before .before .before .before .before .before .before .before .before))
 
-mul-then-6 : tie.Need-mul-then-6 Inv-loop μ-loop
-mul-then-6 c = omega (arith, split-carrier (c .before .before .before .before .before .before .before .before .before .before .before .before))
+mul-then-2 : tie.Need-mul-then-2 Inv-loop μ-loop
+mul-then-2 c = omega (arith, split-carrier (c .before .before .before .before .before .before .before .before .before .before .before .before))
 
-element-set-from-then-6 : tie.Need-element-set-from-then-6 Inv-loop μ-loop
-element-set-from-then-6 c = omega (arith, split-carrier (c .before .before .before .before .before .before .before .before .before .before .before .before))
+element-set-from-then-2 : tie.Need-element-set-from-then-2 Inv-loop μ-loop
+element-set-from-then-2 c = omega (arith, split-carrier (c .before .before .before .before .before .before .before .before .before .before .before .before))
+
+cast-k-3 : tie.Need-cast-k-3 Inv-loop μ-loop
+cast-k-3 c = search needs
+
+sub-k-3 : tie.Need-sub-k-3 Inv-loop μ-loop
+sub-k-3 c = omega (arith, in-out-carrier (c .before))
+
+mul-c-3 : tie.Need-mul-c-3 Inv-loop μ-loop
+mul-c-3 c = omega (arith, in-out-carrier (c .before))
+
+element-copy-out-c-3 : tie.Need-element-copy-out-c-3 Inv-loop μ-loop
+element-copy-out-c-3 c = omega (arith, in-out-carrier (c .before))
+
+asked-requires-3 : tie.Need-asked-requires-3 Inv-loop μ-loop
+asked-requires-3 c κs = let b = c .before .before .before .before .before .before .before .before .before in (known b .high, known b .at-bed)
+
+stop-requires-6 : tie.Need-stop-requires-6 Inv-loop μ-loop
+stop-requires-6 c κs = search needs
+
+returns-6 : tie.Need-returns-6 Inv-loop μ-loop
+returns-6 c = let t = c .before .before .before .before .before in let b = in-out t in
+    c .stop6 .ensures ∙ halt b (in-out-stopped (s b) (x b) _ (c .before .before .asked3 .ensures) (in-out-low t) (in-out-high t)) (c .before .if10 .taken)
+
+enter-or-leave-requires : tie.Need-enter-or-leave-requires Inv-loop μ-loop
+enter-or-leave-requires c κs = let t = c .before .before .before .before in (omega (arith, in-out-low t), omega (arith, in-out-high t), known (in-out t) .at-bed)
+
+mul-then-3 : tie.Need-mul-then-3 Inv-loop μ-loop
+mul-then-3 c = omega (arith, in-out-carrier (c .before .before .before .before .before))
+
+element-set-from-then-3 : tie.Need-element-set-from-then-3 Inv-loop μ-loop
+element-set-from-then-3 c = omega (arith, in-out-carrier (c .before .before .before .before .before))
+
+cast-k-4 : tie.Need-cast-k-4 Inv-loop μ-loop
+cast-k-4 c = search needs
+
+sub-k-4 : tie.Need-sub-k-4 Inv-loop μ-loop
+sub-k-4 c = omega (arith, loop-carrier (c .before))
+
+mul-c-4 : tie.Need-mul-c-4 Inv-loop μ-loop
+mul-c-4 c = omega (arith, loop-carrier (c .before))
+
+element-copy-out-c-4 : tie.Need-element-copy-out-c-4 Inv-loop μ-loop
+element-copy-out-c-4 c = omega (arith, loop-carrier (c .before))
+
+ready-requires : tie.Need-ready-requires Inv-loop μ-loop
+ready-requires c κs = known (c .before .before .before .before .before .before .before .before .before .before) .at-bed
+
+stop-requires-7 : tie.Need-stop-requires-7 Inv-loop μ-loop
+stop-requires-7 c κs = search needs
+
+returns-7 : tie.Need-returns-7 Inv-loop μ-loop
+returns-7 c = let t = c .before .before .before .before .before in let b = loop t in
+    c .stop7 .ensures ∙ halt b (loop-unready (s b) (x b) (loop-low t) (loop-high t) _ (c .before .before .ready .ensures) (c .before .if12 .taken)) (c .before .if12 .taken)
+
+form-requires : tie.Need-form-requires Inv-loop μ-loop
+form-requires c κs = let t = c .before .before .before .before .before in (omega (arith, loop-low t), omega (arith, loop-high t), known (loop t) .at-bed)
+
+stop-requires-8 : tie.Need-stop-requires-8 Inv-loop μ-loop
+stop-requires-8 c κs = search needs
+
+returns-8 : tie.Need-returns-8 Inv-loop μ-loop
+returns-8 c = let t = c .before .before .before .before .before .before .before .before in let b = loop t in let told = c .before .before .form .ensures in let ready = c .before .before .before .before .before .ready .ensures in let h = c .before .before .before .before .if12 .left in
+    c .stop8 .ensures ∙ simp (told .1, loop-kept (s b) (x b) (loop-low t) (loop-high t) _ ready h _ (told .0) (c .before .if13 .taken)) (halt b (loop-stopped (s b) (x b) (loop-low t) (loop-high t) _ ready h _ (told .0)) (c .before .if13 .taken))
+
+attach-requires-2 : tie.Need-attach-requires-2 Inv-loop μ-loop
+attach-requires-2 c κs = known (c .before .before .before .before .before .before .before .before .before .before .before .before .before .before .before) .at-bed
+
+mul-then-4 : tie.Need-mul-then-4 Inv-loop μ-loop
+mul-then-4 c = omega (arith, loop-carrier (c .before .before .before .before .before .before .before .before))
+
+element-set-from-then-4 : tie.Need-element-set-from-then-4 Inv-loop μ-loop
+element-set-from-then-4 c = omega (arith, loop-carrier (c .before .before .before .before .before .before .before .before))
 
 loop-less : tie.Need-loop-less Inv-loop μ-loop
 loop-less c = less (c .before .before .before .before .before .before)
@@ -390,69 +337,67 @@ loop-less-5 : tie.Need-loop-less-5 Inv-loop μ-loop
 loop-less-5 c = less (c .before .before .before .before .before .before .before .before .before .before)
 
 loop-again-5 : tie.Need-loop-again-5 Inv-loop μ-loop
-loop-again-5 c = let m = c .before .before .before .before .before in let b = m .before .before .before .before .before in let e = m .match .keys4 in
-    on b (in-made (s b) (x b) _ e (c .before .before .asked .ensures) (c .before .if4 .left) _ (c .enter .ensures))
+loop-again-5 c = let m = c .before .before .before .before .before in let b = m .before .before .before .before .before in
+    on b (miss-made (s b) (x b) _ (c .before .before .asked .ensures) (m .match .keys4) (c .before .if4 .left) _ (c .pass .ensures))
 
 loop-less-6 : tie.Need-loop-less-6 Inv-loop μ-loop
-loop-less-6 c = less (c .before .before .before .before .before .before .before .before .before .before)
+loop-less-6 c = less (c .before .before .before .before .before .before .before .before .before .before .before .before .before .before .before .before .before .before)
 
 loop-again-6 : tie.Need-loop-again-6 Inv-loop μ-loop
-loop-again-6 c = let m = c .before .before .before .before .before in let b = m .before .before .before .before .before in let e = m .match .keys5 in
-    on b (out-made (s b) (x b) _ e (c .before .before .asked2 .ensures) (c .before .if5 .left) _ (c .inactive .ensures))
+loop-again-6 c = let m = c .before .before .before .before .before .before .before .before .before .before .before .before .before in let b = m .before .before .before .before .before in let told = c .before .before .before .before .before .before .transfer2 .ensures in
+    on b (split-made (s b) (x b) (m .match .keys5) _ (c .before .before .before .before .before .before .before .before .before .asked2 .ensures) (c .before .before .before .before .before .before .before .before .if5 .left) _ (told .0) (c .before .before .before .before .before .if6 .left) _ (c .before .before .before .before .attach .ensures) _ _ (told .1) (c .attachments-moved2 .ensures))
 
 loop-less-7 : tie.Need-loop-less-7 Inv-loop μ-loop
-loop-less-7 c = less (c .before .before .before .before .before .before .before .before .before .before)
+loop-less-7 c = less (c .before .before .before .before .before .before .before .before .before .before .before .before .before .before .before .before .before)
 
 loop-again-7 : tie.Need-loop-again-7 Inv-loop μ-loop
-loop-again-7 c = let m = c .before .before .before .before .before in let b = m .before .before .before .before .before in let e = m .match .keys6 in
-    on b (miss-made (s b) (x b) _ e (c .before .before .asked3 .ensures) (c .before .if6 .left) _ (c .pass .ensures))
+loop-again-7 c = let m = c .before .before .before .before .before .before .before .before .before .before .before .before in let b = m .before .before .before .before .before in let told = c .before .before .before .before .before .transfer2 .ensures in
+    on b (split-made (s b) (x b) (m .match .keys5) _ (c .before .before .before .before .before .before .before .before .asked2 .ensures) (c .before .before .before .before .before .before .before .if5 .left) _ (told .0) (c .before .before .before .before .if6 .left) _ (c .before .before .before .attach .ensures) _ _ (told .1) (unmoved (x b .at) (x b .to) (s b .carriers) (sym (c .before .any-beside2 .ensures) ∙ c .if7 .left)))
 
+-- decode gives no kind below 1
 loop-less-8 : tie.Need-loop-less-8 Inv-loop μ-loop
-loop-less-8 c = less (c .before .before .before .before .before .before .before .before .before .before .before .before .before)
+loop-less-8 c = less (c .before .before .before .before .before .before)
 
 loop-again-8 : tie.Need-loop-again-8 Inv-loop μ-loop
-loop-again-8 c = let m = c .before .before .before .before .before .before .before .before in let b = m .before .before .before .before .before in let e = m .match .keys7 in let told = c .before .before .tuck .ensures in
-    on b (tuck-done (s b) (x b) e _ (c .before .before .before .before .before .asked4 .ensures) (c .before .before .before .before .if7 .left) _ (told .0) (c .before .if8 .left) _ (c .attach .ensures) _ (told .1))
+loop-again-8 c = absurd (omega (arith, c .if8 .taken, known (c .before .before .before .before .before .before) .low))
 
 loop-less-9 : tie.Need-loop-less-9 Inv-loop μ-loop
 loop-less-9 c = less (c .before .before .before .before .before .before .before .before .before .before .before .before)
 
 loop-again-9 : tie.Need-loop-again-9 Inv-loop μ-loop
-loop-again-9 c = let m = c .before .before .before .before .before .before .before in let b = m .before .before .before .before .before in let e = m .match .keys8 in
-    on b (knit-made (s b) (x b) _ e (c .before .before .before .before .asked5 .ensures) (c .before .before .before .if9 .left) _ (c .attach2 .ensures) _ (c .before .put2 .ensures))
+loop-again-9 c = let t = c .before .before .before .before .before in let b = in-out t in
+    on b (in-out-made (s b) (x b) _ (c .before .before .asked3 .ensures) (in-out-low t) (in-out-high t) (c .before .if10 .left) _ (c .enter-or-leave .ensures))
 
 loop-less-10 : tie.Need-loop-less-10 Inv-loop μ-loop
-loop-less-10 c = less (c .before .before .before .before .before .before .before .before .before .before .before .before .before .before .before .before .before .before)
+loop-less-10 c = less (c .before .before .before .before .before .before .before .before .before .before .before .before .before .before .before .before)
 
 loop-again-10 : tie.Need-loop-again-10 Inv-loop μ-loop
-loop-again-10 c = let m = c .before .before .before .before .before .before .before .before .before .before .before .before .before in let b = m .before .before .before .before .before in let e = split-kind m in let told = c .before .before .before .before .before .before .transfer2 .ensures in
-    on b (split-made (s b) (x b) e _ (c .before .before .before .before .before .before .before .before .before .asked6 .ensures) (c .before .before .before .before .before .before .before .before .if10 .left) _ (told .0) (c .before .before .before .before .before .if11 .left) _ (c .before .before .before .before .attach3 .ensures) _ _ (told .1) (c .attachments-moved2 .ensures))
+loop-again-10 c = let t = c .before .before .before .before .before .before .before .before in let b = loop t in let told = c .before .before .form .ensures in
+    on b (loop-made (s b) (x b) (loop-low t) (loop-high t) _ (c .before .before .before .before .before .ready .ensures) (c .before .before .before .before .if12 .left) _ (told .0) (c .before .if13 .left) _ (c .attach2 .ensures) _ (told .1))
 
+-- and none above 9
 loop-less-11 : tie.Need-loop-less-11 Inv-loop μ-loop
-loop-less-11 c = less (c .before .before .before .before .before .before .before .before .before .before .before .before .before .before .before .before .before)
+loop-less-11 c = less (c .before .before .before .before .before .before .before .before)
 
 loop-again-11 : tie.Need-loop-again-11 Inv-loop μ-loop
-loop-again-11 c = let m = c .before .before .before .before .before .before .before .before .before .before .before .before in let b = m .before .before .before .before .before in let e = split-kind m in let told = c .before .before .before .before .before .transfer2 .ensures in
-    on b (split-made (s b) (x b) e _ (c .before .before .before .before .before .before .before .before .asked6 .ensures) (c .before .before .before .before .before .before .before .if10 .left) _ (told .0) (c .before .before .before .before .if11 .left) _ (c .before .before .before .attach3 .ensures) _ _ (told .1) (unmoved (x b .at) (x b .to) (s b .carriers) (sym (c .before .any-beside2 .ensures) ∙ c .if12 .left)))
+loop-again-11 c = absurd (omega (arith, c .if11 .left, c .before .before .before .match .rest .1, known (c .before .before .before .before .before .before .before .before) .high))
 
-stop-requires-11 : tie.Need-stop-requires-11 Inv-loop μ-loop
-stop-requires-11 c κs = search needs
+stop-requires-9 : tie.Need-stop-requires-9 Inv-loop μ-loop
+stop-requires-9 c κs = search needs
 
-returns-11 : tie.Need-returns-11 Inv-loop μ-loop
-returns-11 c = c .stop11 .ensures ∙ ended (c .before .before .before .before .args .state) (c .before .before .before .before .args .program .now) (c .before .before .loop .at) (c .before .before .loop .st) (omega arith) (c .before .before .loop .inv .1)
+returns-9 : tie.Need-returns-9 Inv-loop μ-loop
+returns-9 c = c .stop9 .ensures ∙ ended (c .before .before .before .before .args .state) (c .before .before .before .before .args .program .now) (c .before .before .loop .at) (c .before .before .loop .st) (omega arith) (c .before .before .loop .inv .1)
 
 pub run-from-spec : {M : Type 1} → statement M
 run-from-spec =
     tie.close (tie.spec
     Inv-loop μ-loop loop-holds sub-decode part-decode-start part-decode-end decode-requires stop-requires returns add-next put-requires
     transfer-requires stop-requires-2 returns-2 any-beside-requires attachments-moved-requires cast-k sub-k mul-c element-copy-out-c
-    asked-requires stop-requires-3 returns-3 enter-requires mul-then element-set-from-then cast-k-2 sub-k-2 mul-c-2 element-copy-out-c-2
-    asked-requires-2 stop-requires-4 returns-4 inactive-requires mul-then-2 element-set-from-then-2 cast-k-3 sub-k-3 mul-c-3 element-copy-out-c-3
-    asked-requires-3 stop-requires-5 returns-5 pass-requires mul-then-3 element-set-from-then-3 cast-k-4 sub-k-4 mul-c-4 element-copy-out-c-4
-    asked-requires-4 stop-requires-6 returns-6 tuck-requires stop-requires-7 returns-7 attach-requires mul-then-4 element-set-from-then-4 cast-k-5
-    sub-k-5 mul-c-5 element-copy-out-c-5 asked-requires-5 stop-requires-8 returns-8 put-requires-2 attach-requires-2 mul-then-5
-    element-set-from-then-5 cast-k-6 sub-k-6 mul-c-6 element-copy-out-c-6 asked-requires-6 stop-requires-9 returns-9 transfer-requires-2
-    stop-requires-10 returns-10 attach-requires-3 any-beside-requires-2 attachments-moved-requires-2 mul-ds array-set-from-ds mul-then-6
-    element-set-from-then-6 loop-less loop-again loop-less-2 loop-again-2 loop-less-3 loop-again-3 loop-less-4 loop-again-4 loop-less-5
-    loop-again-5 loop-less-6 loop-again-6 loop-less-7 loop-again-7 loop-less-8 loop-again-8 loop-less-9 loop-again-9 loop-less-10 loop-again-10
-    loop-less-11 loop-again-11 stop-requires-11 returns-11)
+    asked-requires stop-requires-3 returns-3 pass-requires mul-then element-set-from-then cast-k-2 sub-k-2 mul-c-2 element-copy-out-c-2
+    asked-requires-2 stop-requires-4 returns-4 transfer-requires-2 stop-requires-5 returns-5 attach-requires any-beside-requires-2
+    attachments-moved-requires-2 mul-ds array-set-from-ds mul-then-2 element-set-from-then-2 cast-k-3 sub-k-3 mul-c-3 element-copy-out-c-3
+    asked-requires-3 stop-requires-6 returns-6 enter-or-leave-requires mul-then-3 element-set-from-then-3 cast-k-4 sub-k-4 mul-c-4
+    element-copy-out-c-4 ready-requires stop-requires-7 returns-7 form-requires stop-requires-8 returns-8 attach-requires-2 mul-then-4
+    element-set-from-then-4 loop-less loop-again loop-less-2 loop-again-2 loop-less-3 loop-again-3 loop-less-4 loop-again-4 loop-less-5
+    loop-again-5 loop-less-6 loop-again-6 loop-less-7 loop-again-7 loop-less-8 loop-again-8 loop-less-9 loop-again-9 loop-less-10
+    loop-again-10 loop-less-11 loop-again-11 stop-requires-9 returns-9)
