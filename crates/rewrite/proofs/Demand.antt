@@ -20,7 +20,7 @@ use Rattle.trace.proofs.Swaps.{swaps-append, equals-are-tied}
 use Rattle.rewrite.specs.Programs.{flat, recordsOf, knitting, needle, carrier, names}
 use Rattle.rewrite.specs.Rewrite.{rackingZero, swapOf, Replay, ended, replay, Rewritten, written}
 use Rattle.rewrite.specs.Calls.{Call, callOf, numberOf, handedOn, after, AllAccepted}
-use Rattle.rewrite.specs.Claims.{RecordsEndToEnd, EachEncodes, RecordsEncode, TiedExactly, EqualRecordsTied, RewritePlaceIsSmall, SameProgram, Keeps, OrderByPositions, LentTo, ComesTo, SwapExactly, FrontHandedOn, Demand3}
+use Rattle.rewrite.specs.Claims.{RecordsEndToEnd, EachEncodes, RecordsEncode, TiedExactly, EqualRecordsTied, RewritePlaceIsSmall, SameProgram, Keeps, OrderByPositions, LentTo, ComesTo, SwapExactly, FrontHandedOn, InTurn, AnyLoan, Demand3}
 use Rattle.rewrite.specs.Exact.{TiedBehind, Swapped}
 use Rattle.rewrite.specs.Laid.{Whole}
 use Rattle.rewrite.proofs.Machine.{machine, Good}
@@ -167,6 +167,12 @@ order-by-positions p q s = order-of-positions knitting lawful rackingZero (recor
 
 pub front-handed-on : FrontHandedOn
 front-handed-on p t c v = ((λ l. front-written v c (all-lent _ _ _ _ l)), (λ d. kept-program p c (λ z. d (enough _ _ _ _ z))))
+
+pub in-turn : InTurn
+in-turn p c cs = (refl, refl)
+
+pub any-loan : AnyLoan
+any-loan log output work a b d = (record { log = log; output = output; work = work; log-bytes = a; output-bytes = b; work-offsets = d }, refl, refl, refl)
 
 pub demand-3 : Demand3
 demand-3 p t v =

@@ -169,7 +169,7 @@ each-whole (x ∷ l) ((r, form), v) = (form-whole form, each-whole l v)
 valid-are : {p : List ℕ} {t : State} → Valid p t → RecordsAre p (recordsOf p)
 valid-are {p} v = record { end-to-end = records-flat p; each = whole-each (recordsOf p) (steps-whole (v .steps)) }
 
-are-records : {p : List ℕ} {l : List (List ℕ)} → RecordsAre p l → recordsOf p ≡ l
+pub are-records : {p : List ℕ} {l : List (List ℕ)} → RecordsAre p l → recordsOf p ≡ l
 are-records {l = l} a = ap recordsOf (sym (a .end-to-end)) ∙ flat-records l (each-whole l (a .each))
 
 -- ---- a call

@@ -1,24 +1,27 @@
--- Which records enter a needle's history and a carrier's. Assumes nothing.
+-- Which records enter a needle's history and a carrier's, and that a history is the list of them. Assumes nothing.
 use borrow.Table.Steps.{cases}
 use Prim.Native.Nat.{ℕ, _≤_}
-use mathlib.Core.Path.{_≡_, sym, ap, subst, _∙_}
-use mathlib.Core.Bool.{true, true≢false}
+use mathlib.Core.Path.{_≡_, refl, sym, ap, subst, _∙_}
+use mathlib.Core.Bool.{Bool, true, true≢false}
 use mathlib.Core.List.{List, [], _∷_}
 use mathlib.Core.Logic.{_↔_, _⊎_, inl, inr, ⊎-elim}
 use native.Mathlib.Omega.{arith}
 use lib.Dec.{eqb, leb}
 use borrow.Author.Tests.{eqb-true, eq-eqb, leb-true, leb-false}
 use Rattle.machine.specs.declared.Needle.{Needle}
-use Rattle.machine.specs.Machine.{sameNeedle}
+use Rattle.machine.specs.Machine.{Each, sameNeedle}
 use Rattle.record.specs.declared.Record.{Record}
 use Rattle.record.specs.Format.{Encodes}
 use Rattle.record.specs.Names.{needleCount, carrierCount, needlesOf, carriersOf}
 use Rattle.run.proofs.Premises.{is}
 use Rattle.rewrite.specs.Extents.{member}
-use Rattle.rewrite.specs.Programs.{memberNeedle}
-use Rattle.rewrite.specs.Claims.{Enters, EntersExactly, CarrierExactly}
+use Rattle.trace.specs.Lists.{keep}
+use Rattle.rewrite.specs.Programs.{memberNeedle, recordsOf, needle, carrier, names, historyOf}
+use Rattle.rewrite.specs.Exact.{RecordsAre}
+use Rattle.rewrite.specs.Claims.{Enters, EntersExactly, Carries, CarrierExactly, Those, HistoriesExactly}
 use Rattle.rewrite.proofs.Commute.{needle-eq}
 use Rattle.rewrite.proofs.Records.{form-what}
+use Rattle.rewrite.proofs.Exact.{are-records}
 
 -- the kind of a record that bytes encode
 form-kind : {bytes : List ℕ} {x : Record} → Encodes bytes x → x .kind ≤ 9
@@ -99,7 +102,7 @@ pub enters-exactly : EntersExactly
 enters-exactly n bytes x form = rw (form-what form) (named-enters n x (form-kind form), enters-named n x)
 
 -- ---- the carrier
-named-carrier : (k : ℕ) (x : Record) → (member k (carriersOf x) ≡ true) ↔ ((4 ≤ x .kind) × (x .carrier ≡ k))
+named-carrier : (k : ℕ) (x : Record) → (member k (carriersOf x) ≡ true) ↔ Carries k x
 unfolding member carriersOf carrierCount
 named-carrier k x =
     cases (leb (x .kind) 3)
@@ -110,3 +113,26 @@ named-carrier k x =
 
 pub carrier-exactly : CarrierExactly
 carrier-exactly k bytes x form = rw (form-what form) (named-carrier k x)
+
+-- ---- the list of them: what a test keeps, where the test says whether a record is one of those
+module _ (f : List ℕ → Bool) (P : Record → Type 0) (says : (bytes : List ℕ) (x : Record) → Encodes bytes x → (f bytes ≡ true) ↔ P x) where
+  kept-those : (l : List (List ℕ)) → Each (λ (x : List ℕ). (r : Record) × Encodes x r) l → Those P l (keep f l)
+  kept-those [] w = Those.none
+  kept-those (bytes ∷ l) ((x, form), w) =
+      cases (f bytes) (λ e. rw e (Those.enters form (says bytes x form .0 e) (kept-those l w)))
+      (λ e. rw e (Those.passes form (λ p. true≢false (sym (says bytes x form .1 p) ∙ e)) (kept-those l w)))
+
+  those-kept : {l h : List (List ℕ)} → Those P l h → keep f l ≡ h
+  those-kept Those.none = refl
+  those-kept (Those.enters {bytes} {x} {l} {h} form p t) = rw (says bytes x form .1 p) (ap (λ (m : List (List ℕ)). bytes ∷ m) (those-kept t))
+  those-kept (Those.passes {bytes} {x} {l} {h} form d t) = cases (f bytes) (λ e. absurd (d (says bytes x form .0 e))) (λ e. rw e (those-kept t))
+
+  history : (p : List ℕ) (l h : List (List ℕ)) → RecordsAre p l → (keep f (recordsOf p) ≡ h) ↔ Those P l h
+  history p l h a =
+      subst (λ (m : List (List ℕ)). (keep f m ≡ h) ↔ Those P l h) (sym (are-records a)) ((λ e. subst (Those P l) e (kept-those l (a .each))), those-kept)
+
+pub histories-exactly : HistoriesExactly
+histories-exactly p l h a = (
+  (λ n. history (names (needle n)) (Enters n) (enters-exactly n) p l h a),
+  (λ k. history (names (carrier k)) (Carries k) (carrier-exactly k) p l h a),
+)

@@ -16,8 +16,8 @@ use Rattle.trace.specs.Lists.{Nth}
 use Rattle.trace.specs.Order.{SameRecords, tiedIn, SameOrder}
 use Rattle.rewrite.specs.Programs.{flat, recordsOf, what, sameBytes, knitting, needle, carrier, names, historyOf}
 use Rattle.rewrite.specs.Rewrite.{rackingZero, ended, replay, written, rewriteOf}
-use Rattle.rewrite.specs.Exact.{Lent, Tied, TiedBehind, Swapped}
-use Rattle.rewrite.specs.Calls.{Call, callOf, numberOf, after, AllAccepted}
+use Rattle.rewrite.specs.Exact.{Lent, RecordsAre, Tied, TiedBehind, Swapped}
+use Rattle.rewrite.specs.Calls.{Below, Call, callOf, numberOf, after, AllAccepted}
 
 -- ---- the definitions in 01's words
 -- a program is its records 'end to end', whatever its bytes
@@ -54,8 +54,22 @@ abbrev pub EntersExactly : Type 0
 EntersExactly = (n : Needle) (bytes : List ℕ) (x : Record) → Encodes bytes x → (names (needle n) bytes ≡ true) ↔ Enters n x
 
 -- 'a carrier's is the list of all records naming it': those from in (4) on name one
+abbrev pub Carries : ℕ → Record → Type 0
+Carries k x = (4 ≤ x .kind) × (x .carrier ≡ k)
+
 abbrev pub CarrierExactly : Type 0
-CarrierExactly = (k : ℕ) (bytes : List ℕ) (x : Record) → Encodes bytes x → (names (carrier k) bytes ≡ true) ↔ ((4 ≤ x .kind) × (x .carrier ≡ k))
+CarrierExactly = (k : ℕ) (bytes : List ℕ) (x : Record) → Encodes bytes x → (names (carrier k) bytes ≡ true) ↔ Carries k x
+
+-- a history is 'the list of' those records of the program, all of them and in their order
+pub data Those (P : Record → Type 0) : List (List ℕ) → List (List ℕ) → Type 0 where
+  none : Those P [] []
+  enters : {bytes : List ℕ} {x : Record} {l h : List (List ℕ)} → Encodes bytes x → P x → Those P l h → Those P (bytes ∷ l) (bytes ∷ h)
+  passes : {bytes : List ℕ} {x : Record} {l h : List (List ℕ)} → Encodes bytes x → (P x → ⊥) → Those P l h → Those P (bytes ∷ l) h
+
+abbrev pub HistoriesExactly : Type 0
+HistoriesExactly =
+    (p : List ℕ) (l h : List (List ℕ)) → RecordsAre p l
+    → ((n : Needle) → (historyOf (needle n) p ≡ h) ↔ Those (Enters n) l h) × ((k : ℕ) → (historyOf (carrier k) p ≡ h) ↔ Those (Carries k) l h)
 
 -- a place lies within a program or a log, so that number and place go into one word
 abbrev pub RewritePlaceIsSmall : Type 0
@@ -110,6 +124,15 @@ abbrev pub FrontHandedOn : Type 0
 FrontHandedOn =
     (p : List ℕ) (t : State) (c : Call) → Valid p t
     → (LentTo p c → after p (c ∷ []) ≡ take (length p) (callOf p c .output)) × ((LentTo p c → ⊥) → after p (c ∷ []) ≡ p)
+
+-- each call is given the program as the last one left it, whatever that one answered: 'Numbers 12 to 14 end their log and not the list'
+abbrev pub InTurn : Type 0
+InTurn = (p : List ℕ) (c : Call) (cs : List Call) → (after p [] ≡ p) × (after p (c ∷ cs) ≡ after (after p (c ∷ [])) cs)
+
+-- 'each call is lent any log, output and work area': every list of bytes, and of 16-bit offsets
+abbrev pub AnyLoan : Type 0
+AnyLoan =
+    (log output work : List ℕ) → Below 256 log → Below 256 output → Below 65536 work → (c : Call) × (c .log ≡ log) × (c .output ≡ output) × (c .work ≡ work)
 
 -- ---- demand 3 for a valid program and every list of calls from it
 pub record EveryList (p : List ℕ) (t : State) : Type 0 where
