@@ -1,2 +1,3 @@
 -- The proof of the pieces.
 pub mod Computed
+pub mod Orders
