@@ -22,7 +22,7 @@ use Rattle.rewrite.proofs.Lawful.{lawful}
 use Rattle.rewrite.proofs.Rewriting.{all-lent}
 use Rattle.list.specs.Text.{digitsOf, letterOf, signOf, flagOf, lines, hookLine, attachmentOf, carrierLine, programLine, bedsOf, stateOf, shownOf, listingOf}
 use Rattle.list.specs.Listed.{callListed, listedOf, lentOutput, lentWork}
-use Rattle.list.specs.Printed.{bytesIn, text, Listing, P-swapped, listings, Printed, ListsP, ListsPRead, ListingsPrinted, PAloneRefused, PAloneEmpty}
+use Rattle.list.specs.Printed.{bytesIn, text, Listing, P-swapped, listings, Printed, ListsP, ListsPRead, ListingsPrinted, FiguresPrinted, PAloneRefused, PAloneEmpty}
 use Rattle.list.proofs.Lent.{lent-is-enough}
 
 -- the call where what is lent is enough: it computes whatever output and work area hold
@@ -69,6 +69,10 @@ lists-P-read old new n r e f h =
     ∙ ap (λ (p : List ℕ). listedOf p (r .log) lentOutput lentWork) e
     ∙ ap (λ (l : List ℕ). listedOf (P-swapped .program) l lentOutput lentWork) f
     ∙ lists-P lentOutput lentWork (lent-is-enough (P-swapped .program) (P-swapped .log) (omega arith) (omega arith))
+
+pub figures-printed : FiguresPrinted
+unfolding digitsOf bytesIn
+figures-printed = (refl, (refl, (refl, (refl, (refl, tt)))))
 
 -- p alone
 no-bytes : (n length : ℕ) → 1 ≤ n → n ≤ 11 → shownOf n length ≡ 0

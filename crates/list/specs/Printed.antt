@@ -9,7 +9,7 @@ use Rattle.machine.specs.Machine.{Each}
 use Rattle.rewrite.specs.Programs.{flat}
 use Rattle.rewrite.specs.Rewrite.{rewriteOf}
 use Rattle.rewrite.specs.Exact.{Enough}
-use Rattle.list.specs.Text.{listingOf}
+use Rattle.list.specs.Text.{figures, listingOf}
 use Rattle.list.specs.Listed.{listedOf, ListsRead}
 
 -- a line's bytes, and those of lines, each with its end
@@ -87,6 +87,11 @@ listings =
     ("0 0 0" ∷ "r 0" ∷ "f 0 1" ∷ "f 249 1" ∷ "b 249 2" ∷ "c 1 1 f 0 +" ∷ "c 2 249 f 249 -" ∷ "c 4 249 b 249 -"
     ∷ "p 040000f902080000f90204010000010801000001040101f904070101f904070001f904" ∷ [])
     ∷ []
+
+-- figures of more places than the listings have
+abbrev pub FiguresPrinted : Type 0
+FiguresPrinted =
+    Each (λ (n : ℕ × String). figures (n .0) ≡ bytesIn (n .1)) ((999, "999") ∷ (1000, "1000") ∷ (9999, "9999") ∷ (10000, "10000") ∷ (32767, "32767") ∷ [])
 
 -- the listing is this text, whatever the output and the work area held, if they are long enough
 abbrev pub Printed : Listing → Type 0

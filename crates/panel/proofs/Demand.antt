@@ -59,7 +59,7 @@ pub range-rows : RangeRows
 unfolding panelStep stateOk emptyState slotOk attachmentOk carrierOk all inactiveCarrier eqZ stepOf decodeOf refusedAs
 range-rows =
     record {
-      foul = (refl, (refl, (refl, (refl, (refl, (refl, (refl, (refl, (refl, (refl, (refl, (refl, (refl, (refl, (refl, (refl, (refl, (refl, tt))))))))))))))))));
+      foul = (refl, (refl, (refl, (refl, (refl, (refl, (refl, (refl, (refl, (refl, (refl, (refl, (refl, (refl, (refl, (refl, (refl, (refl, (refl, (refl, (refl, (refl, (refl, (refl, tt))))))))))))))))))))))));
       sound = (refl, (refl, (refl, (refl, (refl, (refl, (refl, (refl, tt))))))));
     }
 

@@ -23,10 +23,21 @@ with active side z bed n =
       carriers = set (emptyState .carriers) 9 (record { active = active; side = side; slot = record { 0 = z }; needle = record { 0 = bed; 1 = n } });
     }
 
+-- active 2 for the carrier at i
+abbrev pub strange-at : ℕ → State
+strange-at i =
+    record {
+      racking = emptyState .racking;
+      loops = emptyState .loops;
+      carriers = set (emptyState .carriers) i (record { active = 2; side = 0; slot = record { 0 = pos 0 }; needle = record { 0 = 0; 1 = 0 } });
+    }
+
 -- foul; negsuc n is −1 − n
 abbrev pub outside : List State
 outside =
-    withRacking (pos 9) ∷ withRacking (negsuc 8) ∷ withHook 0 9 ∷ withHook 499 9
+    withRacking (pos 9) ∷ withRacking (negsuc 8) ∷ withHook 0 9 ∷ withHook 249 9 ∷ withHook 250 9 ∷ withHook 499 9
+    -- each carrier is looked at
+    ∷ strange-at 0 ∷ strange-at 1 ∷ strange-at 4 ∷ strange-at 8
     -- activity, side, slot, bed, needle
     ∷ with 2 0 (pos 0) 0 0 ∷ with 1 3 (pos 0) 0 0 ∷ with 1 0 (pos 259) 0 0 ∷ with 1 0 (negsuc 8) 0 0 ∷ with 1 1 (pos 0) 2 0 ∷ with 1 2 (pos 0) 1 250
     -- a needle without an attachment

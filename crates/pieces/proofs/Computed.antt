@@ -26,6 +26,7 @@ use Rattle.rewrite.proofs.Lawful.{lawful}
 use Rattle.pieces.specs.Rows.{Expected, Row, rows, Swap, swaps}
 use Rattle.pieces.specs.Edges.{Pair, pairs, edges}
 use Rattle.pieces.specs.Pieces.{Says, Holds, front, rewritten, Rewrites, inForce, Ties, PiecesHold}
+use Rattle.pieces.proofs.Orders.{orders}
 
 -- the test that is computed, and that it says so
 sameBool : Bool → Bool → Bool
@@ -143,4 +144,5 @@ pieces =
       each Ties pairTest pair-says pairs p,
       each Ties pairTest pair-says edges e,
       refl,
+      orders,
     )

@@ -1,2 +1,3 @@
 -- The proof of the pieces.
+pub mod Orders
 pub mod Computed

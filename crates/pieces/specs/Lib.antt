@@ -2,4 +2,5 @@
 pub mod Spelled
 pub mod Rows
 pub mod Edges
+pub mod Orders
 pub mod Pieces

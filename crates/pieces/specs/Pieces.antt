@@ -14,6 +14,7 @@ use Rattle.rewrite.specs.Programs.{knitting}
 use Rattle.rewrite.specs.Rewrite.{Rewritten, rewriteOf}
 use Rattle.pieces.specs.Rows.{Expected, Row, rows, Swap, swaps}
 use Rattle.pieces.specs.Edges.{Pair, pairs, edges}
+use Rattle.pieces.specs.Orders.{OrdersHold}
 
 -- an answer is as expected
 pub record Says (a : Answer) (e : Expected) : Type 0 where
@@ -51,6 +52,6 @@ pub record Ties (r : Pair) : Type 0 where
   pub forth : tied knitting (inForce r) (r .first) (r .second) ≡ r .tied
   pub back : tied knitting (inForce r) (r .second) (r .first) ≡ r .tied
 
--- the edges are listed by a function: that many
+-- the one theorem; the edges are listed by a function: that many
 abbrev pub PiecesHold : Type 0
-PiecesHold = Each Holds rows × Each Rewrites swaps × Each Ties pairs × Each Ties edges × (length edges ≡ 4440)
+PiecesHold = Each Holds rows × Each Rewrites swaps × Each Ties pairs × Each Ties edges × (length edges ≡ 4440) × OrdersHold

@@ -29,10 +29,10 @@ empty n at = expected n at true (pos 0) [] []
 abbrev parked : ℤ → ℕ → Needle → Carrier
 parked z side n = record { active = 1; side = side; slot = record { 0 = z }; needle = n }
 
-abbrev on-left : ℕ → Needle → Carrier
+abbrev pub on-left : ℕ → Needle → Carrier
 on-left z n = parked (pos z) 1 n
 
-abbrev on-right : ℕ → Needle → Carrier
+abbrev pub on-right : ℕ → Needle → Carrier
 on-right z n = parked (pos z) 2 n
 
 abbrev unattached : ℕ → Carrier
@@ -163,6 +163,23 @@ steps =
     ∷ knitted (bring-in right (f 10) 1 ++ tuck right (f 10) 1 ++ in-3 ++ split right (f 10) 3 10) 0 0 ((f 10, 1) ∷ (b 10, 1) ∷ [])
     ((1, on-right 11 (b 10)) ∷ (3, on-right 11 (f 10)) ∷ [])
     ∷ racked (rack 2 ++ bring-in right (f 12) 3 ++ split right (f 12) 3 10) 0 0 (pos 2) ((f 12, 1) ∷ (b 10, 0) ∷ []) ((3, on-right 13 (f 12)) ∷ [])
+    -- from the back bed; at racking 2; a carrier attached to another needle stays, and one attached to the second needle
+    ∷ knitted (bring-in right (b 10) 3 ++ tuck right (b 10) 3 ++ split left (b 10) 3 10) 0 0 ((f 10, 1) ∷ (b 10, 1) ∷ []) ((3, on-left 10 (b 10)) ∷ [])
+    ∷ racked (rack 2 ++ bring-in right (b 10) 3 ++ split right (b 10) 3 12) 0 0 (pos 2) ((b 10, 1) ∷ (f 12, 0) ∷ []) ((3, on-right 13 (b 10)) ∷ [])
+    ∷ racked (rack 2 ++ bring-in right (b 10) 3 ++ split right (b 10) 3 10) 10 7 (pos 2) ((b 10, 0) ∷ []) ((3, unattached 12) ∷ [])
+    ∷ knitted
+    (bring-in left (f 10) 1 ++ tuck left (f 10) 1 ++ bring-in right (f 11) 4 ++ tuck right (f 11) 4 ++ bring-in right (b 10) 5 ++ tuck right (b 10) 5 ++ in-3 ++ split right (f 10) 3 10 ++ drop (f 11))
+    0 0 ((f 10, 1) ∷ (b 10, 2) ∷ (f 11, 0) ∷ [])
+    ((1, on-left 10 (b 10)) ∷ (3, on-right 11 (f 10)) ∷ (4, on-right 12 (f 11)) ∷ (5, on-right 11 (b 10)) ∷ [])
+    -- a carrier that is unattached stays so, at f.0 too
+    ∷ knitted (in-3 ++ xfer (f 0) 0) 0 0 [] ((3, unattached 10) ∷ [])
+    ∷ knitted (in-3 ++ bring-in right (f 0) 1 ++ split right (f 0) 1 0) 0 0 ((f 0, 1) ∷ (b 0, 0) ∷ []) ((1, on-right 1 (f 0)) ∷ (3, unattached 10) ∷ [])
+    -- a knit leaves another carrier's attachment
+    ∷ knitted (bring-in right (f 10) 1 ++ tuck right (f 10) 1 ++ in-3 ++ knit right (f 10) 3) 0 0 ((f 10, 1) ∷ []) ((1, on-right 11 (f 10)) ∷ (3, on-right 11 (f 10)) ∷ [])
+    -- xfer and out at racking 2; out past 20 columns
+    ∷ racked (rack 2 ++ bring-in right (b 10) 3 ++ tuck right (b 10) 3 ++ xfer (b 10) 12) 0 0 (pos 2) ((b 10, 0) ∷ (f 12, 1) ∷ []) ((3, on-right 13 (f 12)) ∷ [])
+    ∷ racked (rack 2 ++ bring-in right (b 10) 3 ++ miss right (b 10) 3 ++ take-out right (b 10) 3) 0 0 (pos 2) [] ((3, inactive) ∷ [])
+    ∷ knitted (led-21 ++ take-out left (f 31) 3) 0 0 ((f 10, 1) ∷ []) ((3, inactive) ∷ [])
     -- eight loops in all pass
     ∷ knitted (in-3 ++ tucks (f 10) 3 ++ tucks (b 10) 3 ++ xfer (f 10) 10) 0 0 ((f 10, 0) ∷ (b 10, 8) ∷ []) ((3, on-left 10 (b 10)) ∷ [])
     ∷ knitted (in-3 ++ tucks (f 10) 3 ++ tucks (b 10) 3 ++ split right (f 10) 3 10) 0 0 ((f 10, 1) ∷ (b 10, 8) ∷ []) ((3, on-right 11 (f 10)) ∷ [])
@@ -201,6 +218,22 @@ floats =
     ((3, on-right 32 (f 31)) ∷ [])
     -- none for out
     ∷ knitted (led-21 ++ miss right (f 31) 3 ++ take-out right (f 31) 3) 0 0 ((f 10, 1) ∷ []) ((3, inactive) ∷ [])
+    -- the same for knit and split
+    ∷ racked (bring-in right (b 10) 3 ++ knit right (b 10) 3 ++ misses-right f 11 19 ++ rack 255 ++ knit right (f 30) 3) 9 107 (negsuc 0) ((b 10, 1) ∷ (f 30, 0) ∷ [])
+    ((3, on-right 30 (b 10)) ∷ [])
+    ∷ racked (bring-in right (b 10) 3 ++ knit right (b 10) 3 ++ misses-right f 11 19 ++ rack 255 ++ split right (f 30) 3 31) 9 107 (negsuc 0) ((b 10, 1) ∷ (f 30, 0) ∷ [])
+    ((3, on-right 30 (b 10)) ∷ [])
+    -- to the back bed: at racking 1 b.29 is 20 columns from f.10, b.30 is 21
+    ∷ racked (led-20 ++ rack 1 ++ tuck right (b 29) 3) 0 0 (pos 1) ((b 29, 1) ∷ []) ((3, on-right 31 (b 29)) ∷ [])
+    ∷ racked (led-21 ++ rack 1 ++ tuck right (b 30) 3) 9 112 (pos 1) ((b 30, 0) ∷ []) ((3, on-right 31 (f 10)) ∷ [])
+    ∷ racked (led-20 ++ rack 1 ++ knit right (b 29) 3) 0 0 (pos 1) ((b 29, 1) ∷ []) ((3, on-right 31 (b 29)) ∷ [])
+    ∷ racked (led-21 ++ rack 1 ++ knit right (b 30) 3) 9 112 (pos 1) ((b 30, 0) ∷ []) ((3, on-right 31 (f 10)) ∷ [])
+    ∷ racked (led-20 ++ rack 1 ++ split right (b 29) 3 30) 0 0 (pos 1) ((b 29, 1) ∷ (f 30, 0) ∷ []) ((3, on-right 31 (b 29)) ∷ [])
+    ∷ racked (led-21 ++ rack 1 ++ split right (b 30) 3 31) 9 112 (pos 1) ((b 30, 0) ∷ []) ((3, on-right 31 (f 10)) ∷ [])
+    -- no attachment, no float, also from f.0; of a split to the left
+    ∷ knitted (bring-in right (f 40) 3 ++ knit right (f 40) 3) 0 0 ((f 40, 1) ∷ []) ((3, on-right 41 (f 40)) ∷ [])
+    ∷ knitted (bring-in right (f 40) 3 ++ split right (f 40) 3 40) 0 0 ((f 40, 1) ∷ []) ((3, on-right 41 (f 40)) ∷ [])
+    ∷ knitted (bring-in left (f 30) 3 ++ tuck left (f 30) 3 ++ misses-left 29 20 ++ split left (f 9) 3 9) 9 110 ((f 30, 1) ∷ (f 9, 0) ∷ []) ((3, on-left 10 (f 30)) ∷ [])
     -- none without an attachment
     ∷ knitted (in-3 ++ misses-right f 10 21 ++ tuck right (f 31) 3) 0 0 ((f 31, 1) ∷ []) ((3, on-right 32 (f 31)) ∷ [])
     ∷ []
@@ -273,8 +306,33 @@ refusals =
     ((3, on-right 11 (b 10)) ∷ [])
     ∷ []
 
+-- 5 for each field of direction, bed, needle and carrier, by the kind; a split has a byte more
+abbrev outside : ℕ → List ℕ → List Row
+outside kind more =
+    row (kind ∷ 2 ∷ 0 ∷ 10 ∷ 3 ∷ more) 5 0
+    ∷ row (kind ∷ 1 ∷ 2 ∷ 10 ∷ 3 ∷ more) 5 0
+    ∷ row (kind ∷ 1 ∷ 0 ∷ 250 ∷ 3 ∷ more) 5 0
+    ∷ row (kind ∷ 1 ∷ 1 ∷ 250 ∷ 3 ∷ more) 5 0
+    ∷ row (kind ∷ 1 ∷ 0 ∷ 10 ∷ 0 ∷ more) 5 0
+    ∷ row (kind ∷ 1 ∷ 0 ∷ 10 ∷ 11 ∷ more) 5 0
+    ∷ []
+
+-- and the last needle of either bed, first or second
+abbrev fields : List Row
+fields =
+    row (drop (b 249)) 0 0
+    ∷ row (drop (b 250)) 5 0
+    ∷ row (xfer (f 249) 249) 0 0
+    ∷ row (xfer (b 249) 249) 0 0
+    ∷ row (xfer (b 250) 249) 5 0
+    ∷ row (xfer (b 249) 250) 5 0
+    ∷ row (split right (b 10) 3 250) 5 0
+    ∷ row (split right (f 249) 3 249) 7 0
+    ∷ row (split right (b 249) 3 249) 7 0
+    ∷ (outside 4 [] ++ outside 5 [] ++ outside 6 [] ++ outside 7 [] ++ outside 8 [] ++ outside 9 (10 ∷ []))
+
 abbrev pub rows : List Row
-rows = pieces ++ steps ++ floats ++ refusals
+rows = pieces ++ steps ++ floats ++ refusals ++ fields
 
 -- ---- the rewriter: program, log, the lengths of output and work area; its answer, the program at the front of the output and the starts at the front of the work area
 pub record Swap : Type 0 where
@@ -364,6 +422,13 @@ swaps =
     ∷ swap (rack 2 ++ rack 0 ++ drop (f 12) ++ xfer (b 10) 10) (at 2) (empty 0 0) (rack 2 ++ rack 0 ++ xfer (b 10) 10 ++ drop (f 12)) (0 ∷ 2 ∷ 4 ∷ 8 ∷ [])
     ∷ swap (drop (f 1) ++ rack 0) (at 0) (empty 13 0) (drop (f 1) ++ rack 0) (0 ∷ 3 ∷ [])
     ∷ swap (rack 0 ++ drop (f 1)) (at 0) (empty 13 0) (rack 0 ++ drop (f 1)) (0 ∷ 2 ∷ [])
+    -- at the front it is 0, whatever rack comes later
+    ∷ swap (drop (f 10) ++ xfer (b 10) 10) (at 0) (empty 13 0) (drop (f 10) ++ xfer (b 10) 10) (0 ∷ 3 ∷ [])
+    ∷ swap (drop (f 11) ++ xfer (b 10) 10) (at 0) (empty 0 0) (xfer (b 10) 10 ++ drop (f 11)) (0 ∷ 4 ∷ [])
+    ∷ swap (drop (f 12) ++ xfer (b 10) 10 ++ rack 2) (at 0) (expected 0 0 false (pos 2) [] []) (xfer (b 10) 10 ++ drop (f 12) ++ rack 2) (0 ∷ 4 ∷ 7 ∷ [])
+    -- a split is six bytes
+    ∷ swap (in-3 ++ split right (f 10) 3 10 ++ drop (f 50)) (at 1) (expected 0 0 false (pos 0) ((f 10, 1) ∷ (b 10, 0) ∷ []) ((3, on-right 11 (f 10)) ∷ []))
+    (in-3 ++ drop (f 50) ++ split right (f 10) 3 10) (0 ∷ 5 ∷ 8 ∷ [])
     -- 12: one record, none; a position's high byte comes first; after a swap that was made
     ∷ swap (drop (f 1)) (at 0) (empty 12 0) (drop (f 1)) (0 ∷ [])
     ∷ swap [] (at 0) (empty 12 0) [] []

@@ -8,7 +8,7 @@ use lib.Dec.{eqb, leb}
 use Rattle.machine.specs.declared.Needle.{Needle}
 use Rattle.record.specs.declared.Record.{Record}
 
--- how many hooks it works: none for rack, in, out and miss (01: they pass by the hook); one for drop, tuck and knit; two for xfer and split
+-- how many hooks it works: none for rack, and for in, out and miss (01: they pass by the hook); one for drop, tuck and knit; two for xfer and split
 unfoldable pub needleCount : ℕ → ℕ
 needleCount kind =
     cond (leb kind 1) 0
