@@ -45,7 +45,7 @@ module _ {A R : Type 0} (K : Records A R) where
     pub before : p < q
     pub are-tied : tiedIn r l p q x y ≡ true
 
-  -- 'the same order of tied records', each 'told apart by their count'
+  -- the same order of tied records (demand 3), each 'told apart by their count'
   abbrev pub SameOrder : R → List A → List A → Type 0
   SameOrder r l m = (x y : A) (i j : ℕ) → TiedBefore r l x i y j ↔ TiedBefore r m x i y j
 
