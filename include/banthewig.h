@@ -89,7 +89,7 @@ struct knitout_served {
 
 /* Runs a program from the empty state: number times 65,536 plus place. The place is the refused record's start, its kind
    byte (3 to 11), else 0. Reads program[0] to program[length - 1] at most and writes nothing.
-   Stack 2,136 bytes; worst time 32 ms. */
+   Stack 2,136 bytes; worst time 33 ms. */
 uint64_t knitout_run(const uint8_t *program, size_t length);
 
 /* Runs a program and makes a log's swaps in a copy of it: number times 65,536 plus place. The place is the start of
@@ -99,7 +99,7 @@ uint64_t knitout_run(const uint8_t *program, size_t length);
    0 writes the program as the swaps made it to the front of the output, and the start of each of its records to the
    front of work; 12 to 14 the same, as the swaps before the refused one made it (KNITOUT_WRITTEN); 1 to 11 write nothing.
    Output past the program's length and work past the last record's start keep their contents.
-   Stack 2,248 bytes; worst time 155 ms. */
+   Stack 2,264 bytes; worst time 200 ms. */
 uint64_t knitout_rewrite(const uint8_t *program, size_t program_length, const uint8_t *log, size_t log_length,
                          uint8_t *output, size_t output_length, uint16_t *work, size_t work_count);
 
@@ -116,7 +116,7 @@ uint64_t knitout_rewrite(const uint8_t *program, size_t program_length, const ui
    looked at, and a length of 0 gives 4. 0: the state is the one after the record, and the answer's length the record's.
    15 (looked at first) and 3 to 11: length 0, and nothing is written, not even the padding. Which of them it will be is
    not known beforehand, so the state's memory must be writable.
-   Stack 3,320 bytes; worst time 42 microseconds. */
+   Stack 3,320 bytes; worst time 45 microseconds. */
 struct knitout_served knitout_step(struct knitout_state *state, const uint8_t *bytes, size_t length);
 
 /* Lists the carriers of a state. 0 writes carriers 1 to 10 to list[0] to list[9] and gives length 10; entries from list[10]
