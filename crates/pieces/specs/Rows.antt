@@ -216,8 +216,6 @@ floats =
     ((3, on-right 30 (b 10)) ∷ [])
     ∷ racked (bring-in right (b 10) 3 ++ knit right (b 10) 3 ++ misses-right f 11 20 ++ rack 1 ++ tuck right (f 31) 3) 0 0 (pos 1) ((b 10, 1) ∷ (f 31, 1) ∷ [])
     ((3, on-right 32 (f 31)) ∷ [])
-    -- none for out
-    ∷ knitted (led-21 ++ miss right (f 31) 3 ++ take-out right (f 31) 3) 0 0 ((f 10, 1) ∷ []) ((3, inactive) ∷ [])
     -- the same for knit and split
     ∷ racked (bring-in right (b 10) 3 ++ knit right (b 10) 3 ++ misses-right f 11 19 ++ rack 255 ++ knit right (f 30) 3) 9 107 (negsuc 0) ((b 10, 1) ∷ (f 30, 0) ∷ [])
     ((3, on-right 30 (b 10)) ∷ [])
@@ -234,6 +232,8 @@ floats =
     ∷ knitted (bring-in right (f 40) 3 ++ knit right (f 40) 3) 0 0 ((f 40, 1) ∷ []) ((3, on-right 41 (f 40)) ∷ [])
     ∷ knitted (bring-in right (f 40) 3 ++ split right (f 40) 3 40) 0 0 ((f 40, 1) ∷ []) ((3, on-right 41 (f 40)) ∷ [])
     ∷ knitted (bring-in left (f 30) 3 ++ tuck left (f 30) 3 ++ misses-left 29 20 ++ split left (f 9) 3 9) 9 110 ((f 30, 1) ∷ (f 9, 0) ∷ []) ((3, on-left 10 (f 30)) ∷ [])
+    -- none for out
+    ∷ knitted (led-21 ++ miss right (f 31) 3 ++ take-out right (f 31) 3) 0 0 ((f 10, 1) ∷ []) ((3, inactive) ∷ [])
     -- none without an attachment
     ∷ knitted (in-3 ++ misses-right f 10 21 ++ tuck right (f 31) 3) 0 0 ((f 31, 1) ∷ []) ((3, on-right 32 (f 31)) ∷ [])
     ∷ []
