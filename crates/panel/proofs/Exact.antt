@@ -15,6 +15,7 @@ use Rattle.machine.specs.Machine.{inactive}
 use Rattle.machine.specs.Range.{StateInRange, stateOk}
 use Rattle.run.specs.declared.Stepped.{Stepped}
 use Rattle.run.specs.Run.{stay, stepOf}
+use Rattle.run.proofs.Unique.{same-number}
 use Rattle.run.proofs.Premises.{is}
 use Rattle.run.proofs.Demand.{step-accepts, step-done, step-refused}
 use Rattle.panel.specs.declared.Served.{Served}
@@ -31,13 +32,6 @@ not-in-range : {s : State} → stateOk s ≡ false → StateInRange s → ⊥
 not-in-range e h = true≢false (sym (fine h) ∙ e)
 
 -- ---- the step
--- the least number of which something holds is one
-one-least : {P : ℕ → Type 0} (n m : ℕ) → P n → ((k : ℕ) → k < n → P k → ⊥) → P m → ((k : ℕ) → k < m → P k → ⊥) → n ≡ m
-one-least n m p p-least q q-least =
-    cases (ltb n m) (λ t. absurd (q-least n (ltb-true n m t) p))
-    (λ t. cases (ltb m n) (λ u. absurd (p-least m (ltb-true m n u) q))
-    (λ u. omega (arith, ltb-false n m t, ltb-false m n u)))
-
 module _ (s : State) (l : List ℕ) where
   served : Serves s l (panelStep s l)
   served = either s fair (λ e. subst (Serves s l) (foul-step s l e) (Serves.foul (not-in-range e)))
@@ -58,7 +52,8 @@ module _ (s : State) (l : List ℕ) where
   serves-one (Serves.done h bytes rest x t whole form step) = service-is-step s l h ∙ ap (stepOf s) whole ∙ step-done s bytes rest x t form step
   serves-one (Serves.refused h none n reason least) =
       let r = step-refused s l refused in
-      service-is-step s l h ∙ step-keeps s l refused ∙ ap (λ (m : ℕ). stay m s) (one-least (stepOf s l .number) n (r .reason) (r .least) reason least)
+      service-is-step s l h ∙ step-keeps s l refused ∙ ap (λ (m : ℕ). stay m s)
+      (same-number (record { no-step = r .no-step; reason = r .reason; least = r .least }) (record { no-step = none; reason = reason; least = least }))
     where
       refused : stepOf s l .number ≡ 0 → ⊥
       refused e = let (bytes, rest, x, t, whole, form, step) = step-accepts s l .0 e in none bytes rest x t whole form step

@@ -32,7 +32,7 @@ run-prefix {s} {t} (Steps.next {bytes = bytes} {rest = rest} form step more) r a
     ∙ on-form form step (rest ++ r) at ∙ run-prefix more r (at + length bytes) ∙ ap (λ (n : ℕ). runFrom 0 r n t) e
 
 -- the least reason is one
-same-number : {n m : ℕ} {s : State} {l : List ℕ} → Refusal n s l → Refusal m s l → n ≡ m
+pub same-number : {n m : ℕ} {s : State} {l : List ℕ} → Refusal n s l → Refusal m s l → n ≡ m
 same-number {n} {m} a b =
     cases (ltb n m) (λ t. absurd (b .least n (ltb-true n m t) (a .reason)))
     (λ t. cases (ltb m n) (λ u. absurd (a .least m (ltb-true m n u) (b .reason)))

@@ -1,4 +1,4 @@
--- By the kind. Assumes nothing.
+-- The carrier after in or out, by the kind; there is no other. Assumes nothing.
 use borrow.Author.Needs.{needs}
 use native.Mathlib.Omega.{arith}
 use Rattle.run.proofs.enter_or_leave.Statement.{statement}

@@ -1,4 +1,4 @@
--- By the kind. Assumes nothing.
+-- The loop of a tuck or a knit, by the kind; there is no other. Assumes nothing.
 use borrow.Author.Needs.{needs}
 use native.Mathlib.Omega.{arith}
 use mathlib.Core.Path.{_≡_, refl, sym}
