@@ -2,6 +2,7 @@
 use mathlib.Core.Bool.{Bool, false, cond}
 use lib.IntN.{ℤ, pos, negsuc, _+ℤ_, _-ℤ_, natAbs}
 use lib.Dec.{eqb, leb}
+use Rattle.machine.specs.Limits.{floatMost}
 use Rattle.machine.specs.declared.Needle.{Needle}
 use Rattle.machine.specs.declared.Column.{Column}
 use Rattle.machine.specs.declared.Racking.{Racking}
@@ -28,6 +29,6 @@ exitOf z right = record { 0 = cond right (z .0 +ℤ pos 1) (z .0) }
 unfoldable pub sameColumn : Column → Column → Bool
 sameColumn a b = eqZ (a .0) (b .0)
 
--- at most 20 columns apart
+-- a float's columns
 unfoldable pub withinFloat : Column → Column → Bool
-withinFloat a b = leb (natAbs (a .0 -ℤ b .0)) 20
+withinFloat a b = leb (natAbs (a .0 -ℤ b .0)) floatMost

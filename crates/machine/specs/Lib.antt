@@ -1,4 +1,5 @@
 -- The machine, in reading order.
+pub mod Limits
 pub mod Machine
 pub mod Geometry
 pub mod Range

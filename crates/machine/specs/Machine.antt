@@ -5,6 +5,7 @@ use mathlib.Core.List.{List, [], _∷_}
 use lib.IntN.{pos}
 use lib.Dec.{eqb}
 use lib.ListN.{getD, replicate}
+use Rattle.machine.specs.Limits.{bedNeedles, hookCount, carrierCount}
 use Rattle.machine.specs.Geometry.{eqZ}
 use Rattle.machine.specs.declared.Needle.{Needle}
 use Rattle.machine.specs.declared.Carrier.{Carrier}
@@ -13,7 +14,7 @@ use Rattle.machine.specs.declared.State.{State}
 -- a needle that the machine has: f.0 to f.249 and b.0 to b.249
 pub record OnBed (n : Needle) : Type 0 where
   pub bed : n .0 < 2
-  pub number : n .1 < 250
+  pub number : n .1 < bedNeedles
 
 unfoldable pub sameNeedle : Needle → Needle → Bool
 sameNeedle a b = eqb (a .0) (b .0) && eqb (a .1) (b .1)
@@ -24,11 +25,11 @@ inactive = record { active = 0; side = 0; slot = record { 0 = pos 0 }; needle = 
 
 -- racking 0, no loops and no active carrier
 unfoldable pub emptyState : State
-emptyState = record { racking = record { 0 = pos 0 }; loops = replicate 500 0; carriers = replicate 10 inactive }
+emptyState = record { racking = record { 0 = pos 0 }; loops = replicate hookCount 0; carriers = replicate carrierCount inactive }
 
 -- a needle's hook among the 500, and the loops on it
 abbrev pub hookOf : Needle → ℕ
-hookOf n = n .0 * 250 + n .1
+hookOf n = n .0 * bedNeedles + n .1
 
 abbrev pub loopsOn : State → Needle → ℕ
 loopsOn s n = getD (s .loops) (hookOf n) 0

@@ -6,6 +6,7 @@ use mathlib.Core.Logic.{_↔_}
 use lib.IntN.{ℤ, pos, negsuc, natAbs}
 use lib.ListN.{getD}
 use lib.Dec.{eqb, leb}
+use Rattle.machine.specs.Limits.{lastNeedle, rackingMost, slotMost, hookLimit}
 use Rattle.machine.specs.declared.Slot.{Slot}
 use Rattle.machine.specs.declared.Needle.{Needle}
 use Rattle.machine.specs.declared.Carrier.{Carrier}
@@ -15,7 +16,7 @@ use Rattle.machine.specs.Machine.{OnBed, inactive, inactiveCarrier, all}
 -- ---- as a reader holds it against 01's row
 -- slots −8 to 258; negsuc n is −1 − n
 pub data SlotInRange : Slot → Type 0 where
-  nonnegative : {n : ℕ} → n ≤ 258 → SlotInRange (record { 0 = pos n })
+  nonnegative : {n : ℕ} → n ≤ slotMost → SlotInRange (record { 0 = pos n })
   negative : {n : ℕ} → n ≤ 7 → SlotInRange (record { 0 = negsuc n })
 
 -- a carrier is inactive, with 0 in every field; or it is parked, and then unattached, with 0 for its needle, or attached to a needle that
@@ -28,22 +29,22 @@ pub data CarrierInRange (c : Carrier) : Type 0 where
 -- a state that is not foul (a state in code has 500 hooks and ten carriers; nothing is asked of the lists' lengths here)
 pub record StateInRange (s : State) : Type 0 where
   -- −8 to 8
-  pub racking : natAbs (s .racking .0) ≤ 8
+  pub racking : natAbs (s .racking .0) ≤ rackingMost
   -- 0 to 8 loops on each hook; past the last there is none
-  pub loops : (i : ℕ) → getD (s .loops) i 0 ≤ 8
+  pub loops : (i : ℕ) → getD (s .loops) i 0 ≤ hookLimit s
   pub carriers : (i : ℕ) → CarrierInRange (getD (s .carriers) i inactive)
 
 -- ---- as a test that computes, which the contracts cite
 unfoldable pub slotOk : ℤ → Bool
-slotOk (pos n) = leb n 258
+slotOk (pos n) = leb n slotMost
 slotOk (negsuc n) = leb n 7
 
 -- (a racking and a needle in a record's bytes have the same ranges: crate record)
 abbrev pub rackingOk : ℤ → Bool
-rackingOk z = leb (natAbs z) 8
+rackingOk z = leb (natAbs z) rackingMost
 
 abbrev pub numberOk : ℕ → Bool
-numberOk n = leb n 249
+numberOk n = leb n lastNeedle
 
 abbrev pub onBed : Needle → Bool
 onBed n = leb (n .0) 1 && numberOk (n .1)
@@ -56,7 +57,7 @@ unfoldable pub carrierOk : Carrier → Bool
 carrierOk c = cond (eqb (c .active) 0) (inactiveCarrier c) (eqb (c .active) 1 && (slotOk (c .slot .0) && attachmentOk c))
 
 unfoldable pub stateOk : State → Bool
-stateOk s = rackingOk (s .racking .0) && (all (λ (n : ℕ). leb n 8) (s .loops) && all carrierOk (s .carriers))
+stateOk s = rackingOk (s .racking .0) && (all (λ (n : ℕ). leb n (hookLimit s)) (s .loops) && all carrierOk (s .carriers))
 
 -- the test is true exactly of the states in range
 abbrev pub RangeExactly : Type 0

@@ -5,9 +5,13 @@ ghost use mathlib.Core.Bool.{cond};
 ghost use mathlib.Core.List.{map};
 ghost use lib.Dec.{leb, ltb};
 ghost use Rattle.machine.specs.Machine.{OnBed, inactive, emptyState, hookOf, sameNeedle, attachedAt, movedTo, all, noLoops, inactiveCarrier, allInactive, completeOf};
+ghost use Rattle.machine.specs.Limits.{hookMost};
 ghost use Rattle.machine.specs.Geometry.{columnOf, entryOf, exitOf, sameColumn, withinFloat};
 ghost use Rattle.machine.specs.Looks.{Most, anyBeside};
 ghost use Rattle.machine.specs.Range.{rackingOk, slotOk, onBed, attachmentOk, carrierOk, stateOk};
+
+// The numbers of refusals.
+pub mod numbers;
 
 // A needle by its bed (0 front, 1 back) and its number there: where a program says it is.
 #[repr(C)]
@@ -48,7 +52,7 @@ impl State {
     // needles on a bed, hooks on both, carriers
     pub const NEEDLES: usize = 250;
 
-    pub const HOOKS: usize = 500;
+    pub const HOOKS: usize = 2 * State::NEEDLES;
 
     pub const CARRIERS: usize = 10;
     // the last needle of a bed and the last carrier, as the format names them
@@ -343,7 +347,7 @@ fn no_loops(loops: &[u8]) -> bool
 
 // Whether no hook holds more loops than it can.
 fn loops_in_range(loops: &[u8]) -> bool
-    ensures { λ b. ⌜ b ≡ all (λ (n : ℕ). leb n 8) (now (loops .entry)) ⌝ }
+    ensures { λ b. ⌜ b ≡ all (λ (n : ℕ). leb n hookMost) (now (loops .entry)) ⌝ }
 {
     most_loops(loops) <= State::LOOPS_MOST
 }

@@ -1,3 +1,4 @@
 -- The byte format, in reading order.
+pub mod Kinds
 pub mod Format
 pub mod Names

@@ -1,0 +1,42 @@
+-- The limits of document 01, each said once, and read by name everywhere else.
+use Prim.Native.Nat.{ℕ, _*_}
+use Rattle.machine.specs.declared.State.{State}
+
+-- 'Needles are f.0 to f.249 (front bed) and b.0 to b.249 (back)': on a bed, its last one, and the hooks of both beds
+abbrev pub bedNeedles : ℕ
+bedNeedles = 250
+
+abbrev pub lastNeedle : ℕ
+lastNeedle = 249
+
+abbrev pub hookCount : ℕ
+hookCount = 2 * bedNeedles
+
+-- 'Carriers are 1 to 10'
+abbrev pub carrierCount : ℕ
+carrierCount = 10
+
+-- 'Racking r is −8 to 8', and so 'slots −8 to 258'
+abbrev pub rackingMost : ℕ
+rackingMost = 8
+
+abbrev pub slotMost : ℕ
+slotMost = 258
+
+-- 'A hook holds 0 to 8 loops'; statements read it as the limit of a state
+abbrev pub hookMost : ℕ
+hookMost = 8
+
+abbrev pub hookLimit : State → ℕ
+hookLimit s = hookMost
+
+-- 'at most 20 columns from the needle worked'
+abbrev pub floatMost : ℕ
+floatMost = 20
+
+-- 'at most 32,768 bytes': a program, a log
+abbrev pub programMost : ℕ
+programMost = 32768
+
+abbrev pub logMost : ℕ
+logMost = 32768
