@@ -1,162 +1,186 @@
 -- Decoding against the form of a record, the bytes that encode it: what was decoded is the form at the front of the bytes, and a form decodes to its record. Assumes nothing.
+use borrow.Table.Steps.{cases}
 use Prim.Native.Nat.{ℕ, zero, suc, _+_, _-_, _≤_, _<_}
 use mathlib.Core.Path.{_≡_, refl, sym, ap, subst, _∙_}
 use mathlib.Core.Bool.{Bool, true, false, _&&_, cond}
 use mathlib.Core.List.{List, [], _∷_, _++_}
 use native.Mathlib.Omega.{arith}
-use lib.IntN.{natAbs}
+use lib.IntN.{pos, natAbs}
 use lib.ListN.{length, take, drop, length-append}
 use lib.Seq.{drop-cons, getD-take, length-take-le}
-use lib.Dec.{eqb, leb, ltb}
-use borrow.Author.Tests.{ne-eqb, eqb-true, eqb-false, leb-true, le-leb, lt-leb, ltb-true, ltb-false, le-ltb}
+use lib.Dec.{eqb, ltb}
+use borrow.Author.Tests.{ne-eqb, eqb-true, eqb-false, leb-true, le-leb, ltb-true, ltb-false, le-ltb, lt-ltb}
+use Rattle.machine.specs.Limits.{lastNeedle, carrierCount, rackingMost}
 use Rattle.machine.specs.Machine.{OnBed, hookOf}
 use Rattle.machine.specs.Range.{numberOk}
 use Rattle.machine.proofs.Laws.{and-two}
 use Rattle.machine.proofs.Ranges.{bed-ok}
 use Rattle.record.specs.declared.Record.{Record}
 use Rattle.record.specs.declared.Decoded.{Decoded}
-use Rattle.record.specs.Format.{Encodes, sizeOf, signedOf, rackOk, needleOk, workOk, needle, rackRecord, dropRecord, xferRecord, workRecord, splitRecord}
-use Rattle.record.specs.Format.{byte, refusedAs, ranged, whole, decodeOf}
-use Rattle.record.specs.Names.{needleCount}
-use Rattle.record.proofs.Ranges.{InRange, work-size, work-read}
-use Rattle.record.proofs.Ranges.{needle-bed, needle-number, work-right, work-bed, work-number, work-low, work-high}
+use Rattle.record.specs.Kinds.{IN, KNIT, byKind, sizeOf, hooksWorked, carriersNamed}
+use Rattle.record.specs.Format.{Encodes, signedOf, rackOk, needleOk, workOk, needle, noNeedle, recordOf, workRecord, byte, carried, fieldsOk, recordAt, refusedAs, readAs, decodeOf, acrossOf}
+use Rattle.record.proofs.Shapes.{Known, in-work, known-size, sized-known, work-size}
+use Rattle.record.proofs.Ranges.{InRange, needle-bed, needle-number, work-right, work-bed, work-number, work-low, work-high}
 
 -- a choice by a test
 pub cond-cases : {A : Type 0} (P : A → Type 0) (b : Bool) {x y : A} → (b ≡ true → P x) → (b ≡ false → P y) → P (cond b x y)
 cond-cases P true f g = f refl
 cond-cases P false f g = g refl
 
+-- ---- kinds 4 to 8 are read as one
+module _ (l : List ℕ) (h : IN ≤ byte l 0) (j : byte l 0 ≤ KNIT) where
+  pub work-fields : fieldsOk l ≡ carried l
+  unfolding fieldsOk
+  work-fields = simp (ne-eqb (byte l 0) 1 (λ q. omega arith), ne-eqb (byte l 0) 2 (λ q. omega arith), ne-eqb (byte l 0) 3 (λ q. omega arith), ne-eqb (byte l 0) 9 (λ q. omega arith))
+
+  pub work-record : recordAt l ≡ workRecord (byte l 0) (eqb (byte l 1) 1) (needle (byte l 2) (byte l 3)) (byte l 4)
+  unfolding recordAt
+  work-record = simp (ne-eqb (byte l 0) 1 (λ q. omega arith), ne-eqb (byte l 0) 2 (λ q. omega arith), ne-eqb (byte l 0) 3 (λ q. omega arith), ne-eqb (byte l 0) 9 (λ q. omega arith))
+
 -- ---- a form decodes to its record, whatever follows it
-on-bed : (bed n : ℕ) → bed ≤ 1 → n ≤ 249 → OnBed (needle bed n)
+on-bed : (bed n : ℕ) → bed ≤ 1 → n ≤ lastNeedle → OnBed (needle bed n)
 on-bed bed n a b = record { bed = omega arith; number = omega arith }
 
-needle-in : (bed n : ℕ) → bed ≤ 1 → n ≤ 249 → needleOk bed n ≡ true
+needle-in : (bed n : ℕ) → bed ≤ 1 → n ≤ lastNeedle → needleOk bed n ≡ true
 unfolding needleOk
 needle-in bed n a b = bed-ok (needle bed n) (on-bed bed n a b)
 
-work-in : (right bed n k : ℕ) → right ≤ 1 → bed ≤ 1 → n ≤ 249 → 1 ≤ k → k ≤ 10 → workOk right bed n k ≡ true
+work-in : (right bed n k : ℕ) → right ≤ 1 → bed ≤ 1 → n ≤ lastNeedle → 1 ≤ k → k ≤ carrierCount → workOk right bed n k ≡ true
 unfolding workOk
-work-in right bed n k a b c d e = simp (le-leb right 1 a, needle-in bed n b c, le-leb 1 k d, le-leb k 10 e)
+work-in right bed n k a b c d e = simp (le-leb right 1 a, needle-in bed n b c, le-leb 1 k d, le-leb k carrierCount e)
 
-module _ (bytes rest : List ℕ) (ok : Bool) (x : Record) (some : 0 < length bytes) (in-range : ok ≡ true) where
-  past : cond (eqb (length (bytes ++ rest)) 0) (refusedAs 4) (whole (bytes ++ rest) (length bytes) (ranged ok (length bytes) x)) ≡ record { number = 0; size = length bytes; what = x }
-  unfolding whole ranged
-  past =
-      let long = length-append bytes rest in
-      simp (ne-eqb (length (bytes ++ rest)) 0 (λ q. omega arith), le-ltb (length (bytes ++ rest)) (length bytes) (omega arith), in-range)
+-- what bytes give that begin with a form: its length, fields in range, its record
+record Formed (bytes l : List ℕ) (x : Record) : Type 0 where
+  size : sizeOf (byte l 0) ≡ length bytes
+  some : 2 ≤ length bytes
+  fields : fieldsOk l ≡ true
+  reads : recordAt l ≡ x
+
+formed : {bytes : List ℕ} {x : Record} → Encodes bytes x → (rest : List ℕ) → Formed bytes (bytes ++ rest) x
+unfolding byKind fieldsOk recordAt rackOk
+formed (Encodes.rack {b = b} h) rest = record { size = refl; some = omega arith; fields = le-leb (natAbs (signedOf b)) rackingMost h; reads = refl }
+formed (Encodes.drop {bed = bed} {n = n} h i) rest = record { size = refl; some = omega arith; fields = needle-in bed n h i; reads = refl }
+formed (Encodes.xfer {bed = bed} {n = n} {m = m} h i j) rest =
+    record { size = refl; some = omega arith; fields = simp (needle-in bed n h i) (le-leb m lastNeedle j); reads = refl }
+formed (Encodes.work {kind = kind} {right = right} {bed = bed} {n = n} {k = k} a b c d e f g) rest =
+    let l = kind ∷ right ∷ bed ∷ n ∷ k ∷ rest in
+    record { size = work-size kind a b; some = omega arith; fields = work-fields l a b ∙ work-in right bed n k c d e f g; reads = work-record l a b }
+formed (Encodes.split {right = right} {bed = bed} {n = n} {k = k} {m = m} c d e f g h) rest =
+    record { size = refl; some = omega arith; fields = simp (work-in right bed n k c d e f g) (le-leb m lastNeedle h); reads = refl }
+
+-- bytes with a known kind, and with as many as it needs
+pub decode-known : (l : List ℕ) → 0 < length l → (sizeOf (byte l 0) ≡ 0 → ⊥) → decodeOf l ≡ readAs l (sizeOf (byte l 0)) (fieldsOk l) (recordAt l)
+unfolding decodeOf
+decode-known l h k = simp (ne-eqb (length l) 0 (λ q. omega arith), ne-eqb (sizeOf (byte l 0)) 0 k)
+
+read-long : (l : List ℕ) (size : ℕ) (ok : Bool) (x : Record) → size ≤ length l → readAs l size ok x ≡ cond ok (record { number = 0; size = size; what = x }) (refusedAs 5)
+unfolding readAs
+read-long l size ok x h = simp (le-ltb (length l) size h)
+
+pub read-cut : (l : List ℕ) (size : ℕ) (ok : Bool) (x : Record) → length l < size → readAs l size ok x ≡ refusedAs 4
+unfolding readAs
+read-cut l size ok x h = simp (lt-ltb (length l) size h)
+
+pub read-outside : (l : List ℕ) (size : ℕ) (ok : Bool) (x : Record) → size ≤ length l → ok ≡ false → readAs l size ok x ≡ refusedAs 5
+read-outside l size ok x h e = read-long l size ok x h ∙ simp e
+
+pub read-inside : (l : List ℕ) (size : ℕ) (ok : Bool) (x : Record) → size ≤ length l → ok ≡ true → readAs l size ok x ≡ record { number = 0; size = size; what = x }
+read-inside l size ok x h e = read-long l size ok x h ∙ simp e
 
 pub form-decode : {bytes : List ℕ} {x : Record} → Encodes bytes x → (rest : List ℕ) → decodeOf (bytes ++ rest) ≡ record { number = 0; size = length bytes; what = x }
-unfolding decodeOf rackOk
-form-decode (Encodes.rack {b = b} h) rest = past (1 ∷ b ∷ []) rest _ _ (omega arith) (le-leb (natAbs (signedOf b)) 8 h)
-form-decode (Encodes.drop {bed = bed} {n = n} h i) rest = past (2 ∷ bed ∷ n ∷ []) rest _ _ (omega arith) (needle-in bed n h i)
-form-decode (Encodes.xfer {bed = bed} {n = n} {m = m} h i j) rest = past (3 ∷ bed ∷ n ∷ m ∷ []) rest _ _ (omega arith) (simp (needle-in bed n h i) (le-leb m 249 j))
-form-decode (Encodes.work {kind = kind} {right = right} {bed = bed} {n = n} {k = k} a b c d e f g) rest =
-    let bytes = kind ∷ right ∷ bed ∷ n ∷ k ∷ [] in
-    simp (work-read kind a b (bytes ++ rest)) (past bytes rest _ _ (omega arith) (work-in right bed n k c d e f g))
-form-decode (Encodes.split {right = right} {bed = bed} {n = n} {k = k} {m = m} c d e f g h) rest =
-    past (9 ∷ right ∷ bed ∷ n ∷ k ∷ m ∷ []) rest _ _ (omega arith) (simp (work-in right bed n k c d e f g) (le-leb m 249 h))
+form-decode {bytes} {x} form rest =
+    let f = formed form rest in
+    let long = length-append bytes rest in
+    let l = bytes ++ rest in
+    decode-known l (omega (arith, f .some)) (λ q. omega (arith, f .some, f .size)) ∙ read-long l (sizeOf (byte l 0)) (fieldsOk l) (recordAt l) (omega (arith, f .size))
+    ∙ simp (f .fields, f .size, f .reads)
 
 -- ---- every list of bytes is one of five
--- a known kind: its length, whether its fields are in range, and the record
-pub data Fields (l : List ℕ) : ℕ → Bool → Record → Type 0 where
-  one : byte l 0 ≡ 1 → Fields l 2 (rackOk (byte l 1)) (rackRecord (signedOf (byte l 1)))
-  two : byte l 0 ≡ 2 → Fields l 3 (needleOk (byte l 1) (byte l 2)) (dropRecord (needle (byte l 1) (byte l 2)))
-  three : byte l 0 ≡ 3 → Fields l 4 (needleOk (byte l 1) (byte l 2) && numberOk (byte l 3)) (xferRecord (needle (byte l 1) (byte l 2)) (needle (1 - byte l 1) (byte l 3)))
-  middle : 4 ≤ byte l 0 → byte l 0 ≤ 8
-      → Fields l 5 (workOk (byte l 1) (byte l 2) (byte l 3) (byte l 4)) (workRecord (byte l 0) (eqb (byte l 1) 1) (needle (byte l 2) (byte l 3)) (byte l 4))
-  nine : byte l 0 ≡ 9
-      → Fields l 6 (workOk (byte l 1) (byte l 2) (byte l 3) (byte l 4) && numberOk (byte l 5))
-      (splitRecord (eqb (byte l 1) 1) (needle (byte l 2) (byte l 3)) (byte l 4) (needle (1 - byte l 2) (byte l 5)))
-
 pub data Reads (l : List ℕ) : Decoded → Type 0 where
   none : length l ≡ 0 → Reads l (refusedAs 4)
   strange : 0 < length l → sizeOf (byte l 0) ≡ 0 → Reads l (refusedAs 3)
-  short : {size : ℕ} {ok : Bool} {x : Record} → Fields l size ok x → 0 < length l → length l < size → Reads l (refusedAs 4)
-  outside : {size : ℕ} {ok : Bool} {x : Record} → Fields l size ok x → size ≤ length l → ok ≡ false → Reads l (refusedAs 5)
-  done : {size : ℕ} {ok : Bool} {x : Record} → Fields l size ok x → size ≤ length l → ok ≡ true → Reads l (record { number = 0; size = size; what = x })
-
-known : {l : List ℕ} {size : ℕ} {ok : Bool} {x : Record} → 0 < length l → Fields l size ok x → Reads l (whole l size (ranged ok size x))
-unfolding whole ranged
-known {l} {size} {ok} h f =
-    cond-cases (Reads l) (ltb (length l) size) (λ t. Reads.short f h (ltb-true (length l) size t))
-    (λ t. cond-cases (Reads l) ok (Reads.done f (ltb-false (length l) size t)) (Reads.outside f (ltb-false (length l) size t)))
-
-no-size : (k : ℕ) → eqb k 1 ≡ false → eqb k 2 ≡ false → eqb k 3 ≡ false → (leb 4 k && leb k 8) ≡ false → eqb k 9 ≡ false → sizeOf k ≡ 0
-unfolding sizeOf
-no-size k a b c d e = simp (a, b, c, d, e)
+  short : (sizeOf (byte l 0) ≡ 0 → ⊥) → 0 < length l → length l < sizeOf (byte l 0) → Reads l (refusedAs 4)
+  outside : (sizeOf (byte l 0) ≡ 0 → ⊥) → sizeOf (byte l 0) ≤ length l → fieldsOk l ≡ false → Reads l (refusedAs 5)
+  done : (sizeOf (byte l 0) ≡ 0 → ⊥) → sizeOf (byte l 0) ≤ length l → fieldsOk l ≡ true
+      → Reads l (record { number = 0; size = sizeOf (byte l 0); what = recordAt l })
 
 pub reads : (l : List ℕ) → Reads l (decodeOf l)
-unfolding decodeOf
+unfolding decodeOf readAs
 reads l =
     cond-cases (Reads l) (eqb (length l) 0) (λ h. Reads.none (eqb-true (length l) 0 h))
     (λ h. let some : 0 < length l = omega (arith, eqb-false (length l) 0 h) in
-    cond-cases (Reads l) (eqb (byte l 0) 1) (λ a. known some (Fields.one (eqb-true (byte l 0) 1 a)))
-    (λ a. cond-cases (Reads l) (eqb (byte l 0) 2) (λ b. known some (Fields.two (eqb-true (byte l 0) 2 b)))
-    (λ b. cond-cases (Reads l) (eqb (byte l 0) 3) (λ c. known some (Fields.three (eqb-true (byte l 0) 3 c)))
-    (λ c. cond-cases (Reads l) (leb 4 (byte l 0) && leb (byte l 0) 8)
-    (λ d. let (low, high) = and-two (leb 4 (byte l 0)) (leb (byte l 0) 8) d in known some (Fields.middle (leb-true 4 (byte l 0) low) (leb-true (byte l 0) 8 high)))
-    (λ d. cond-cases (Reads l) (eqb (byte l 0) 9) (λ e. known some (Fields.nine (eqb-true (byte l 0) 9 e)))
-    (λ e. Reads.strange some (no-size (byte l 0) a b c d e)))))))
-
-pub fields-size : {l : List ℕ} {size : ℕ} {ok : Bool} {x : Record} → Fields l size ok x → sizeOf (byte l 0) ≡ size
-unfolding sizeOf
-fields-size (Fields.one e) = simp e
-fields-size (Fields.two e) = simp e
-fields-size (Fields.three e) = simp e
-fields-size {l} (Fields.middle a b) = work-size (byte l 0) a b
-fields-size (Fields.nine e) = simp e
-
-pub fields-positive : {l : List ℕ} {size : ℕ} {ok : Bool} {x : Record} → Fields l size ok x → 0 < size
-fields-positive (Fields.one e) = omega arith
-fields-positive (Fields.two e) = omega arith
-fields-positive (Fields.three e) = omega arith
-fields-positive (Fields.middle a b) = omega arith
-fields-positive (Fields.nine e) = omega arith
+    cond-cases (Reads l) (eqb size 0) (λ a. Reads.strange some (eqb-true size 0 a))
+    (λ a. let known = eqb-false size 0 a in
+    cond-cases (Reads l) (ltb (length l) size) (λ t. Reads.short known some (ltb-true (length l) size t))
+    (λ t. cond-cases (Reads l) (fieldsOk l) (Reads.done known (ltb-false (length l) size t)) (Reads.outside known (ltb-false (length l) size t)))))
+  where
+    size : ℕ
+    size = sizeOf (byte l 0)
 
 -- ---- decoding looks no further than the kind's length
-fields-decode : {l : List ℕ} {size : ℕ} {ok : Bool} {x : Record} → Fields l size ok x → 0 < length l → decodeOf l ≡ whole l size (ranged ok size x)
-unfolding decodeOf
-fields-decode {l} (Fields.one e) h = simp (ne-eqb (length l) 0 (λ q. omega arith), e)
-fields-decode {l} (Fields.two e) h = simp (ne-eqb (length l) 0 (λ q. omega arith), e)
-fields-decode {l} (Fields.three e) h = simp (ne-eqb (length l) 0 (λ q. omega arith), e)
-fields-decode {l} (Fields.middle a b) h = simp (ne-eqb (length l) 0 (λ q. omega arith)) (work-read (byte l 0) a b l)
-fields-decode {l} (Fields.nine e) h = simp (ne-eqb (length l) 0 (λ q. omega arith), e)
+module _ (l : List ℕ) where
+  -- the front of a list has its bytes
+  kept : (n i : ℕ) → i < n → byte (take n l) i ≡ byte l i
+  kept n i h = getD-take n l i 0 h
 
--- the front of a list has its bytes
-kept : (n i : ℕ) (l : List ℕ) → i < n → byte l i ≡ byte (take n l) i
-kept n i l h = sym (getD-take n l i 0 h)
+  abbrev Alike : ℕ → Type 0
+  Alike n = (fieldsOk (take n l) ≡ fieldsOk l) × (recordAt (take n l) ≡ recordAt l)
 
-fields-front : {l : List ℕ} {size : ℕ} {ok : Bool} {x : Record} → Fields l size ok x → Fields (take size l) size ok x
-fields-front {l} (Fields.one e) = rw (kept 2 1 l (omega arith)) (Fields.one (sym (kept 2 0 l (omega arith)) ∙ e))
-fields-front {l} (Fields.two e) = rw (kept 3 1 l (omega arith), kept 3 2 l (omega arith)) (Fields.two (sym (kept 3 0 l (omega arith)) ∙ e))
-fields-front {l} (Fields.three e) =
-    rw (kept 4 1 l (omega arith), kept 4 2 l (omega arith), kept 4 3 l (omega arith)) (Fields.three (sym (kept 4 0 l (omega arith)) ∙ e))
-fields-front {l} (Fields.middle a b) =
-    let k = kept 5 0 l (omega arith) in
-    rw (k, kept 5 1 l (omega arith), kept 5 2 l (omega arith), kept 5 3 l (omega arith), kept 5 4 l (omega arith)) (Fields.middle (omega (arith, k)) (omega (arith, k)))
-fields-front {l} (Fields.nine e) =
-    rw (kept 6 1 l (omega arith), kept 6 2 l (omega arith), kept 6 3 l (omega arith), kept 6 4 l (omega arith), kept 6 5 l (omega arith))
-    (Fields.nine (sym (kept 6 0 l (omega arith)) ∙ e))
+  rack-alike : byte l 0 ≡ 1 → Alike 2
+  unfolding fieldsOk recordAt
+  rack-alike e = let b = kept 2 0 (omega arith) in let c = kept 2 1 (omega arith) in (simp (b, c, e), simp (b, c, e))
 
-whole-front : (l : List ℕ) (size : ℕ) (d : Decoded) → size ≤ length l → whole (take size l) size d ≡ whole l size d
-unfolding whole
-whole-front l size d h = let e = length-take-le size l h in simp (le-ltb (length (take size l)) size (omega arith), le-ltb (length l) size h)
+  drop-alike : byte l 0 ≡ 2 → Alike 3
+  unfolding fieldsOk recordAt
+  drop-alike e = let b = kept 3 0 (omega arith) in let c = kept 3 1 (omega arith) in let d = kept 3 2 (omega arith) in (simp (b, c, d, e), simp (b, c, d, e))
 
-front-decode : {l : List ℕ} {size : ℕ} {ok : Bool} {x : Record} → Fields l size ok x → size ≤ length l → decodeOf (take size l) ≡ decodeOf l
-front-decode {l} {size} {ok} {x} f h =
-    let some = fields-positive f in
-    let e = length-take-le size l h in
-    fields-decode (fields-front f) (omega arith) ∙ whole-front l size (ranged ok size x) h ∙ sym (fields-decode f (omega arith))
+  xfer-alike : byte l 0 ≡ 3 → Alike 4
+  unfolding fieldsOk recordAt
+  xfer-alike e =
+      let b = kept 4 0 (omega arith) in let c = kept 4 1 (omega arith) in let d = kept 4 2 (omega arith) in let f = kept 4 3 (omega arith) in
+      (simp (b, c, d, f, e), simp (b, c, d, f, e))
 
-front-read : {l : List ℕ} {d : Decoded} → Reads l d → 0 < sizeOf (byte l 0) → sizeOf (byte l 0) ≤ length l → decodeOf (take (sizeOf (byte l 0)) l) ≡ decodeOf l
-front-read (Reads.none a) p h = absurd (omega arith)
-front-read (Reads.strange a b) p h = absurd (omega arith)
-front-read (Reads.short f a b) p h = absurd (omega (arith, fields-size f))
-front-read {l} (Reads.outside f a b) p h = rw (fields-size f) (front-decode f a)
-front-read {l} (Reads.done f a b) p h = rw (fields-size f) (front-decode f a)
+  work-alike : IN ≤ byte l 0 → byte l 0 ≤ KNIT → Alike 5
+  work-alike h j =
+      let b = kept 5 0 (omega arith) in
+      let low : IN ≤ byte (take 5 l) 0 = omega arith in
+      let high : byte (take 5 l) 0 ≤ KNIT = omega arith in
+      let c = kept 5 1 (omega arith) in let d = kept 5 2 (omega arith) in let e = kept 5 3 (omega arith) in let f = kept 5 4 (omega arith) in
+      (work-fields (take 5 l) low high ∙ simp (c, d, e, f) (sym (work-fields l h j)), work-record (take 5 l) low high ∙ simp (b, c, d, e, f) (sym (work-record l h j)))
 
-pub decode-front : (l : List ℕ) → 0 < sizeOf (byte l 0) → sizeOf (byte l 0) ≤ length l → decodeOf (take (sizeOf (byte l 0)) l) ≡ decodeOf l
-decode-front l = front-read (reads l)
+  split-alike : byte l 0 ≡ 9 → Alike 6
+  unfolding fieldsOk recordAt
+  split-alike e =
+      let b = kept 6 0 (omega arith) in let c = kept 6 1 (omega arith) in let d = kept 6 2 (omega arith) in let f = kept 6 3 (omega arith) in
+      let g = kept 6 4 (omega arith) in let h = kept 6 5 (omega arith) in
+      (simp (b, c, d, f, g, h, e), simp (b, c, d, f, g, h, e))
+
+  of-size : {n : ℕ} → sizeOf (byte l 0) ≡ n → Alike n → Alike (sizeOf (byte l 0))
+  of-size {n} e h = subst Alike (sym e) h
+
+  alike : Known (byte l 0) → Alike (sizeOf (byte l 0))
+  unfolding byKind
+  alike (Known.rack e) = of-size {n = 2} (simp e) (rack-alike e)
+  alike (Known.drop e) = of-size {n = 3} (simp e) (drop-alike e)
+  alike (Known.xfer e) = of-size {n = 4} (simp e) (xfer-alike e)
+  alike (Known.carrier-in e) = of-size {n = 5} (simp e) (work-alike (omega arith) (omega arith))
+  alike (Known.carrier-out e) = of-size {n = 5} (simp e) (work-alike (omega arith) (omega arith))
+  alike (Known.miss e) = of-size {n = 5} (simp e) (work-alike (omega arith) (omega arith))
+  alike (Known.tuck e) = of-size {n = 5} (simp e) (work-alike (omega arith) (omega arith))
+  alike (Known.knit e) = of-size {n = 5} (simp e) (work-alike (omega arith) (omega arith))
+  alike (Known.split e) = of-size {n = 6} (simp e) (split-alike e)
+
+  pub decode-front : 0 < sizeOf (byte l 0) → sizeOf (byte l 0) ≤ length l → decodeOf (take (sizeOf (byte l 0)) l) ≡ decodeOf l
+  decode-front p h =
+      let n = sizeOf (byte l 0) in
+      let b = kept n 0 p in
+      let long = length-take-le n l h in
+      let some : sizeOf (byte l 0) ≡ 0 → ⊥ = λ q. omega arith in
+      let (f, x) = alike (sized-known (byte l 0) some) in
+      decode-known (take n l) (omega arith) (λ q. some (ap sizeOf (sym b) ∙ q)) ∙ ap (λ (k : ℕ). readAs (take n l) (sizeOf k) (fieldsOk (take n l)) (recordAt (take n l))) b
+      ∙ read-long (take n l) n (fieldsOk (take n l)) (recordAt (take n l)) (omega arith)
+      ∙ (λ i. cond (f i) (record { number = 0; size = n; what = x i }) (refusedAs 5))
+      ∙ sym (read-long l n (fieldsOk l) (recordAt l) h) ∙ sym (decode-known l (omega arith) some)
 
 -- without a byte, with an unknown kind, with too few bytes
 pub decode-none : (l : List ℕ) → length l ≡ 0 → decodeOf l ≡ refusedAs 4
@@ -164,24 +188,11 @@ unfolding decodeOf
 decode-none l h = simp h
 
 pub decode-strange : (l : List ℕ) → 0 < length l → sizeOf (byte l 0) ≡ 0 → decodeOf l ≡ refusedAs 3
-decode-strange l h z = read-strange (reads l)
-  where
-    read-strange : {d : Decoded} → Reads l d → d ≡ refusedAs 3
-    read-strange (Reads.none a) = absurd (omega arith)
-    read-strange (Reads.strange a b) = refl
-    read-strange (Reads.short f a b) = absurd (omega (arith, fields-size f, fields-positive f))
-    read-strange (Reads.outside f a b) = absurd (omega (arith, fields-size f, fields-positive f))
-    read-strange (Reads.done f a b) = absurd (omega (arith, fields-size f, fields-positive f))
+unfolding decodeOf
+decode-strange l h z = simp (ne-eqb (length l) 0 (λ q. omega arith), z)
 
 pub decode-short : (l : List ℕ) → 0 < length l → length l < sizeOf (byte l 0) → decodeOf l ≡ refusedAs 4
-decode-short l h z = read-short (reads l)
-  where
-    read-short : {d : Decoded} → Reads l d → d ≡ refusedAs 4
-    read-short (Reads.none a) = refl
-    read-short (Reads.strange a b) = absurd (omega arith)
-    read-short (Reads.short f a b) = refl
-    read-short (Reads.outside f a b) = absurd (omega (arith, fields-size f))
-    read-short (Reads.done f a b) = absurd (omega (arith, fields-size f))
+decode-short l h z = decode-known l h (λ q. omega arith) ∙ read-cut l (sizeOf (byte l 0)) (fieldsOk l) (recordAt l) z
 
 -- ---- the form at the front of the bytes
 bytesFrom : ℕ → ℕ → List ℕ → List ℕ
@@ -193,75 +204,140 @@ unfolding bytesFrom
 front zero i l h = refl
 front (suc n) i l h = ap (take (suc n)) (drop-cons l i 0 (omega arith)) ∙ ap (λ (t : List ℕ). byte l i ∷ t) (front n (suc i) l (omega arith))
 
-fields-form : {l : List ℕ} {size : ℕ} {ok : Bool} {x : Record} → Fields l size ok x → ok ≡ true → Encodes (bytesFrom size 0 l) x
-unfolding rackOk bytesFrom
-fields-form {l} (Fields.one e) t = rw e (Encodes.rack (leb-true (natAbs (signedOf (byte l 1))) 8 t))
-fields-form {l} (Fields.two e) t = rw e (Encodes.drop (needle-bed (byte l 1) (byte l 2) t) (needle-number (byte l 1) (byte l 2) t))
-fields-form {l} (Fields.three e) t =
-    let (p, q) = and-two (needleOk (byte l 1) (byte l 2)) (numberOk (byte l 3)) t in
-    rw e (Encodes.xfer (needle-bed (byte l 1) (byte l 2) p) (needle-number (byte l 1) (byte l 2) p) (leb-true (byte l 3) 249 q))
-fields-form {l} (Fields.middle a b) t =
-    Encodes.work a b (work-right (byte l 1) (byte l 2) (byte l 3) (byte l 4) t) (work-bed (byte l 1) (byte l 2) (byte l 3) (byte l 4) t)
-    (work-number (byte l 1) (byte l 2) (byte l 3) (byte l 4) t) (work-low (byte l 1) (byte l 2) (byte l 3) (byte l 4) t) (work-high (byte l 1) (byte l 2) (byte l 3) (byte l 4) t)
-fields-form {l} (Fields.nine e) t =
-    let (p, q) = and-two (workOk (byte l 1) (byte l 2) (byte l 3) (byte l 4)) (numberOk (byte l 5)) t in
-    rw e (Encodes.split (work-right (byte l 1) (byte l 2) (byte l 3) (byte l 4) p) (work-bed (byte l 1) (byte l 2) (byte l 3) (byte l 4) p)
-    (work-number (byte l 1) (byte l 2) (byte l 3) (byte l 4) p) (work-low (byte l 1) (byte l 2) (byte l 3) (byte l 4) p) (work-high (byte l 1) (byte l 2) (byte l 3) (byte l 4) p)
-    (leb-true (byte l 5) 249 q))
+-- bytes whose fields are in range are a form
+module _ (l : List ℕ) (t : fieldsOk l ≡ true) where
+  abbrev Form : ℕ → Type 0
+  Form n = Encodes (bytesFrom n 0 l) (recordAt l)
+
+  rack-form : byte l 0 ≡ 1 → Form 2
+  unfolding fieldsOk recordAt rackOk bytesFrom
+  rack-form e = simp e (Encodes.rack (leb-true (natAbs (signedOf (byte l 1))) rackingMost (simp e at t)))
+
+  drop-form : byte l 0 ≡ 2 → Form 3
+  unfolding fieldsOk recordAt bytesFrom
+  drop-form e = let u = simp e at t in simp e (Encodes.drop (needle-bed (byte l 1) (byte l 2) u) (needle-number (byte l 1) (byte l 2) u))
+
+  xfer-form : byte l 0 ≡ 3 → Form 4
+  unfolding fieldsOk recordAt bytesFrom
+  xfer-form e =
+      let (p, q) = and-two (needleOk (byte l 1) (byte l 2)) (numberOk (byte l 3)) (simp e at t) in
+      simp e (Encodes.xfer (needle-bed (byte l 1) (byte l 2) p) (needle-number (byte l 1) (byte l 2) p) (leb-true (byte l 3) lastNeedle q))
+
+  work-form : IN ≤ byte l 0 → byte l 0 ≤ KNIT → Form 5
+  unfolding bytesFrom
+  work-form a b =
+      let p = sym (work-fields l a b) ∙ t in
+      rw (work-record l a b) (Encodes.work a b (work-right (byte l 1) (byte l 2) (byte l 3) (byte l 4) p) (work-bed (byte l 1) (byte l 2) (byte l 3) (byte l 4) p)
+      (work-number (byte l 1) (byte l 2) (byte l 3) (byte l 4) p) (work-low (byte l 1) (byte l 2) (byte l 3) (byte l 4) p) (work-high (byte l 1) (byte l 2) (byte l 3) (byte l 4) p))
+
+  split-form : byte l 0 ≡ 9 → Form 6
+  unfolding fieldsOk recordAt bytesFrom
+  split-form e =
+      let (p, q) = and-two (carried l) (numberOk (byte l 5)) (simp e at t) in
+      simp e (Encodes.split (work-right (byte l 1) (byte l 2) (byte l 3) (byte l 4) p) (work-bed (byte l 1) (byte l 2) (byte l 3) (byte l 4) p)
+      (work-number (byte l 1) (byte l 2) (byte l 3) (byte l 4) p) (work-low (byte l 1) (byte l 2) (byte l 3) (byte l 4) p) (work-high (byte l 1) (byte l 2) (byte l 3) (byte l 4) p)
+      (leb-true (byte l 5) lastNeedle q))
+
+  of-length : {n : ℕ} → sizeOf (byte l 0) ≡ n → Form n → Form (sizeOf (byte l 0))
+  of-length {n} e h = subst Form (sym e) h
+
+  fields-form : Known (byte l 0) → Form (sizeOf (byte l 0))
+  unfolding byKind
+  fields-form (Known.rack e) = of-length {n = 2} (simp e) (rack-form e)
+  fields-form (Known.drop e) = of-length {n = 3} (simp e) (drop-form e)
+  fields-form (Known.xfer e) = of-length {n = 4} (simp e) (xfer-form e)
+  fields-form (Known.carrier-in e) = of-length {n = 5} (simp e) (work-form (omega arith) (omega arith))
+  fields-form (Known.carrier-out e) = of-length {n = 5} (simp e) (work-form (omega arith) (omega arith))
+  fields-form (Known.miss e) = of-length {n = 5} (simp e) (work-form (omega arith) (omega arith))
+  fields-form (Known.tuck e) = of-length {n = 5} (simp e) (work-form (omega arith) (omega arith))
+  fields-form (Known.knit e) = of-length {n = 5} (simp e) (work-form (omega arith) (omega arith))
+  fields-form (Known.split e) = of-length {n = 6} (simp e) (split-form e)
 
 refused-number : (n : ℕ) → refusedAs (suc n) .number ≡ 0 → ⊥
 unfolding refusedAs
 refused-number n e = omega arith
 
 -- what was decoded: its length and its form
-read-done : {l : List ℕ} {d : Decoded} → Reads l d → d .number ≡ 0 → (0 < d .size) × (d .size ≤ length l) × Encodes (take (d .size) l) (d .what)
-unfolding refusedAs
-read-done (Reads.none a) e = absurd (omega arith)
-read-done (Reads.strange a b) e = absurd (omega arith)
-read-done (Reads.short f a b) e = absurd (omega arith)
-read-done (Reads.outside f a b) e = absurd (omega arith)
-read-done {l} (Reads.done {size = size} {x = x} f a b) e =
-    (fields-positive f, a, subst (λ (t : List ℕ). Encodes t x) (sym (front size 0 l (omega arith))) (fields-form f b))
+pub record Decodes (l : List ℕ) (d : Decoded) : Type 0 where
+  pub some : 0 < d .size
+  pub long : d .size ≤ length l
+  pub kind : d .size ≡ sizeOf (byte l 0)
+  pub known : Known (byte l 0)
+  pub what : d .what ≡ recordAt l
+  pub form : Encodes (take (d .size) l) (d .what)
 
-pub decode-size : (l : List ℕ) → decodeOf l .number ≡ 0 → (0 < decodeOf l .size) × (decodeOf l .size ≤ length l)
-decode-size l e = let (a, b, c) = read-done (reads l) e in (a, b)
+read-done : {l : List ℕ} {d : Decoded} → Reads l d → d .number ≡ 0 → Decodes l d
+read-done (Reads.none a) e = absurd (refused-number 3 e)
+read-done (Reads.strange a b) e = absurd (refused-number 2 e)
+read-done (Reads.short f a b) e = absurd (refused-number 3 e)
+read-done (Reads.outside f a b) e = absurd (refused-number 4 e)
+read-done {l} (Reads.done f a b) e =
+    let k = sized-known (byte l 0) f in
+    record {
+      some = omega (arith, known-size k);
+      long = a;
+      kind = refl;
+      known = k;
+      what = refl;
+      form = subst (λ (t : List ℕ). Encodes t (recordAt l)) (sym (front (sizeOf (byte l 0)) 0 l (omega arith))) (fields-form l b k);
+    }
 
--- the length decoded is the kind's
-pub decode-kind : (l : List ℕ) → decodeOf l .number ≡ 0 → decodeOf l .size ≡ sizeOf (byte l 0)
-decode-kind l = read-kind (reads l)
-  where
-    read-kind : {d : Decoded} → Reads l d → d .number ≡ 0 → d .size ≡ sizeOf (byte l 0)
-    read-kind (Reads.none a) e = absurd (refused-number 3 e)
-    read-kind (Reads.strange a b) e = absurd (refused-number 2 e)
-    read-kind (Reads.short f a b) e = absurd (refused-number 3 e)
-    read-kind (Reads.outside f a b) e = absurd (refused-number 4 e)
-    read-kind (Reads.done f a b) e = sym (fields-size f)
+module _ (l : List ℕ) (e : decodeOf l .number ≡ 0) where
+  pub decodes : Decodes l (decodeOf l)
+  decodes = read-done (reads l) e
 
-pub decode-form : (l : List ℕ) → decodeOf l .number ≡ 0 → Encodes (take (decodeOf l .size) l) (decodeOf l .what)
-decode-form l e = let (a, b, c) = read-done (reads l) e in c
+  pub decode-size : (0 < decodeOf l .size) × (decodeOf l .size ≤ length l)
+  decode-size = (decodes .some, decodes .long)
+
+  -- the length decoded is the kind's
+  pub decode-kind : decodeOf l .size ≡ sizeOf (byte l 0)
+  decode-kind = decodes .kind
+
+  pub decode-form : Encodes (take (decodeOf l .size) l) (decodeOf l .what)
+  decode-form = decodes .form
 
 -- ---- its fields are in range
-work-needles : (k : ℕ) → 4 ≤ k → k ≤ 8 → needleCount k ≡ 2 → ⊥
-unfolding needleCount
-work-needles k a b =
-    simp (lt-leb k 1 (omega arith), ne-eqb k 2 (λ q. omega arith), ne-eqb k 3 (λ q. omega arith), le-leb k 8 b)
-    (cond-cases (λ (n : ℕ). n ≡ 2 → ⊥) (leb k 6) (λ t e. omega arith) (λ t e. omega arith))
+work-needles : (k : ℕ) → IN ≤ k → k ≤ KNIT → hooksWorked k ≡ 2 → ⊥
+unfolding byKind
+work-needles = in-work (λ (k : ℕ). hooksWorked k ≡ 2 → ⊥) (λ e. omega arith) (λ e. omega arith) (λ e. omega arith) (λ e. omega arith) (λ e. omega arith)
 
-no-needle : OnBed (needle 0 0)
+no-needle : OnBed noNeedle
 no-needle = on-bed 0 0 (omega arith) (omega arith)
 
-in-range : {x : Record} → 1 ≤ x .kind → x .kind ≤ 9 → OnBed (x .at) → OnBed (x .to) → (4 ≤ x .kind → 1 ≤ x .carrier) → x .carrier ≤ 10
-    → (needleCount (x .kind) ≡ 2 → hookOf (x .at) ≡ hookOf (x .to) → ⊥) → InRange x
-in-range a b c d e f g = record { low = a; high = b; at-bed = c; to-bed = d; carrier-low = e; carrier-high = f; beds-differ = g }
+in-range : {x : Record} → Known (x .kind) → OnBed (x .at) → OnBed (x .to) → (1 ≤ carriersNamed (x .kind) → 1 ≤ x .carrier) → x .carrier ≤ carrierCount
+    → (hooksWorked (x .kind) ≡ 2 → hookOf (x .at) ≡ hookOf (x .to) → ⊥) → InRange x
+in-range a c d e f g = record { known = a; at-bed = c; to-bed = d; carrier-low = e; carrier-high = f; beds-differ = g }
 
 pub form-in : {bytes : List ℕ} {x : Record} → Encodes bytes x → InRange x
-unfolding needleCount
-form-in (Encodes.rack h) = in-range (omega arith) (omega arith) no-needle no-needle (λ q. omega arith) (omega arith) (λ p q. omega arith)
-form-in (Encodes.drop {bed = bed} {n = n} h i) = in-range (omega arith) (omega arith) (on-bed bed n h i) no-needle (λ q. omega arith) (omega arith) (λ p q. omega arith)
+unfolding byKind
+form-in (Encodes.rack h) = in-range (Known.rack refl) no-needle no-needle (λ q. omega arith) (omega arith) (λ p q. omega arith)
+form-in (Encodes.drop {bed = bed} {n = n} h i) = in-range (Known.drop refl) (on-bed bed n h i) no-needle (λ q. omega arith) (omega arith) (λ p q. omega arith)
 form-in (Encodes.xfer {bed = bed} {n = n} {m = m} h i j) =
-    in-range (omega arith) (omega arith) (on-bed bed n h i) (on-bed (1 - bed) m (omega arith) j) (λ q. omega arith) (omega arith) (λ p q. omega arith)
-form-in (Encodes.work {kind = kind} {bed = bed} {n = n} a b c d e f g) = in-range (omega arith) (omega arith) (on-bed bed n d e) no-needle (λ q. f) g (λ p q. work-needles kind a b p)
-form-in (Encodes.split {bed = bed} {n = n} {m = m} c d e f g h) = in-range (omega arith) (omega arith) (on-bed bed n d e) (on-bed (1 - bed) m (omega arith) h) (λ q. f) g (λ p q. omega arith)
+    in-range (Known.xfer refl) (on-bed bed n h i) (on-bed (1 - bed) m (omega arith) j) (λ q. omega arith) (omega arith) (λ p q. omega arith)
+form-in (Encodes.work {kind = kind} {bed = bed} {n = n} a b c d e f g) =
+    in-range (in-work Known (Known.carrier-in refl) (Known.carrier-out refl) (Known.miss refl) (Known.tuck refl) (Known.knit refl) kind a b) (on-bed bed n d e) no-needle (λ q. f) g
+    (λ p q. work-needles kind a b p)
+form-in (Encodes.split {bed = bed} {n = n} {m = m} c d e f g h) = in-range (Known.split refl) (on-bed bed n d e) (on-bed (1 - bed) m (omega arith) h) (λ q. f) g (λ p q. omega arith)
 
 pub decode-in : (l : List ℕ) → decodeOf l .number ≡ 0 → InRange (decodeOf l .what)
 decode-in l e = form-in (decode-form l e)
+
+-- what was read is as long as it must be, its fields are in range, and it is the record
+pub read-was : (l : List ℕ) (size : ℕ) (ok : Bool) (x : Record) {d : Decoded} → d ≡ readAs l size ok x → d .number ≡ 0 → (size ≤ length l) × (ok ≡ true) × (d .what ≡ x)
+read-was l size ok x {d} e z =
+    cases (ltb (length l) size) (λ t. absurd (refused-number 3 (of (e ∙ read-cut l size ok x (ltb-true (length l) size t)))))
+    (λ t. let h = ltb-false (length l) size t in cases ok
+    (λ a. (h, a, ap (λ (d : Decoded). d .what) (e ∙ read-inside l size ok x h a)))
+    (λ a. absurd (refused-number 4 (of (e ∙ read-outside l size ok x h a)))))
+  where
+    of : {r : Decoded} → d ≡ r → r .number ≡ 0
+    of q = sym (ap (λ (d : Decoded). d .number) q) ∙ z
+
+-- ---- a second needle: refused so far, or read and its number in range or not
+module _ (l : List ℕ) (size m : ℕ) (ok : Bool) (kind k : ℕ) (right : Bool) (bed n : ℕ) where
+  pub across-read : acrossOf (readAs l size ok (recordOf kind (pos 0) right (needle bed n) k noNeedle)) m
+      ≡ readAs l size (ok && numberOk m) (recordOf kind (pos 0) right (needle bed n) k (needle (1 - bed) m))
+  unfolding acrossOf readAs refusedAs
+  across-read =
+      cases (ltb (length l) size) (λ t. simp t)
+      (λ t. simp t (cases ok (λ a. simp a) (λ a. simp a)))

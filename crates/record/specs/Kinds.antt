@@ -1,4 +1,4 @@
--- The kinds of records (document 01, 'Records'), by name, and what a kind fixes, a row for each.
+-- The kinds of records (document 01, 'Records'), by name, and what each kind fixes.
 use Prim.Native.Nat.{ℕ}
 use mathlib.Core.Bool.{Bool, cond}
 use lib.Dec.{eqb}
@@ -30,46 +30,35 @@ KNIT = 8
 abbrev pub SPLIT : ℕ
 SPLIT = 9
 
--- what a kind fixes
-pub record Shape : Type 0 where
-  -- the length in bytes: 'one byte of kind, then a body whose length the kind fixes'
-  pub size : ℕ
-  -- hooks worked: none by rack, nor by in, out and miss, which 'pass by the hook'; else the first needle's, or both needles'
-  pub hooks : ℕ
-  -- carriers named
-  pub carriers : ℕ
-  -- loops formed on the first needle
-  pub forms : ℕ
+-- the value of a kind, of nine, one for each; 0 for an unknown kind
+unfoldable pub byKind : ℕ → ℕ → ℕ → ℕ → ℕ → ℕ → ℕ → ℕ → ℕ → ℕ → ℕ
+byKind rack drop xfer enter leave miss tuck knit split k =
+    cond (eqb k RACK) rack
+    (cond (eqb k DROP) drop
+    (cond (eqb k XFER) xfer
+    (cond (eqb k IN) enter
+    (cond (eqb k OUT) leave
+    (cond (eqb k MISS) miss
+    (cond (eqb k TUCK) tuck
+    (cond (eqb k KNIT) knit
+    (cond (eqb k SPLIT) split 0))))))))
 
-abbrev row : ℕ → ℕ → ℕ → ℕ → Shape
-row size hooks carriers forms = record { size = size; hooks = hooks; carriers = carriers; forms = forms }
-
--- size, hooks, carriers, loops; all 0 for an unknown kind
-unfoldable pub shapeOf : ℕ → Shape
-shapeOf k =
-    cond (eqb k RACK) (row 2 0 0 0)
-    (cond (eqb k DROP) (row 3 1 0 0)
-    (cond (eqb k XFER) (row 4 2 0 0)
-    (cond (eqb k IN) (row 5 0 1 0)
-    (cond (eqb k OUT) (row 5 0 1 0)
-    (cond (eqb k MISS) (row 5 0 1 0)
-    (cond (eqb k TUCK) (row 5 1 1 1)
-    (cond (eqb k KNIT) (row 5 1 1 1)
-    (cond (eqb k SPLIT) (row 6 2 1 1)
-    (row 0 0 0 0)))))))))
-
+-- the length in bytes: 'one byte of kind, then a body whose length the kind fixes'
 abbrev pub sizeOf : ℕ → ℕ
-sizeOf k = shapeOf k .size
+sizeOf = byKind 2 3 4 5 5 5 5 5 6
 
+-- hooks worked: none by rack, nor by in, out and miss, which 'pass by the hook'; the first needle's, or both needles'
 abbrev pub hooksWorked : ℕ → ℕ
-hooksWorked k = shapeOf k .hooks
+hooksWorked = byKind 0 1 2 0 0 0 1 1 2
 
+-- carriers named
 abbrev pub carriersNamed : ℕ → ℕ
-carriersNamed k = shapeOf k .carriers
+carriersNamed = byKind 0 0 0 1 1 1 1 1 1
 
+-- loops formed, on the first needle
 abbrev pub loopsFormed : ℕ → ℕ
-loopsFormed k = shapeOf k .forms
+loopsFormed = byKind 0 0 0 0 0 0 1 1 1
 
--- the loops and attachments at the first needle go to the second
+-- with two hooks, the loops and attachments at the first needle go to the second
 abbrev pub moves : ℕ → Bool
 moves k = eqb (hooksWorked k) 2

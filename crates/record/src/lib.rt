@@ -1,12 +1,17 @@
 // The byte format: the kinds and lengths of records, their fields, and a record decoded.
 ghost use mathlib.Core.Path.{_≡_};
 ghost use Prim.Native.Nat.{_≤_, _<_};
+ghost use lib.Dec.{eqb};
 ghost use lib.ListN.{length, getD};
-ghost use Rattle.record.specs.Format.{sizeOf, signedOf, needleOk, workOk, refusedAs, whole, rackAt, dropAt, xferAt, workAt, splitAt, readAt, decodeOf};
-ghost use Rattle.record.specs.Names.{outlineAt, outlineOf};
+ghost use Rattle.record.specs.Kinds.{RACK, sizeOf};
+ghost use Rattle.record.specs.Format.{signedOf, rackOk, needleOk, workOk, needle, noNeedle, rackRecord, bareRecord, workRecord, byte, carried, refusedAs, readAs, decodeOf, acrossOf};
+ghost use Rattle.record.specs.Names.{outlineOf};
 use machine::Needle;
 use machine::Racking;
 use machine::State;
+use machine::numbers::CUT_SHORT;
+use machine::numbers::FIELD_RANGE;
+use machine::numbers::UNKNOWN_KIND;
 
 // A record by its fields; 0 where its kind has no such field.
 pub struct Record {
@@ -26,23 +31,35 @@ pub struct Decoded {
     pub what: Record,
 }
 
-// The numbers of refusals.
-pub const UNKNOWN_KIND: u8 = 3;
+// The kinds: rack, drop, xfer; in, out, miss, tuck and knit, which have fields of one form; split.
+pub const RACK: u8 = 1;
 
-pub const CUT_SHORT: u8 = 4;
+pub const DROP: u8 = 2;
 
-pub const FIELD_RANGE: u8 = 5;
+pub const XFER: u8 = 3;
+
+pub const IN: u8 = 4;
+
+pub const OUT: u8 = 5;
+
+pub const MISS: u8 = 6;
+
+pub const TUCK: u8 = 7;
+
+pub const KNIT: u8 = 8;
+
+pub const SPLIT: u8 = 9;
 
 // The whole length of a record of this kind, 0 for an unknown kind.
 pub fn size_of(kind: u8) -> usize
     ensures { λ n. ⌜ n ≡ sizeOf kind ⌝ }
 {
     match kind {
-        1 => 2,
-        2 => 3,
-        3 => 4,
-        4..=8 => 5,
-        9 => 6,
+        RACK => 2,
+        DROP => 3,
+        XFER => 4,
+        IN..=KNIT => 5,
+        SPLIT => 6,
         _ => 0,
     }
 }
@@ -66,19 +83,25 @@ fn byte(l: &[u8], i: usize) -> u8
     l[i]
 }
 
+// A record of this kind with 0 in every other field: the one way in which a record is made.
+fn blank(kind: u8) -> Record
+    ensures { λ x. ⌜ x ≡ bareRecord kind noNeedle ⌝ }
+{
+    Record {
+        kind,
+        racking: Racking(0),
+        right: false,
+        at: Needle(0, 0),
+        carrier: 0,
+        to: Needle(0, 0),
+    }
+}
+
 // A refusal: length 0, and 0 in every field of the record.
 fn refused(number: u8) -> Decoded
     ensures { λ d. ⌜ d ≡ refusedAs number ⌝ }
 {
-    let none = Needle(0, 0);
-    let what = Record {
-        kind: 0,
-        racking: Racking(0),
-        right: false,
-        at: none,
-        carrier: 0,
-        to: none,
-    };
+    let what = blank(0);
     Decoded {
         number,
         size: 0,
@@ -88,9 +111,9 @@ fn refused(number: u8) -> Decoded
 
 // Rack: the new racking.
 fn rack(l: &[u8]) -> Decoded
-    ensures { λ d. ⌜ d ≡ whole (now (l .entry)) 2 (rackAt (now (l .entry))) ⌝ }
+    ensures { λ d. ⌜ d ≡ readAs (now (l .entry)) (sizeOf RACK) (rackOk (byte (now (l .entry)) 1)) (rackRecord (signedOf (byte (now (l .entry)) 1))) ⌝ }
 {
-    let size = size_of(1);
+    let size = size_of(RACK);
     if l.len() < size {
         return refused(CUT_SHORT);
     }
@@ -98,15 +121,8 @@ fn rack(l: &[u8]) -> Decoded
     if !racking.in_range() {
         return refused(FIELD_RANGE);
     }
-    let none = Needle(0, 0);
-    let what = Record {
-        kind: 1,
-        racking,
-        right: false,
-        at: none,
-        carrier: 0,
-        to: none,
-    };
+    let mut what = blank(RACK);
+    what.racking = racking;
     Decoded {
         number: 0,
         size,
@@ -138,11 +154,12 @@ fn work_ok(right: u8, bed: u8, n: u8, k: u8) -> bool
     right <= 1
 }
 
-// Drop: bed, needle.
-fn drop(l: &[u8]) -> Decoded
-    ensures { λ d. ⌜ d ≡ whole (now (l .entry)) 3 (dropAt (now (l .entry))) ⌝ }
+// A record without a carrier: bed, needle. All that a drop has; an xfer has a needle more.
+fn bare(kind: u8, l: &[u8]) -> Decoded
+    requires { ⌜ 3 ≤ sizeOf kind ⌝ }
+    ensures { λ d. ⌜ d ≡ readAs (now (l .entry)) (sizeOf kind) (needleOk (byte (now (l .entry)) 1) (byte (now (l .entry)) 2)) (bareRecord kind (needle (byte (now (l .entry)) 1) (byte (now (l .entry)) 2))) ⌝ }
 {
-    let size = size_of(2);
+    let size = size_of(kind);
     if l.len() < size {
         return refused(CUT_SHORT);
     }
@@ -151,15 +168,9 @@ fn drop(l: &[u8]) -> Decoded
     if !needle_ok(bed, n) {
         return refused(FIELD_RANGE);
     }
+    let mut what = blank(kind);
     let at = Needle(bed as u16, n as u16);
-    let what = Record {
-        kind: 2,
-        racking: Racking(0),
-        right: false,
-        at,
-        carrier: 0,
-        to: Needle(0, 0),
-    };
+    what.at = at;
     Decoded {
         number: 0,
         size,
@@ -167,44 +178,11 @@ fn drop(l: &[u8]) -> Decoded
     }
 }
 
-// Xfer: bed, needle, needle on the other bed.
-fn xfer(l: &[u8]) -> Decoded
-    ensures { λ d. ⌜ d ≡ whole (now (l .entry)) 4 (xferAt (now (l .entry))) ⌝ }
-{
-    let size = size_of(3);
-    if l.len() < size {
-        return refused(CUT_SHORT);
-    }
-    let bed = byte(l, 1);
-    let n = byte(l, 2);
-    let m = byte(l, 3);
-    if !needle_ok(bed, n) {
-        return refused(FIELD_RANGE);
-    }
-    if State::NEEDLE_MOST < m {
-        return refused(FIELD_RANGE);
-    }
-    let at = Needle(bed as u16, n as u16);
-    let to = Needle((1 - bed) as u16, m as u16);
-    let what = Record {
-        kind: 3,
-        racking: Racking(0),
-        right: false,
-        at,
-        carrier: 0,
-        to,
-    };
-    Decoded {
-        number: 0,
-        size,
-        what,
-    }
-}
-
-// In, out, miss, tuck and knit: direction, bed, needle, carrier.
+// A record with a carrier: direction, bed, needle, carrier. All that in, out, miss, tuck and knit have; a split has a
+// needle more.
 fn work(kind: u8, l: &[u8]) -> Decoded
-    requires { ⌜ (4 ≤ kind) × (kind ≤ 8) ⌝ }
-    ensures { λ d. ⌜ d ≡ whole (now (l .entry)) 5 (workAt kind (now (l .entry))) ⌝ }
+    requires { ⌜ 5 ≤ sizeOf kind ⌝ }
+    ensures { λ d. ⌜ d ≡ readAs (now (l .entry)) (sizeOf kind) (carried (now (l .entry))) (workRecord kind (eqb (byte (now (l .entry)) 1) 1) (needle (byte (now (l .entry)) 2) (byte (now (l .entry)) 3)) (byte (now (l .entry)) 4)) ⌝ }
 {
     let size = size_of(kind);
     if l.len() < size {
@@ -217,15 +195,11 @@ fn work(kind: u8, l: &[u8]) -> Decoded
     if !work_ok(right, bed, n, k) {
         return refused(FIELD_RANGE);
     }
+    let mut what = blank(kind);
+    what.right = right != 0;
     let at = Needle(bed as u16, n as u16);
-    let what = Record {
-        kind,
-        racking: Racking(0),
-        right: right != 0,
-        at,
-        carrier: k,
-        to: Needle(0, 0),
-    };
+    what.at = at;
+    what.carrier = k;
     Decoded {
         number: 0,
         size,
@@ -233,38 +207,25 @@ fn work(kind: u8, l: &[u8]) -> Decoded
     }
 }
 
-// Split: direction, bed, needle, carrier, needle on the other bed.
-fn split(l: &[u8]) -> Decoded
-    ensures { λ d. ⌜ d ≡ whole (now (l .entry)) 6 (splitAt (now (l .entry))) ⌝ }
+// What was read so far, with the needle on the other bed, whose number is the byte at i.
+fn across(d: Decoded, l: &[u8], i: usize) -> Decoded
+    requires { ⌜ (d .number ≡ 0 → (i < length (now l)) × (d .what .at .0 ≤ 1)) ⌝ }
+    ensures { λ r. ⌜ r ≡ acrossOf d (byte (now (l .entry)) i) ⌝ }
 {
-    let size = size_of(9);
-    if l.len() < size {
-        return refused(CUT_SHORT);
+    if d.number != 0 {
+        return d;
     }
-    let right = byte(l, 1);
-    let bed = byte(l, 2);
-    let n = byte(l, 3);
-    let k = byte(l, 4);
-    let m = byte(l, 5);
-    if !work_ok(right, bed, n, k) {
-        return refused(FIELD_RANGE);
-    }
+    let m = byte(l, i);
     if State::NEEDLE_MOST < m {
         return refused(FIELD_RANGE);
     }
-    let at = Needle(bed as u16, n as u16);
-    let to = Needle((1 - bed) as u16, m as u16);
-    let what = Record {
-        kind: 9,
-        racking: Racking(0),
-        right: right != 0,
-        at,
-        carrier: k,
-        to,
-    };
+    let mut what = d.what;
+    let at = what.at;
+    let to = Needle(1 - at.0, m as u16);
+    what.to = to;
     Decoded {
         number: 0,
-        size,
+        size: d.size,
         what,
     }
 }
@@ -278,27 +239,12 @@ pub fn decode(l: &[u8]) -> Decoded
     }
     let kind = byte(l, 0);
     match kind {
-        1 => rack(l),
-        2 => drop(l),
-        3 => xfer(l),
-        // in, out, miss, tuck, knit
-        4..=8 => work(kind, l),
-        9 => split(l),
+        RACK => rack(l),
+        DROP => bare(DROP, l),
+        XFER => across(bare(XFER, l), l, 3),
+        IN..=KNIT => work(kind, l),
+        SPLIT => across(work(SPLIT, l), l, 5),
         _ => refused(UNKNOWN_KIND),
-    }
-}
-
-// A record by its kind, first needle and carrier; the other fields are 0.
-fn outlined(kind: u8, at: Needle, carrier: u8) -> Record
-    ensures { λ x. ⌜ x ≡ outlineAt kind at carrier ⌝ }
-{
-    Record {
-        kind,
-        racking: Racking(0),
-        right: false,
-        at,
-        carrier,
-        to: Needle(0, 0),
     }
 }
 
@@ -308,16 +254,22 @@ pub fn outline(l: &[u8]) -> Record
     ensures { λ x. ⌜ x ≡ outlineOf (decodeOf (now (l .entry)) .what) ⌝ }
 {
     let kind = byte(l, 0);
-    if kind == 1 {
-        return outlined(kind, Needle(0, 0), 0);
+    let mut x = blank(kind);
+    match kind {
+        RACK => {}
+        DROP..=XFER => {
+            let bed = byte(l, 1);
+            let n = byte(l, 2);
+            let at = Needle(bed as u16, n as u16);
+            x.at = at;
+        }
+        _ => {
+            let bed = byte(l, 2);
+            let n = byte(l, 3);
+            let at = Needle(bed as u16, n as u16);
+            x.at = at;
+            x.carrier = byte(l, 4);
+        }
     }
-    if kind <= 3 {
-        let bed = byte(l, 1);
-        let n = byte(l, 2);
-        return outlined(kind, Needle(bed as u16, n as u16), 0);
-    }
-    let bed = byte(l, 2);
-    let n = byte(l, 3);
-    let k = byte(l, 4);
-    outlined(kind, Needle(bed as u16, n as u16), k)
+    x
 }

@@ -2,39 +2,39 @@
 use native.Mathlib.Omega.{arith}
 use mathlib.Core.Path.{_≡_, sym}
 use borrow.Author.Tests.{ne-eqb, le-leb, lt-leb}
-use Rattle.record.specs.Format.{sizeOf}
-use Rattle.record.proofs.Ranges.{four, work-size}
+use Rattle.record.specs.Kinds.{byKind}
+use Rattle.record.proofs.Shapes.{above-bare, work-size, no-size}
 use Rattle.record.proofs.size_of.Statement.{statement}
 use Rattle.record.proofs.size_of.Tie as tie
 
 returns : tie.Need-returns
-unfolding sizeOf
+unfolding byKind
 returns c = simp (c .match .keys1)
 
 returns-2 : tie.Need-returns-2
-unfolding sizeOf
+unfolding byKind
 returns-2 c = simp (c .match .keys2)
 
 returns-3 : tie.Need-returns-3
-unfolding sizeOf
+unfolding byKind
 returns-3 c = simp (c .match .keys3)
 
 returns-4 : tie.Need-returns-4
-unfolding sizeOf
+unfolding byKind
 returns-4 c = simp (c .match .keys4)
 
 returns-5 : tie.Need-returns-5
 returns-5 c = let k = c .before .before .before .args .kind in let no = c .before .before .match .rest in
-    sym (work-size k (four k (c .before .if1 .left) (no .0 .0 .0 .1) (no .0 .0 .1) (no .0 .1)) (omega (arith, c .if2 .taken)))
+    sym (work-size k (above-bare k (c .before .if1 .left) (no .0 .0 .0 .1) (no .0 .0 .1) (no .0 .1)) (omega (arith, c .if2 .taken)))
 
 returns-6 : tie.Need-returns-6
-unfolding sizeOf
+unfolding byKind
 returns-6 c = let h : c .before .before .args .kind ≡ 0 = omega (arith, c .if1 .taken) in simp h
 
 returns-7 : tie.Need-returns-7
-unfolding sizeOf
+unfolding byKind
 returns-7 c = let k = c .before .before .before .args .kind in let no = c .before .before .match .rest in
-    simp (ne-eqb k 1 (no .0 .0 .0 .1), ne-eqb k 2 (no .0 .0 .1), ne-eqb k 3 (no .0 .1), ne-eqb k 9 (no .1), lt-leb k 8 (omega arith), le-leb 4 k (omega arith))
+    sym (no-size k (no .0 .0 .0 .1) (no .0 .0 .1) (no .0 .1) (no .1) (λ h. omega arith))
 
 pub size-of-spec : {M : Type 1} → statement M
 size-of-spec =
