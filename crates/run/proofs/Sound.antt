@@ -1,7 +1,7 @@
 -- The step as code makes it against the relation: 0 exactly where the relation has a step, else the number of a reason that holds. Assumes nothing.
 use borrow.Table.Steps.{cases}
 use Prim.Native.Nat.{ℕ, _+_, _≤_, _<_}
-use mathlib.Core.Path.{_≡_, _∙_}
+use mathlib.Core.Path.{_≡_, refl, _∙_}
 use mathlib.Core.Bool.{cond}
 use native.Mathlib.Omega.{arith}
 use lib.Dec.{eqb, leb}
@@ -22,6 +22,7 @@ use Rattle.run.proofs.ByKind.{seen, readyNo, rack-number, rack-state, d
 use Rattle.run.proofs.ByKind.{miss-number, miss-state, tuck-number, tuck-state, knit-number, knit-state, split-number, split-state, split-said}
 use Rattle.run.proofs.Premises.{is, up, or-next, or-first, parked-zero, parked-off, parked-elsewhere, parked-cases, in-zero, in-six}
 use Rattle.run.proofs.Premises.{float-zero, float-over, float-cases, tuck-zero, tuck-full, carrier, sum, moveNo, opposite-cases, move-zero, move-full, move-apart}
+use Rattle.run.proofs.Refusals.{record-other}
 
 -- ---- a step of the relation is the code's
 module _ (s : State) (x : Record) where
@@ -52,19 +53,11 @@ data Judged (s : State) (x : Record) (P : Type 0) (n : ℕ) : Type 0 where
   fine : n ≡ 0 → P → Judged s x P n
   refused : RecordReason n s x → Judged s x P n
 
-pub reason-above : {n : ℕ} {s : State} {x : Record} → RecordReason n s x → 6 ≤ n
-reason-above (RecordReason.already-in e a) = omega arith
-reason-above (RecordReason.not-in e a) = omega arith
-reason-above (RecordReason.wrong-slot e a) = omega arith
-reason-above (RecordReason.float-too-long e a) = omega arith
-reason-above (RecordReason.not-opposite e a) = omega arith
-reason-above (RecordReason.hook-full e a) = omega arith
-
 module _ {s : State} {x : Record} where
   both : {P Q : Type 0} {a b : ℕ} → Judged s x P a → Judged s x Q b → Judged s x (P × Q) (orNumber a b)
   both {a = a} {b = b} (Judged.fine e p) (Judged.fine d q) = Judged.fine (or-next a b e ∙ d) (p, q)
   both {a = a} {b = b} (Judged.fine e p) (Judged.refused q) = Judged.refused (rw (or-next a b e) q)
-  both {a = a} {b = b} (Judged.refused p) q = Judged.refused (rw (or-first a b (λ e. omega (arith, reason-above p))) p)
+  both {a = a} {b = b} (Judged.refused p) q = Judged.refused (rw (or-first a b (record-other p 0 refl)) p)
 
   -- a number that is the same, and the step of its premises
   stepped : {P : Type 0} {n m : ℕ} {t u : State} → m ≡ n → u ≡ t → (P → Step s x t) → Judged s x P n → Judged s x (Step s x u) m
@@ -130,7 +123,7 @@ module _ (s : State) (x : Record) where
     where
       go : Judged s x (Step s x (applyOf s x)) (numberAt s x) → Step s x (applyOf s x)
       go (Judged.fine e p) = p
-      go (Judged.refused r) = absurd (omega (arith, reason-above r))
+      go (Judged.refused r) = absurd (record-other r 0 refl z)
 
   pub number-reason : InRange x → (numberAt s x ≡ 0 → ⊥) → RecordReason (numberAt s x) s x
   number-reason f h = go (judged f)
