@@ -8,6 +8,7 @@ use lib.ListN.{set}
 use lib.Seq.{set-set, set-comm}
 use lib.Dec.{eqb}
 use borrow.Author.Tests.{eqb-true}
+use Rattle.machine.specs.declared.Slot.{Slot}
 use Rattle.machine.specs.declared.State.{State}
 use Rattle.machine.specs.Machine.{inactive, hookOf, loopsOn, carrierOf, movedTo}
 use Rattle.machine.specs.Geometry.{columnOf, sameColumn}
@@ -31,9 +32,13 @@ module _ (s : State) (x : Record) where
   abbrev pub seen : Look
   seen = lookOf (s .racking) (carrierOf s (x .carrier))
 
+  -- 7 and 8 for a slot
+  abbrev pub slotNo : Slot → ℕ
+  slotNo z = parkedNo (seen .active) (seen .slot) z
+
   -- 7 to 9 for tuck, knit and split
   abbrev pub readyNo : ℕ
-  readyNo = orNumber (parkedNo seen (entrySlot s x)) (floatNo seen (columnOf (x .at) (s .racking)))
+  readyNo = orNumber (slotNo (entrySlot s x)) (floatNo seen (columnOf (x .at) (s .racking)))
 
   pub rack-number : x .kind ≡ 1 → numberAt s x ≡ 0
   unfolding numberAt numberOf carrierNo oppositeNo needleCount roomNo firstAfter secondAfter seeOf
@@ -67,17 +72,17 @@ module _ (s : State) (x : Record) where
   unfolding applyOf rackingAfter edit needlesOf needleCount carriersOf carrierCount moveAttachments actOf acted
   in-state e = simp e
 
-  pub out-number : x .kind ≡ 5 → numberAt s x ≡ parkedNo seen (exitSlot s x)
+  pub out-number : x .kind ≡ 5 → numberAt s x ≡ slotNo (exitSlot s x)
   unfolding numberAt numberOf carrierNo oppositeNo needleCount roomNo firstAfter secondAfter seeOf
-  out-number e = simp e (or-zero (parkedNo seen (exitSlot s x)))
+  out-number e = simp e (or-zero (slotNo (exitSlot s x)))
 
   pub out-state : x .kind ≡ 5 → applyOf s x ≡ withCarrier s (x .carrier) inactive
   unfolding applyOf rackingAfter edit needlesOf needleCount carriersOf carrierCount moveAttachments actOf acted
   out-state e = simp e
 
-  pub miss-number : x .kind ≡ 6 → numberAt s x ≡ parkedNo seen (entrySlot s x)
+  pub miss-number : x .kind ≡ 6 → numberAt s x ≡ slotNo (entrySlot s x)
   unfolding numberAt numberOf carrierNo oppositeNo needleCount roomNo firstAfter secondAfter seeOf
-  miss-number e = simp e (or-zero (parkedNo seen (entrySlot s x)))
+  miss-number e = simp e (or-zero (slotNo (entrySlot s x)))
 
   pub miss-state : x .kind ≡ 6 → applyOf s x ≡ withCarrier s (x .carrier) (reparked (carrierOf s (x .carrier)) (exitSlot s x))
   unfolding applyOf rackingAfter edit needlesOf needleCount carriersOf carrierCount moveAttachments actOf acted

@@ -14,8 +14,8 @@ use Rattle.record.specs.declared.Record.{Record}
 use Rattle.record.proofs.Ranges.{InRange}
 use Rattle.run.specs.Relation.{entrySlot, exitSlot}
 use Rattle.run.specs.Reason.{NotOpposite, HookFull, RecordReason}
-use Rattle.run.specs.Step.{orNumber, parkedNo, floatNo, numberAt}
-use Rattle.run.proofs.ByKind.{or-zero, seen, readyNo, xfer-number, in-number, out-number, miss-number, tuck-number, knit-number, split-number}
+use Rattle.run.specs.Step.{orNumber, floatNo, numberAt}
+use Rattle.run.proofs.ByKind.{or-zero, seen, slotNo, readyNo, xfer-number, in-number, out-number, miss-number, tuck-number, knit-number, split-number}
 use Rattle.run.proofs.Premises.{is, up, or-next, or-first, parked-zero, parked-off, parked-elsewhere, parked-cases, in-six}
 use Rattle.run.proofs.Premises.{float-zero, float-over, float-cases, tuck-full, carrier, sum, moveNo, opposite-cases, move-full, move-apart}
 use Rattle.run.proofs.Refusals.{rank}
@@ -60,7 +60,7 @@ or-assoc a b n = cases (eqb a 0) (λ t. simp t) (λ t. simp t)
 module _ (s : State) (x : Record) where
   -- the two numbers of which readyNo is the first
   abbrev enterNo : ℕ
-  enterNo = parkedNo (seen s x) (entrySlot s x)
+  enterNo = slotNo s x (entrySlot s x)
 
   abbrev reachNo : ℕ
   reachNo = floatNo (seen s x) (columnOf (x .at) (s .racking))
@@ -97,15 +97,15 @@ module _ (s : State) (x : Record) (f : InRange x) where
       (λ h. up (x .kind) 8 h (λ e. (0, knit-number s x e ∙ sym (or-zero (readyNo s x))))
       (λ h. (_, split-number s x (omega (arith, f .high)))))
 
-  parked-first : 5 ≤ x .kind → (rest : ℕ) × (numberAt s x ≡ orNumber (parkedNo (seen s x) (slot s x)) rest)
+  parked-first : 5 ≤ x .kind → (rest : ℕ) × (numberAt s x ≡ orNumber (slotNo s x (slot s x)) rest)
   parked-first h =
-      up (x .kind) 5 h (λ e. (0, out-number s x e ∙ simp e (sym (or-zero (parkedNo (seen s x) (exitSlot s x))))))
-      (λ h. up (x .kind) 6 h (λ e. (0, miss-number s x e ∙ simp e (sym (or-zero (parkedNo (seen s x) (entrySlot s x))))))
+      up (x .kind) 5 h (λ e. (0, out-number s x e ∙ simp e (sym (or-zero (slotNo s x (exitSlot s x))))))
+      (λ h. up (x .kind) 6 h (λ e. (0, miss-number s x e ∙ simp e (sym (or-zero (slotNo s x (entrySlot s x))))))
       (λ h. let (rest, e) = ready-first h in
       (orNumber (reachNo s x) rest, e ∙ or-assoc (enterNo s x) (reachNo s x) rest ∙ simp (ne-eqb (x .kind) 5 (λ q. omega arith)))))
 
-  parked-early : 5 ≤ x .kind → (n : ℕ) → (n ≡ 0 → ⊥) → parkedNo (seen s x) (slot s x) ≡ n → NoLater n (numberAt s x)
-  parked-early h n d e = let (rest, q) = parked-first h in rw q (at-first n (parkedNo (seen s x) (slot s x)) rest (itself n _ d e))
+  parked-early : 5 ≤ x .kind → (n : ℕ) → (n ≡ 0 → ⊥) → slotNo s x (slot s x) ≡ n → NoLater n (numberAt s x)
+  parked-early h n d e = let (rest, q) = parked-first h in rw q (at-first n (slotNo s x (slot s x)) rest (itself n _ d e))
 
   float-early : 7 ≤ x .kind → reachNo s x ≡ 9 → NoLater 9 (numberAt s x)
   float-early h e =

@@ -45,13 +45,13 @@ column-same a b e = ap {B = Column} (λ (z : ℤ). record { 0 = z }) e
 
 -- what a carrier answers: 0 and its premise, or a number and why
 module _ (r : Racking) (c : Carrier) where
-  pub parked-zero : (z : Slot) → ParkedAt c z → parkedNo (lookOf r c) z ≡ 0
+  pub parked-zero : (z : Slot) → ParkedAt c z → parkedNo (lookOf r c .active) (lookOf r c .slot) z ≡ 0
   parked-zero z p = parked-is r c z ∙ simp (ne-eqb (c .active) 0 (p .active), eqZ-yes (c .slot .0) (z .0) (ap (λ (y : Slot). y .0) (p .here)))
 
-  pub parked-off : (z : Slot) → Inactive c → parkedNo (lookOf r c) z ≡ 7
+  pub parked-off : (z : Slot) → Inactive c → parkedNo (lookOf r c .active) (lookOf r c .slot) z ≡ 7
   parked-off z e = parked-is r c z ∙ simp (eq-eqb (c .active) 0 e)
 
-  pub parked-elsewhere : (z : Slot) → Active c → (c .slot ≡ z → ⊥) → parkedNo (lookOf r c) z ≡ 8
+  pub parked-elsewhere : (z : Slot) → Active c → (c .slot ≡ z → ⊥) → parkedNo (lookOf r c .active) (lookOf r c .slot) z ≡ 8
   parked-elsewhere z a h = parked-is r c z ∙ simp (ne-eqb (c .active) 0 a, eqZ-no (c .slot .0) (z .0) (λ e. h (slot-same (c .slot) z e)))
 
   pub parked-cases : (z : Slot) {G : Type 0} → (Inactive c → G) → (Active c → (c .slot ≡ z → ⊥) → G) → (ParkedAt c z → G) → G

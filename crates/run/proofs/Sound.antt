@@ -16,9 +16,9 @@ use Rattle.record.specs.Names.{needleCount}
 use Rattle.record.proofs.Ranges.{InRange}
 use Rattle.run.specs.Relation.{Inactive, ParkedAt, FloatInReach, Opposite, Room, Step, entrySlot, exitSlot}
 use Rattle.run.specs.Reason.{NotOpposite, HookFull, RecordReason}
-use Rattle.run.specs.Step.{orNumber, parkedNo, floatNo, numberAt, applyOf}
+use Rattle.run.specs.Step.{orNumber, floatNo, numberAt, applyOf}
 use Rattle.run.specs.Loops.{tuckNo}
-use Rattle.run.proofs.ByKind.{seen, readyNo, rack-number, rack-state, drop-number, drop-state, xfer-number, xfer-state, in-number, in-state, out-number, out-state}
+use Rattle.run.proofs.ByKind.{seen, slotNo, readyNo, rack-number, rack-state, drop-number, drop-state, xfer-number, xfer-state, in-number, in-state, out-number, out-state}
 use Rattle.run.proofs.ByKind.{miss-number, miss-state, tuck-number, tuck-state, knit-number, knit-state, split-number, split-state, split-said}
 use Rattle.run.proofs.Premises.{is, up, or-next, or-first, parked-zero, parked-off, parked-elsewhere, parked-cases, in-zero, in-six}
 use Rattle.run.proofs.Premises.{float-zero, float-over, float-cases, tuck-zero, tuck-full, carrier, sum, moveNo, opposite-cases, move-zero, move-full, move-apart}
@@ -26,7 +26,7 @@ use Rattle.run.proofs.Refusals.{record-other}
 
 -- ---- a step of the relation is the code's
 module _ (s : State) (x : Record) where
-  parked-here : (z : Slot) → ParkedAt (carrier s x) z → parkedNo (seen s x) z ≡ 0
+  parked-here : (z : Slot) → ParkedAt (carrier s x) z → slotNo s x z ≡ 0
   parked-here z p = parked-zero (s .racking) (carrier s x) z p
 
   ready-zero : ParkedAt (carrier s x) (entrySlot s x) → FloatInReach s x → readyNo s x ≡ 0
@@ -70,7 +70,7 @@ module _ (s : State) (x : Record) where
       is (carrier s x .active) 0 (λ c. Judged.fine (in-zero (s .racking) (carrier s x) c) c)
       (λ a. Judged.refused (RecordReason.already-in (in-six (s .racking) (carrier s x) a) (record { kind = e; active = a })))
 
-  parked-judged : (z : Slot) → 5 ≤ x .kind → cond (eqb (x .kind) 5) (exitSlot s x) (entrySlot s x) ≡ z → Judged s x (ParkedAt (carrier s x) z) (parkedNo (seen s x) z)
+  parked-judged : (z : Slot) → 5 ≤ x .kind → cond (eqb (x .kind) 5) (exitSlot s x) (entrySlot s x) ≡ z → Judged s x (ParkedAt (carrier s x) z) (slotNo s x z)
   parked-judged z k e =
       parked-cases (s .racking) (carrier s x) z
       (λ c. Judged.refused (RecordReason.not-in (parked-off (s .racking) (carrier s x) z c) (record { kind = k; carrier-off = c })))

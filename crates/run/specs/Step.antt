@@ -41,8 +41,8 @@ abbrev pub orNumber : ℕ → ℕ → ℕ
 orNumber a b = cond (eqb a 0) b a
 
 -- 7 and 8: parked at a slot
-unfoldable pub parkedNo : Look → Slot → ℕ
-parkedNo c z = cond (c .active) (cond (eqZ (c .slot .0) (z .0)) 0 8) 7
+unfoldable pub parkedNo : Bool → Slot → Slot → ℕ
+parkedNo active here z = cond active (cond (eqZ (here .0) (z .0)) 0 8) 7
 
 -- 9: a float to a column
 unfoldable pub floatNo : Look → Column → ℕ
@@ -53,9 +53,9 @@ abbrev pub askedNo : ℕ → Needle → Bool → Racking → Look → ℕ
 askedNo kind n right r c =
     cond (leb kind 3) 0
     (cond (eqb kind 4) (cond (c .active) 6 0)
-    (cond (eqb kind 5) (parkedNo c (exitOf (columnOf n r) right))
-    (cond (eqb kind 6) (parkedNo c (entryOf (columnOf n r) right))
-    (orNumber (parkedNo c (entryOf (columnOf n r) right)) (floatNo c (columnOf n r))))))
+    (cond (eqb kind 5) (parkedNo (c .active) (c .slot) (exitOf (columnOf n r) right))
+    (cond (eqb kind 6) (parkedNo (c .active) (c .slot) (entryOf (columnOf n r) right))
+    (orNumber (parkedNo (c .active) (c .slot) (entryOf (columnOf n r) right)) (floatNo c (columnOf n r))))))
 
 unfoldable pub carrierNo : Record → Racking → Look → ℕ
 carrierNo x r c = askedNo (x .kind) (x .at) (x .right) r c
