@@ -75,8 +75,8 @@ secondAfter kind here there = cond (eqb (needleCount kind) 2) (here + there) 0
 unfoldable pub roomNo : ℕ → ℕ → ℕ → ℕ
 roomNo kind here there = cond (leb (firstAfter kind here) 8) (cond (leb (secondAfter kind here there) 8) 0 11) 11
 
-unfoldable pub numberOf : Record → Seen → ℕ
-numberOf x s = orNumber (carrierNo x (s .racking) (s .look)) (orNumber (oppositeNo x (s .racking)) (roomNo (x .kind) (s .here) (s .there)))
+unfoldable pub decidedNo : Record → Seen → ℕ
+decidedNo x s = orNumber (carrierNo x (s .racking) (s .look)) (orNumber (oppositeNo x (s .racking)) (roomNo (x .kind) (s .here) (s .there)))
 
 -- ---- apply: edits at listed places
 module _ {A W : Type 0} (act : W → A → A) (d : A) where
@@ -118,7 +118,7 @@ rackingAfter x r = cond (leb (x .kind) 1) (x .racking) r
 
 -- ---- the step of a record: its number, and the state after it where that is 0
 unfoldable pub numberAt : State → Record → ℕ
-numberAt s x = numberOf x (seeOf s x)
+numberAt s x = decidedNo x (seeOf s x)
 
 unfoldable pub applyOf : State → Record → State
 applyOf s x =
