@@ -14,18 +14,18 @@ use Rattle.run.specs.Reason.{RecordReason, Reason, refusals, First}
 use Rattle.run.proofs.Premises.{is}
 
 -- how many stand before a number in a list; all, if it is not there
-abbrev pub place : ℕ → List ℕ → ℕ
-place n [] = 0
-place n (x ∷ l) = cond (eqb x n) 0 (suc (place n l))
+abbrev pub index : ℕ → List ℕ → ℕ
+index n [] = 0
+index n (x ∷ l) = cond (eqb x n) 0 (suc (index n l))
 
-here : (x n : ℕ) (l : List ℕ) → x ≡ n → place n (x ∷ l) ≡ 0
+here : (x n : ℕ) (l : List ℕ) → x ≡ n → index n (x ∷ l) ≡ 0
 here x n l e = simp (eq-eqb x n e)
 
-past : (x n : ℕ) (l : List ℕ) → (x ≡ n → ⊥) → place n (x ∷ l) ≡ suc (place n l)
+past : (x n : ℕ) (l : List ℕ) → (x ≡ n → ⊥) → index n (x ∷ l) ≡ suc (index n l)
 past x n l d = simp (ne-eqb x n d)
 
 abbrev pub rank : ℕ → ℕ
-rank n = place n refusals
+rank n = index n refusals
 
 -- ---- every reason's number stands in the list
 abbrev Stands : ℕ → Type 0
@@ -57,9 +57,12 @@ reason-other {n} r k = other n k (reason-stands r)
 
 -- ---- the first of a list that holds
 module _ (P : ℕ → Type 0) where
+  abbrev None : List ℕ → Type 0
+  None u = Each (λ (m : ℕ). P m → ⊥) u
+
   -- n, if what holds stands nowhere before it
-  found : (n : ℕ) (l : List ℕ) → place n l < length l → ((m : ℕ) → P m → place n l ≤ place m l)
-      → (u : List ℕ) × (v : List ℕ) × (l ≡ u ++ n ∷ v) × Each (λ (m : ℕ). P m → ⊥) u
+  found : (n : ℕ) (l : List ℕ) → index n l < length l → ((m : ℕ) → P m → index n l ≤ index m l)
+      → (u : List ℕ) × (v : List ℕ) × (l ≡ u ++ n ∷ v) × None u
   found n [] h f = absurd (omega arith)
   found n (x ∷ l) h f =
       is x n (λ e. ([], l, ap (λ (y : ℕ). y ∷ l) e, tt))
@@ -69,15 +72,15 @@ module _ (P : ℕ → Type 0) where
       not-here : (x ≡ n → ⊥) → (m : ℕ) → P m → x ≡ m → ⊥
       not-here d m p e = omega (arith, f m p, past x n l d, here x m l e)
 
-      further : (x ≡ n → ⊥) → (m : ℕ) → P m → place n l ≤ place m l
+      further : (x ≡ n → ⊥) → (m : ℕ) → P m → index n l ≤ index m l
       further d m p = omega (arith, f m p, past x n l d, past x m l (not-here d m p))
 
   -- there is one only
-  one : (l u v w z : List ℕ) (n m : ℕ) → l ≡ u ++ n ∷ v → l ≡ w ++ m ∷ z → P n → P m → Each (λ (k : ℕ). P k → ⊥) u → Each (λ (k : ℕ). P k → ⊥) w → n ≡ m
-  one l [] v [] z n m e f p q a b = head-eq-of-cons-eq (sym e ∙ f)
-  one l [] v (y ∷ w) z n m e f p q a b = absurd (b .0 (subst P (head-eq-of-cons-eq (sym e ∙ f)) p))
-  one l (x ∷ u) v [] z n m e f p q a b = absurd (a .0 (subst P (head-eq-of-cons-eq (sym f ∙ e)) q))
-  one l (x ∷ u) v (y ∷ w) z n m e f p q a b = one (u ++ n ∷ v) u v w z n m refl (tail-eq-of-cons-eq (sym e ∙ f)) p q (a .1) (b .1)
+  one : (u v w z : List ℕ) (n m : ℕ) → u ++ n ∷ v ≡ w ++ m ∷ z → P n → P m → None u → None w → n ≡ m
+  one [] v [] z n m e p q a b = head-eq-of-cons-eq e
+  one [] v (y ∷ w) z n m e p q a b = absurd (b .0 (subst P (head-eq-of-cons-eq e) p))
+  one (x ∷ u) v [] z n m e p q a b = absurd (a .0 (subst P (sym (head-eq-of-cons-eq e)) q))
+  one (x ∷ u) v (y ∷ w) z n m e p q a b = one u v w z n m (tail-eq-of-cons-eq e) p q (a .1) (b .1)
 
 -- the number of a reason is the first if no reason that holds stands before it
 pub first-of : {n : ℕ} {s : State} {l : List ℕ} → Reason n s l → ((m : ℕ) → Reason m s l → rank n ≤ rank m) → First n s l
@@ -87,4 +90,4 @@ first-of {n} {s} {l} r h =
 
 pub first-is-one : {n m : ℕ} {s : State} {l : List ℕ} → First n s l → First m s l → n ≡ m
 first-is-one {n} {m} {s} {l} a b =
-    one (λ k. Reason k s l) refusals (a .earlier) (a .later) (b .earlier) (b .later) n m (a .order) (b .order) (a .reason) (b .reason) (a .none) (b .none)
+    one (λ k. Reason k s l) (a .earlier) (a .later) (b .earlier) (b .later) n m (sym (a .order) ∙ b .order) (a .reason) (b .reason) (a .none) (b .none)
