@@ -1,7 +1,7 @@
 -- The claims of the panel's step, and the rows at the edges of the ranges. Assumes nothing.
 use borrow.Table.Steps.{cases}
-use Prim.Native.Nat.{ℕ, _≤_}
-use mathlib.Core.Path.{_≡_, refl, sym, ap, subst}
+use Prim.Native.Nat.{ℕ}
+use mathlib.Core.Path.{_≡_, refl, sym, ap, subst, _∙_}
 use mathlib.Core.Bool.{true, false}
 use mathlib.Core.List.{List}
 use native.Mathlib.Omega.{arith}
@@ -12,9 +12,9 @@ use Rattle.machine.specs.Range.{StateInRange, slotOk, attachmentOk, carrierOk, 
 use Rattle.machine.proofs.Ranges.{range-exactly}
 use Rattle.record.specs.Format.{refusedAs, decodeOf}
 use Rattle.run.specs.declared.Stepped.{Stepped}
-use Rattle.run.specs.Reason.{Reason, RecordReason}
 use Rattle.run.specs.Run.{runOf, stay, stepOf}
 use Rattle.run.proofs.Premises.{is}
+use Rattle.run.proofs.Refusals.{reason-other}
 use Rattle.run.proofs.Demand.{step-refused, run-in-range, step-in-range}
 use Rattle.run.proofs.Stepwise.{steps-are-the-run, steps-are-one}
 use Rattle.panel.specs.Panel.{panelStep}
@@ -29,31 +29,15 @@ fine {s} h = range-exactly s .1 h
 pub either : {G : Type 0} (s : State) → (StateInRange s → G) → (stateOk s ≡ false → G) → G
 either s f g = cases (stateOk s) (λ t. f (range-exactly s .0 t)) g
 
--- ---- the step's numbers end at 11
-record-small : {n : ℕ} {s : State} {x : _} → RecordReason n s x → n ≤ 11
-record-small (RecordReason.already-in e h) = omega arith
-record-small (RecordReason.not-in e h) = omega arith
-record-small (RecordReason.wrong-slot e h) = omega arith
-record-small (RecordReason.float-too-long e h) = omega arith
-record-small (RecordReason.not-opposite e h) = omega arith
-record-small (RecordReason.hook-full e h) = omega arith
-
-reason-small : {n : ℕ} {s : State} {l : List ℕ} → Reason n s l → n ≤ 11
-reason-small (Reason.unknown-kind e h) = omega arith
-reason-small (Reason.cut-short e h) = omega arith
-reason-small (Reason.field-range e h) = omega arith
-reason-small (Reason.of-record bytes rest x e form r) = record-small r
-
-step-small : (s : State) (l : List ℕ) → stepOf s l .number ≤ 11
-step-small s l = is (stepOf s l .number) 0 (λ e. omega arith) (λ d. reason-small (step-refused s l d .reason))
-
 -- ---- the claims
 pub service-is-step : ServiceIsStep
 service-is-step s l h = sym (fine-step s l (fine h))
 
--- no state in range gets 15
+-- no state in range gets 15, which is no number of a step
 not-foul : (s : State) (l : List ℕ) → StateInRange s → panelStep s l .number ≡ 15 → ⊥
-not-foul s l h e = omega (arith, e, ap (λ (t : Stepped). t .number) (service-is-step s l h), step-small s l)
+not-foul s l h e =
+    let q : stepOf s l .number ≡ 15 = sym (ap (λ (t : Stepped). t .number) (service-is-step s l h)) ∙ e in
+    is (stepOf s l .number) 0 (λ z. omega arith) (λ d. reason-other (step-refused s l d .first .reason) 15 refl q)
 
 pub range-rows : RangeRows
 unfolding panelStep stateOk emptyState slotOk attachmentOk carrierOk all inactiveCarrier eqZ stepOf decodeOf refusedAs

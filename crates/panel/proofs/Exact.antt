@@ -15,7 +15,7 @@ use Rattle.machine.specs.Machine.{inactive}
 use Rattle.machine.specs.Range.{StateInRange, stateOk}
 use Rattle.run.specs.declared.Stepped.{Stepped}
 use Rattle.run.specs.Run.{stay, stepOf}
-use Rattle.run.proofs.Unique.{same-number}
+use Rattle.run.proofs.Refusals.{first-is-one}
 use Rattle.run.proofs.Premises.{is}
 use Rattle.run.proofs.Demand.{step-accepts, step-done, step-refused}
 use Rattle.panel.specs.declared.Served.{Served}
@@ -45,15 +45,13 @@ module _ (s : State) (l : List ℕ) where
               subst (Serves s l) (sym (ap (stepOf s) whole ∙ step-done s bytes rest x t form step)) (Serves.done h bytes rest x t whole form step)
 
           kept : (stepOf s l .number ≡ 0 → ⊥) → Serves s l (stepOf s l)
-          kept d = let r = step-refused s l d in subst (Serves s l) (sym (step-keeps s l d)) (Serves.refused h (r .no-step) (stepOf s l .number) (r .reason) (r .least))
+          kept d = let r = step-refused s l d in subst (Serves s l) (sym (step-keeps s l d)) (Serves.refused h (r .no-step) (stepOf s l .number) (r .first))
 
   serves-one : {a : Stepped} → Serves s l a → panelStep s l ≡ a
   serves-one (Serves.foul h) = sym (foul-step s l (not-ok h))
   serves-one (Serves.done h bytes rest x t whole form step) = service-is-step s l h ∙ ap (stepOf s) whole ∙ step-done s bytes rest x t form step
-  serves-one (Serves.refused h none n reason least) =
-      let r = step-refused s l refused in
-      service-is-step s l h ∙ step-keeps s l refused ∙ ap (λ (m : ℕ). stay m s)
-      (same-number (record { no-step = r .no-step; reason = r .reason; least = r .least }) (record { no-step = none; reason = reason; least = least }))
+  serves-one (Serves.refused h none n first) =
+      service-is-step s l h ∙ step-keeps s l refused ∙ ap (λ (m : ℕ). stay m s) (first-is-one (step-refused s l refused .first) first)
     where
       refused : stepOf s l .number ≡ 0 → ⊥
       refused e = let (bytes, rest, x, t, whole, form, step) = step-accepts s l .0 e in none bytes rest x t whole form step

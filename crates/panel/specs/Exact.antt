@@ -12,7 +12,7 @@ use Rattle.record.specs.declared.Record.{Record}
 use Rattle.record.specs.Format.{Encodes}
 use Rattle.run.specs.declared.Stepped.{Stepped}
 use Rattle.run.specs.Relation.{Step}
-use Rattle.run.specs.Reason.{Reason}
+use Rattle.run.specs.Reason.{First}
 use Rattle.run.specs.Claims.{NoStep}
 use Rattle.panel.specs.declared.Served.{Served}
 use Rattle.panel.specs.Panel.{panelStep, listAnswer, carrierList}
@@ -25,9 +25,8 @@ pub data Serves (s : State) (l : List ℕ) : Stepped → Type 0 where
   -- the bytes begin with a record that has a step
   done : StateInRange s → (bytes rest : List ℕ) (x : Record) (t : State) → l ≡ bytes ++ rest → Encodes bytes x → Step s x t
       → Serves s l (record { number = 0; length = length bytes; state = t })
-  -- they do not: the least reason
-  refused : StateInRange s → NoStep s l → (n : ℕ) → Reason n s l → ((m : ℕ) → m < n → Reason m s l → ⊥)
-      → Serves s l (record { number = n; length = 0; state = s })
+  -- they do not: the first reason
+  refused : StateInRange s → NoStep s l → (n : ℕ) → First n s l → Serves s l (record { number = n; length = 0; state = s })
 
 abbrev pub StepExactly : Type 0
 StepExactly = (s : State) (l : List ℕ) (a : Stepped) → (panelStep s l ≡ a) ↔ Serves s l a

@@ -15,7 +15,7 @@ use Rattle.machine.specs.Machine.{loopsOn, carrierOf, emptyState, completeOf, a
 use Rattle.machine.specs.Geometry.{eqZ, columnOf, entryOf, exitOf, sameColumn, withinFloat}
 use Rattle.record.specs.Format.{sizeOf, decodeOf, whole, ranged, refusedAs, rackOk, needleOk, workOk, signedOf}
 use Rattle.record.specs.Names.{needleCount, carrierCount, needlesOf, carriersOf}
-use Rattle.run.specs.Step.{lookOf, seeOf, parkedNo, floatNo, carrierNo, oppositeNo, firstAfter, secondAfter, roomNo, numberOf, edit, actOf, acted, moveAttachments, rackingAfter, numberAt, applyOf}
+use Rattle.run.specs.Step.{lookOf, seeOf, parkedNo, floatNo, carrierNo, oppositeNo, firstAfter, secondAfter, roomNo, decidedNo, edit, actOf, acted, moveAttachments, rackingAfter, numberAt, applyOf}
 use Rattle.run.specs.declared.Answer.{Answer}
 use Rattle.run.specs.Run.{stepOf, turn, runFrom, answerOf, runOf}
 use Rattle.trace.specs.Records.{tied}
@@ -124,11 +124,11 @@ pair-says r e =
 
 -- the tests, computed: rows, swaps and ties apart, since a declaration is checked in fifty million steps at most
 rows-computed : every rowTest rows ≡ true
-unfolding rowTest saysTest stateTest hooksTest carriersTest sameBool sameCarrier runOf runFrom turn stepOf answerOf emptyState completeOf all inactiveCarrier movedTo attachedAt sameNeedle eqZ columnOf entryOf exitOf sameColumn withinFloat decodeOf whole ranged refusedAs rackOk needleOk workOk signedOf needleCount carrierCount needlesOf carriersOf lookOf seeOf parkedNo floatNo carrierNo oppositeNo firstAfter secondAfter roomNo numberOf edit actOf acted moveAttachments rackingAfter numberAt applyOf
+unfolding rowTest saysTest stateTest hooksTest carriersTest sameBool sameCarrier runOf runFrom turn stepOf answerOf emptyState completeOf all inactiveCarrier movedTo attachedAt sameNeedle eqZ columnOf entryOf exitOf sameColumn withinFloat decodeOf whole ranged refusedAs rackOk needleOk workOk signedOf needleCount carrierCount needlesOf carriersOf lookOf seeOf parkedNo floatNo carrierNo oppositeNo firstAfter secondAfter roomNo decidedNo edit actOf acted moveAttachments rackingAfter numberAt applyOf
 rows-computed = refl
 
 swaps-computed : every swapTest swaps ≡ true
-unfolding swapTest saysTest rewriteOf lentNo replay cut startsOf sameBytes halfColumn layerOf extentOf meets member common sizeOf stateTest hooksTest carriersTest sameBool sameCarrier runOf runFrom turn stepOf answerOf emptyState completeOf all inactiveCarrier movedTo attachedAt sameNeedle eqZ columnOf entryOf exitOf sameColumn withinFloat decodeOf whole ranged refusedAs rackOk needleOk workOk signedOf needleCount carrierCount needlesOf carriersOf lookOf seeOf parkedNo floatNo carrierNo oppositeNo firstAfter secondAfter roomNo numberOf edit actOf acted moveAttachments rackingAfter numberAt applyOf
+unfolding swapTest saysTest rewriteOf lentNo replay cut startsOf sameBytes halfColumn layerOf extentOf meets member common sizeOf stateTest hooksTest carriersTest sameBool sameCarrier runOf runFrom turn stepOf answerOf emptyState completeOf all inactiveCarrier movedTo attachedAt sameNeedle eqZ columnOf entryOf exitOf sameColumn withinFloat decodeOf whole ranged refusedAs rackOk needleOk workOk signedOf needleCount carrierCount needlesOf carriersOf lookOf seeOf parkedNo floatNo carrierNo oppositeNo firstAfter secondAfter roomNo decidedNo edit actOf acted moveAttachments rackingAfter numberAt applyOf
 swaps-computed = refl
 
 ties-computed : (every pairTest pairs && every pairTest edges) ≡ true

@@ -4,14 +4,14 @@ use Rattle.machine.specs.Machine.{emptyState, completeOf, all, inactiveCarrier,
 use Rattle.machine.specs.Geometry.{eqZ, columnOf, entryOf, exitOf, sameColumn, withinFloat}
 use Rattle.record.specs.Format.{sizeOf, decodeOf, whole, ranged, refusedAs, rackOk, needleOk, workOk, signedOf}
 use Rattle.record.specs.Names.{needleCount, carrierCount, needlesOf, carriersOf}
-use Rattle.run.specs.Step.{lookOf, seeOf, parkedNo, floatNo, carrierNo, oppositeNo, firstAfter, secondAfter, roomNo, numberOf, edit, actOf, acted, moveAttachments, rackingAfter, numberAt, applyOf}
+use Rattle.run.specs.Step.{lookOf, seeOf, parkedNo, floatNo, carrierNo, oppositeNo, firstAfter, secondAfter, roomNo, decidedNo, edit, actOf, acted, moveAttachments, rackingAfter, numberAt, applyOf}
 use Rattle.run.specs.Run.{stepOf, turn, runFrom, answerOf, runOf}
 use Rattle.rewrite.specs.Extents.{halfColumn, layerOf, extentOf, meets, member, common}
 use Rattle.rewrite.specs.Programs.{cut, sameBytes, memberNeedle}
 use Rattle.pieces.specs.Orders.{OrdersHold}
 
 pub orders : OrdersHold
-unfolding cut sizeOf sameBytes memberNeedle sameNeedle halfColumn layerOf extentOf meets member common columnOf decodeOf whole ranged refusedAs rackOk needleOk workOk signedOf needleCount carrierCount needlesOf carriersOf runOf runFrom turn stepOf answerOf emptyState completeOf all inactiveCarrier movedTo attachedAt eqZ entryOf exitOf sameColumn withinFloat lookOf seeOf parkedNo floatNo carrierNo oppositeNo firstAfter secondAfter roomNo numberOf edit actOf acted moveAttachments rackingAfter numberAt applyOf
+unfolding cut sizeOf sameBytes memberNeedle sameNeedle halfColumn layerOf extentOf meets member common columnOf decodeOf whole ranged refusedAs rackOk needleOk workOk signedOf needleCount carrierCount needlesOf carriersOf runOf runFrom turn stepOf answerOf emptyState completeOf all inactiveCarrier movedTo attachedAt eqZ entryOf exitOf sameColumn withinFloat lookOf seeOf parkedNo floatNo carrierNo oppositeNo firstAfter secondAfter roomNo decidedNo edit actOf acted moveAttachments rackingAfter numberAt applyOf
 orders =
     record {
       records-are = refl;

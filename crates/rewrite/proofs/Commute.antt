@@ -20,7 +20,7 @@ use Rattle.machine.proofs.Laws.{and-two}
 use Rattle.record.specs.declared.Record.{Record}
 use Rattle.record.specs.Names.{needleCount}
 use Rattle.record.proofs.Ranges.{InRange}
-use Rattle.run.specs.Step.{lookOf, Seen, seeOf, orNumber, carrierNo, oppositeNo, firstAfter, secondAfter, roomNo, numberOf, edit, stored, Act, actOf, acted, moveAttachments, numberAt, applyOf}
+use Rattle.run.specs.Step.{lookOf, Seen, seeOf, orNumber, carrierNo, oppositeNo, firstAfter, secondAfter, roomNo, decidedNo, edit, stored, Act, actOf, acted, moveAttachments, numberAt, applyOf}
 use Rattle.run.specs.Step.{rackingAfter as rackingLeft}
 use Rattle.run.proofs.Premises.{is}
 use Rattle.trace.specs.Machine.{andThen}
@@ -60,8 +60,8 @@ module _ (x : Record) (a b : Seen) (g : Agree x a b) where
       (λ e. let t = eqb-true (needleCount (x .kind)) 2 e in let h = g .here (omega arith) in let k = g .there t in rw (e, h, k))
       (λ e. rw e)
 
-  same-number : numberOf x a ≡ numberOf x b
-  unfolding numberOf roomNo
+  same-number : decidedNo x a ≡ decidedNo x b
+  unfolding decidedNo roomNo
   same-number = cc (same-carrier, same-first, same-second, g .racking)
 
 -- the state after a record, by what it saw
@@ -276,7 +276,7 @@ or-right a b e = cases (eqb a 0) (λ h. sym (simp h) ∙ e) (λ h. absurd (eqb-f
 
 -- its two needles are opposite, which rests on the racking alone
 number-opposite : (s : State) (x : Record) → numberAt s x ≡ 0 → oppositeNo x (s .racking) ≡ 0
-unfolding numberAt numberOf seeOf
+unfolding numberAt decidedNo seeOf
 number-opposite s x e = or-left (oppositeNo x (s .racking)) _ (or-right (carrierNo x (s .racking) (seeOf s x .look)) _ e)
 
 opposite-columns : (x : Record) (r : Racking) → oppositeNo x r ≡ 0 → needleCount (x .kind) ≡ 2 → columnOf (x .at) r ≡ columnOf (x .to) r

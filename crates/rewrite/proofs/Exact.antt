@@ -19,7 +19,7 @@ use Rattle.run.specs.Relation.{Valid}
 use Rattle.run.specs.Run.{reached, answerOf, runOf}
 use Rattle.run.specs.Claims.{Answers, Complete}
 use Rattle.run.proofs.Premises.{is}
-use Rattle.run.proofs.Bytes.{reason-positive}
+use Rattle.run.proofs.Refusals.{reason-other}
 use Rattle.run.proofs.Demand.{accepts, final, complete}
 use Rattle.run.proofs.Exact.{run-flag, run-exactly}
 use Rattle.trace.specs.Records.{tied}
@@ -249,7 +249,7 @@ module _ (p log output work : List ℕ) where
   one (Rewrites.no-bench d h) = unlooked-call 1 (short-number d h)
   one (Rewrites.not-valid {a = a} l f c) =
       let e = run-exactly p a .1 (Answers.refused (l .short) f c) in
-      refused-call p log output work (all-lent _ _ _ _ l) (λ z. omega (arith, ap (λ (b : Answer). b .number) e, z, reason-positive (f .reason)))
+      refused-call p log output work (all-lent _ _ _ _ l) (λ z. reason-other (f .first .reason) 0 refl (sym (ap (λ (b : Answer). b .number) e) ∙ z))
       ∙ ap (λ (b : Answer). refused b output work) e
   one (Rewrites.gone-through {front = front} {m = m} f) = leaving-call 0 0 m (f .lent) (f .valid) (f .complete) (followed-replay f)
   one (Rewrites.torn {front = front} {rest = rest} {m = m} f t) =

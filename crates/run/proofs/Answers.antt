@@ -15,9 +15,11 @@ use Rattle.machine.proofs.Laws.{complete-is-empty, empty-is-complete}
 use Rattle.run.specs.declared.Reached.{Reached}
 use Rattle.run.specs.declared.Answer.{Answer}
 use Rattle.run.specs.Relation.{Steps, Valid}
+use Rattle.run.specs.Reason.{First}
 use Rattle.run.specs.Run.{reached, runFrom, answerOf, runOf}
 use Rattle.run.specs.Claims.{FirstRefusal}
-use Rattle.run.proofs.Bytes.{Refusal, reason-positive}
+use Rattle.run.proofs.Refusals.{reason-other}
+use Rattle.run.proofs.Bytes.{reason-no-step}
 use Rattle.run.proofs.Runs.{Ends, runs, run-steps, steps-lengths}
 
 -- ---- a program that is not too long, and one that is
@@ -35,7 +37,7 @@ valid-run p t v = short-run p (v .short) ∙ ap answerOf (run-steps (v .steps) 0
 -- ---- every answer is one of three
 pub data Answered (p : List ℕ) : Answer → Type 0 where
   through : {t : State} → length p ≤ 32768 → Steps emptyState p t → Answered p (answerOf (reached 0 0 t))
-  refused : {n k : ℕ} {t : State} → length p ≤ 32768 → k < length p → Steps emptyState (take k p) t → Refusal n t (drop k p) → Answered p (answerOf (reached n k t))
+  refused : {n k : ℕ} {t : State} → length p ≤ 32768 → k < length p → Steps emptyState (take k p) t → First n t (drop k p) → Answered p (answerOf (reached n k t))
   too-long : 32768 < length p → Answered p (record { number = 1; place = 0; complete = true; state = emptyState })
 
 ended : {p : List ℕ} {r : Reached} → length p ≤ 32768 → Ends p 0 emptyState r → Answered p (answerOf r)
@@ -52,19 +54,19 @@ answered p =
 pub accepted : {p : List ℕ} {a : Answer} → Answered p a → a .number ≡ 0 → (t : State) × Valid p t
 unfolding answerOf
 accepted (Answered.through {t = t} h steps) e = (t, record { short = h; steps = steps })
-accepted (Answered.refused h k before r) e = absurd (omega (arith, reason-positive (r .reason)))
+accepted (Answered.refused h k before r) e = absurd (reason-other (r .reason) 0 refl e)
 accepted (Answered.too-long h) e = absurd (omega arith)
 
 pub one-long : {p : List ℕ} {a : Answer} → Answered p a → a .number ≡ 1 → 32768 < length p
 unfolding answerOf
 one-long (Answered.through h steps) e = absurd (omega arith)
-one-long (Answered.refused h k before r) e = absurd (omega (arith, reason-positive (r .reason)))
+one-long (Answered.refused h k before r) e = absurd (reason-other (r .reason) 1 refl e)
 one-long (Answered.too-long h) e = h
 
 pub first-refusal : {p : List ℕ} {a : Answer} → Answered p a → length p ≤ 32768 → (a .number ≡ 0 → ⊥) → FirstRefusal p a
 unfolding answerOf
 first-refusal (Answered.through h steps) i d = absurd (d refl)
-first-refusal (Answered.refused h k before r) i d = record { within = k; before = before; no-step = r .no-step; reason = r .reason; least = r .least }
+first-refusal (Answered.refused h k before r) i d = record { within = k; before = before; no-step = reason-no-step (r .reason); first = r }
 first-refusal (Answered.too-long h) i d = absurd (omega arith)
 
 pub place-small : {p : List ℕ} {a : Answer} → Answered p a → a .place < 32768

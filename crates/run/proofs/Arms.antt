@@ -17,9 +17,9 @@ use Rattle.machine.specs.Looks.{anyBeside}
 use Rattle.machine.proofs.Laws.{none-moved}
 use Rattle.record.specs.declared.Record.{Record}
 use Rattle.run.specs.Relation.{racked, entrySlot, exitSlot, unattached, reparked, attached}
-use Rattle.run.specs.Step.{orNumber, parkedNo, askedNo, numberAt, applyOf}
+use Rattle.run.specs.Step.{orNumber, askedNo, numberAt, applyOf}
 use Rattle.run.specs.Loops.{tuckNo, tucked, transferNo, transferredLoops}
-use Rattle.run.proofs.ByKind.{seen, readyNo, rack-number, rack-state, drop-number, drop-state, xfer-number, xfer-state, in-number, in-state, out-number, out-state, miss-number, miss-state, tuck-number, tuck-state, knit-number, knit-state, split-number, split-state}
+use Rattle.run.proofs.ByKind.{seen, slotNo, readyNo, rack-number, rack-state, drop-number, drop-state, xfer-number, xfer-state, in-number, in-state, out-number, out-state, miss-number, miss-state, tuck-number, tuck-state, knit-number, knit-state, split-number, split-state}
 
 -- the loops after a transfer or a tuck, by its number
 module _ (l : List ℕ) (a b : Needle) (r : Racking) (v n : ℕ) (is : n ≡ transferNo l a b r) where
@@ -86,10 +86,10 @@ module _ (s : State) (x : Record) where
   asks-in : x .kind ≡ 4 → asks ≡ cond (seen s x .active) 6 0
   asks-in e = simp e
 
-  asks-out : x .kind ≡ 5 → asks ≡ parkedNo (seen s x) (exitSlot s x)
+  asks-out : x .kind ≡ 5 → asks ≡ slotNo s x (exitSlot s x)
   asks-out e = simp e
 
-  asks-miss : x .kind ≡ 6 → asks ≡ parkedNo (seen s x) (entrySlot s x)
+  asks-miss : x .kind ≡ 6 → asks ≡ slotNo s x (entrySlot s x)
   asks-miss e = simp e
 
   asks-split : x .kind ≡ 9 → asks ≡ readyNo s x

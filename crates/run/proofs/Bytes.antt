@@ -1,5 +1,5 @@
--- A record refused by its bytes, and one refused by its step: the reason at the front of a list, and that none comes before it. Assumes nothing.
-use Prim.Native.Nat.{ℕ, _≤_, _<_}
+-- A record refused by its bytes, and one refused by its step: its number is the first reason at the front of a list. Assumes nothing.
+use Prim.Native.Nat.{ℕ, _≤_}
 use mathlib.Core.Path.{_≡_, refl, sym, ap, subst, _∙_}
 use mathlib.Core.Bool.{Bool, true≢false}
 use mathlib.Core.List.{List, _++_}
@@ -13,14 +13,15 @@ use Rattle.record.specs.declared.Decoded.{Decoded}
 use Rattle.record.specs.Format.{Encodes, sizeOf, byte, refusedAs, decodeOf}
 use Rattle.record.proofs.Forms.{Fields, Reads, reads, fields-size, fields-positive, form-decode, form-in, decode-form, decode-in}
 use Rattle.run.specs.Relation.{Step}
-use Rattle.run.specs.Reason.{Whole, CutShort, fieldsOk, RecordReason, Reason}
+use Rattle.run.specs.Reason.{Whole, CutShort, fieldsOk, RecordReason, Reason, First}
 use Rattle.run.specs.Step.{numberAt}
 use Rattle.run.specs.declared.Stepped.{Stepped}
 use Rattle.run.specs.Run.{stepOf}
 use Rattle.run.specs.Claims.{NoStep, HasStep, StepRefusal}
 use Rattle.run.proofs.Premises.{is}
-use Rattle.run.proofs.Sound.{reason-above, step-only, step-sound, number-reason}
-use Rattle.run.proofs.Least.{number-least}
+use Rattle.run.proofs.Refusals.{first-of}
+use Rattle.run.proofs.Sound.{step-only, step-sound, number-reason}
+use Rattle.run.proofs.Earliest.{number-earliest}
 
 -- ---- the three reasons of bytes
 pub fields-ok : {l : List ℕ} {size : ℕ} {ok : Bool} {x : Record} → Fields l size ok x → fieldsOk l ≡ ok
@@ -43,12 +44,6 @@ module _ {l : List ℕ} {size : ℕ} {ok : Bool} {x : Record} (f : Fields l size
   whole : size ≤ length l → Whole l
   whole h = record { some = omega (arith, fields-positive f); known = known; long = omega (arith, fields-size f) }
 
-pub reason-positive : {n : ℕ} {s : State} {l : List ℕ} → Reason n s l → 3 ≤ n
-reason-positive (Reason.unknown-kind e a) = omega arith
-reason-positive (Reason.cut-short e a) = omega arith
-reason-positive (Reason.field-range e a) = omega arith
-reason-positive (Reason.of-record bytes rest x e form r) = omega (arith, reason-above r)
-
 bytes-reason : {l : List ℕ} {d : Decoded} (s : State) → Reads l d → (d .number ≡ 0 → ⊥) → Reason (d .number) s l
 unfolding refusedAs
 bytes-reason s (Reads.none e) h = Reason.cut-short refl (CutShort.no-byte e)
@@ -57,27 +52,30 @@ bytes-reason s (Reads.short f a b) h = Reason.cut-short refl (CutShort.too-few (
 bytes-reason s (Reads.outside f a e) h = Reason.field-range refl (record { whole = whole f a; outside = fields-ok f ∙ e })
 bytes-reason s (Reads.done f a e) h = absurd (h refl)
 
--- no smaller one holds of bytes that are refused
-bytes-least : {l : List ℕ} {d : Decoded} {s : State} → Reads l d → (d .number ≡ 0 → ⊥) → {m : ℕ} → Reason m s l → d .number ≤ m
-unfolding refusedAs
-bytes-least (Reads.none e) h (Reason.unknown-kind q a) = absurd (omega (arith, a .some))
-bytes-least (Reads.none e) h (Reason.cut-short q a) = omega arith
-bytes-least (Reads.none e) h (Reason.field-range q a) = omega arith
-bytes-least (Reads.none e) h (Reason.of-record bytes rest x q form r) = omega (arith, reason-above r)
-bytes-least (Reads.strange b c) h r = omega (arith, reason-positive r)
-bytes-least (Reads.short f b c) h (Reason.unknown-kind q a) = absurd (known f (a .unknown))
-bytes-least (Reads.short f b c) h (Reason.cut-short q a) = omega arith
-bytes-least (Reads.short f b c) h (Reason.field-range q a) = omega arith
-bytes-least (Reads.short f b c) h (Reason.of-record bytes rest x q form r) = omega (arith, reason-above r)
-bytes-least (Reads.outside f b c) h (Reason.unknown-kind q a) = absurd (known f (a .unknown))
-bytes-least (Reads.outside f b c) h (Reason.cut-short q a) = absurd (not-short f b a)
-bytes-least (Reads.outside f b c) h (Reason.field-range q a) = omega arith
-bytes-least (Reads.outside f b c) h (Reason.of-record bytes rest x q form r) = omega (arith, reason-above r)
-bytes-least (Reads.done f b c) h r = absurd (h refl)
-
 -- a form (the bytes that encode a record) at the front is what is decoded
 front-decode : {l bytes : List ℕ} {x : Record} (rest : List ℕ) → l ≡ bytes ++ rest → Encodes bytes x → decodeOf l ≡ record { number = 0; size = length bytes; what = x }
 front-decode rest e form = ap decodeOf e ∙ form-decode form rest
+
+-- bytes that are refused have one reason alone
+bytes-alone : {l : List ℕ} {d : Decoded} {s : State} {m : ℕ} → Reason m s l → Reads l d → decodeOf l ≡ d → (d .number ≡ 0 → ⊥) → m ≡ d .number
+unfolding refusedAs
+bytes-alone (Reason.unknown-kind q a) (Reads.none e) i h = absurd (omega (arith, a .some))
+bytes-alone (Reason.unknown-kind q a) (Reads.strange b c) i h = q
+bytes-alone (Reason.unknown-kind q a) (Reads.short f b c) i h = absurd (known f (a .unknown))
+bytes-alone (Reason.unknown-kind q a) (Reads.outside f b c) i h = absurd (known f (a .unknown))
+bytes-alone (Reason.unknown-kind q a) (Reads.done f b c) i h = absurd (h refl)
+bytes-alone (Reason.cut-short q a) (Reads.none e) i h = q
+bytes-alone (Reason.cut-short q (CutShort.no-byte a)) (Reads.strange b c) i h = absurd (omega arith)
+bytes-alone (Reason.cut-short q (CutShort.too-few a e)) (Reads.strange b c) i h = absurd (a c)
+bytes-alone (Reason.cut-short q a) (Reads.short f b c) i h = q
+bytes-alone (Reason.cut-short q a) (Reads.outside f b c) i h = absurd (not-short f b a)
+bytes-alone (Reason.cut-short q a) (Reads.done f b c) i h = absurd (h refl)
+bytes-alone (Reason.field-range q a) (Reads.none e) i h = absurd (omega (arith, a .whole .some))
+bytes-alone (Reason.field-range q a) (Reads.strange b c) i h = absurd (a .whole .known c)
+bytes-alone (Reason.field-range q a) (Reads.short f b c) i h = absurd (omega (arith, fields-size f, a .whole .long))
+bytes-alone (Reason.field-range q a) (Reads.outside f b c) i h = q
+bytes-alone (Reason.field-range q a) (Reads.done f b c) i h = absurd (h refl)
+bytes-alone (Reason.of-record bytes rest x q form r) w i h = absurd (h (ap (λ (d : Decoded). d .number) (sym i ∙ front-decode rest q form)))
 
 -- where a record was decoded, every reason is one of that record
 record-reason : {l : List ℕ} {d : Decoded} {s : State} {m : ℕ} → Reads l d → decodeOf l ≡ d → d .number ≡ 0 → Reason m s l → RecordReason m s (d .what)
@@ -92,36 +90,23 @@ record-reason (Reads.done f a b) i e (Reason.field-range q u) = absurd (true≢f
 record-reason {s = s} {m = m} (Reads.done f a b) i e (Reason.of-record bytes rest x q form r) =
     subst (λ (y : Record). RecordReason m s y) (ap (λ (d : Decoded). d .what) (sym (front-decode rest q form) ∙ i)) r
 
--- ---- what is said of a refusal
-pub record Refusal (n : ℕ) (s : State) (l : List ℕ) : Type 0 where
-  pub no-step : NoStep s l
-  pub reason : Reason n s l
-  pub least : (m : ℕ) → m < n → Reason m s l → ⊥
+-- ---- the first reason
+pub bytes-first : (s : State) (l : List ℕ) → (decodeOf l .number ≡ 0 → ⊥) → First (decodeOf l .number) s l
+bytes-first s l h = first-of (bytes-reason s (reads l) h) (λ m r. rw (bytes-alone r (reads l) refl h) (omega arith))
 
-pub bytes-refusal : (s : State) (l : List ℕ) → (decodeOf l .number ≡ 0 → ⊥) → Refusal (decodeOf l .number) s l
-bytes-refusal s l h = record {
-  no-step = λ bytes rest x t e form step. h (ap (λ (d : Decoded). d .number) (front-decode rest e form));
-  reason = bytes-reason s (reads l) h;
-  least = λ m k r. omega (arith, bytes-least (reads l) h r);
-}
-
-pub step-refusal : (s : State) (l : List ℕ) → decodeOf l .number ≡ 0 → (numberAt s (decodeOf l .what) ≡ 0 → ⊥) → Refusal (numberAt s (decodeOf l .what)) s l
-step-refusal s l e h = record {
-  no-step = λ bytes rest x t q form step.
-      h (ap (λ (d : Decoded). numberAt s (d .what)) (front-decode rest q form) ∙ step-only s x (form-in form) step .0);
-  reason =
-      Reason.of-record (take (decodeOf l .size) l) (drop (decodeOf l .size) l) (decodeOf l .what)
-      (sym (take-append-drop (decodeOf l .size) l)) (decode-form l e) (number-reason s (decodeOf l .what) (decode-in l e) h);
-  least = λ m k r. omega (arith, number-least s (decodeOf l .what) (decode-in l e) (record-reason (reads l) refl e r) .1);
-}
+pub step-first : (s : State) (l : List ℕ) → decodeOf l .number ≡ 0 → (numberAt s (decodeOf l .what) ≡ 0 → ⊥) → First (numberAt s (decodeOf l .what)) s l
+step-first s l e h =
+    first-of
+    (Reason.of-record (take (decodeOf l .size) l) (drop (decodeOf l .size) l) (decodeOf l .what)
+    (sym (take-append-drop (decodeOf l .size) l)) (decode-form l e) (number-reason s (decodeOf l .what) (decode-in l e) h))
+    (λ m r. number-earliest s (decodeOf l .what) (decode-in l e) (record-reason (reads l) refl e r) .1)
 
 -- ---- a reason holds exactly where there is no step
 pub reason-no-step : {n : ℕ} {s : State} {l : List ℕ} → Reason n s l → NoStep s l
 reason-no-step {n} {s} {l} r bytes rest x t e form step =
     let d = front-decode rest e form in
     let k = record-reason (reads l) refl (ap (λ (y : Decoded). y .number) d) r in
-    let w = number-least s x (form-in form) (subst (λ (y : Record). RecordReason n s y) (ap (λ (y : Decoded). y .what) d) k) in
-    omega (arith, w .0, step-only s x (form-in form) step .0)
+    number-earliest s x (form-in form) (subst (λ (y : Record). RecordReason n s y) (ap (λ (y : Decoded). y .what) d) k) .0 (step-only s x (form-in form) step .0)
 
 pub no-step-reason : (s : State) (l : List ℕ) → NoStep s l → (n : ℕ) × Reason n s l
 no-step-reason s l h =
@@ -129,8 +114,8 @@ no-step-reason s l h =
     (λ e. is (numberAt s (decodeOf l .what)) 0
     (λ z. absurd (h (take (decodeOf l .size) l) (drop (decodeOf l .size) l) (decodeOf l .what) _ (sym (take-append-drop (decodeOf l .size) l))
     (decode-form l e) (step-sound s (decodeOf l .what) (decode-in l e) z)))
-    (λ d. (_, step-refusal s l e d .reason)))
-    (λ d. (_, bytes-refusal s l d .reason))
+    (λ d. (_, step-first s l e d .reason)))
+    (λ d. (_, bytes-first s l d .reason))
 
 -- ---- the step of a slice's first record
 pub step-gives : (s : State) (bytes rest : List ℕ) (x : Record) (t : State) → Encodes bytes x → Step s x t
@@ -144,8 +129,8 @@ unfolding stepOf
 step-refuses s l h =
     is (decodeOf l .number) 0
     (λ e. is (numberAt s (decodeOf l .what)) 0 (λ z. absurd (h (simp (e, z))))
-    (λ d. let r = step-refusal s l e d in simp (e, ne-eqb (numberAt s (decodeOf l .what)) 0 d) (record { length = refl; state = refl; no-step = r .no-step; reason = r .reason; least = r .least })))
-    (λ d. let r = bytes-refusal s l d in simp (ne-eqb (decodeOf l .number) 0 d) (record { length = refl; state = refl; no-step = r .no-step; reason = r .reason; least = r .least }))
+    (λ d. let r = step-first s l e d in simp (e, ne-eqb (numberAt s (decodeOf l .what)) 0 d) (record { length = refl; state = refl; no-step = reason-no-step (r .reason); first = r })))
+    (λ d. let r = bytes-first s l d in simp (ne-eqb (decodeOf l .number) 0 d) (record { length = refl; state = refl; no-step = reason-no-step (r .reason); first = r }))
 
 step-has : (s : State) (l : List ℕ) → stepOf s l .number ≡ 0 → HasStep s l
 unfolding stepOf

@@ -1,6 +1,6 @@
 -- The run gives an answer in 01's words and no other one is; rows 3 to 5 against the format. Assumes nothing.
 use borrow.Table.Steps.{cases}
-use Prim.Native.Nat.{ℕ, _≤_, _<_}
+use Prim.Native.Nat.{ℕ}
 use mathlib.Core.Path.{_≡_, refl, sym, ap, subst, _∙_}
 use mathlib.Core.Bool.{Bool, true, false, true≢false, _&&_}
 use mathlib.Core.List.{List, [], _∷_, _++_, append-nil}
@@ -10,18 +10,16 @@ use lib.Dec.{eqb, leb}
 use lib.ListN.{length, take, drop, take-append-drop}
 use borrow.Author.Tests.{eqb-true, leb-true}
 use Rattle.machine.specs.declared.State.{State}
-use Rattle.machine.specs.Machine.{emptyState}
 use Rattle.machine.proofs.Laws.{and-two}
 use Rattle.record.specs.declared.Record.{Record}
 use Rattle.record.specs.declared.Decoded.{Decoded}
 use Rattle.record.specs.Format.{Encodes, sizeOf, signedOf, byte, refusedAs, decodeOf}
-use Rattle.record.proofs.Forms.{Fields, Reads, reads, fields-size, form-decode, decode-form, decode-kind}
+use Rattle.record.proofs.Forms.{Reads, reads, fields-size, form-decode, decode-form, decode-kind}
 use Rattle.run.specs.declared.Answer.{Answer}
-use Rattle.run.specs.Relation.{Steps, Valid}
 use Rattle.run.specs.Reason.{Whole, fieldsOk}
 use Rattle.run.specs.Run.{reached, answerOf, runOf}
 use Rattle.run.specs.Claims.{Complete, Answers, RunExactly, KnownExactly, SizeExactly, FieldExactly}
-use Rattle.run.proofs.Bytes.{fields-ok}
+use Rattle.run.proofs.Bytes.{fields-ok, reason-no-step}
 use Rattle.run.proofs.Answers.{Answered, answered, long-run, valid-run, complete-empty}
 use Rattle.run.proofs.Unique.{one-refusal}
 
@@ -49,7 +47,7 @@ own : {p : List ℕ} {a : Answer} → Answered p a → Answers p a
 unfolding answerOf
 own (Answered.through h steps) = Answers.done (record { short = h; steps = steps }) (complete-empty (Answered.through h steps))
 own (Answered.refused h k before r) =
-    Answers.refused h (record { within = k; before = before; no-step = r .no-step; reason = r .reason; least = r .least }) (complete-empty (Answered.refused h k before r))
+    Answers.refused h (record { within = k; before = before; no-step = reason-no-step (r .reason); first = r }) (complete-empty (Answered.refused h k before r))
 own (Answered.too-long h) = Answers.too-long h
 
 one : {p : List ℕ} {a : Answer} → Answers p a → runOf p ≡ a

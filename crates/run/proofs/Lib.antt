@@ -5,8 +5,9 @@ pub mod Arms
 pub mod Turns
 pub mod Alone
 pub mod Premises
+pub mod Refusals
 pub mod Sound
-pub mod Least
+pub mod Earliest
 pub mod Bytes
 pub mod Runs
 pub mod Answers

@@ -15,9 +15,13 @@ flip true m n = refl
 flip false m n = refl
 
 module _ (r : Racking) (c : Carrier) where
-  pub parked-is : (z : Slot) → parkedNo (lookOf r c) z ≡ cond (eqb (c .active) 0) 7 (cond (eqZ (c .slot .0) (z .0)) 0 8)
+  pub parked-is : (z : Slot) → parkedNo (lookOf r c .active) (lookOf r c .slot) z ≡ cond (eqb (c .active) 0) 7 (cond (eqZ (c .slot .0) (z .0)) 0 8)
   unfolding parkedNo lookOf
   parked-is z = flip (eqb (c .active) 0) (cond (eqZ (c .slot .0) (z .0)) 0 8) 7
+
+  pub parked-seen : (z : Slot) → parkedNo (not (eqb (c .active) 0)) (c .slot) z ≡ parkedNo (lookOf r c .active) (lookOf r c .slot) z
+  unfolding lookOf
+  parked-seen z = refl
 
   pub float-is : (z : Column) → floatNo (lookOf r c) z ≡ cond (eqb (c .side) 0) 0 (cond (withinFloat (columnOf (c .needle) r) z) 0 9)
   unfolding floatNo lookOf

@@ -36,12 +36,6 @@ or-next a b e = simp e
 pub or-first : (a b : ℕ) → (a ≡ 0 → ⊥) → orNumber a b ≡ a
 or-first a b h = simp (ne-eqb a 0 h)
 
-pub or-le : (a b m : ℕ) → a ≤ m → b ≤ m → orNumber a b ≤ m
-or-le a b m h i = cond-cases (λ (n : ℕ). n ≤ m) (eqb a 0) (λ t. i) (λ t. h)
-
-pub or-some : (a b : ℕ) → (b ≡ 0 → ⊥) → orNumber a b ≡ 0 → ⊥
-or-some a b h = cond-cases (λ (n : ℕ). n ≡ 0 → ⊥) (eqb a 0) (λ t. h) (λ t. eqb-false a 0 t)
-
 -- ---- each test of the step, by its premise
 slot-same : (a b : Slot) → a .0 ≡ b .0 → a ≡ b
 slot-same a b e = ap {B = Slot} (λ (z : ℤ). record { 0 = z }) e
@@ -51,13 +45,13 @@ column-same a b e = ap {B = Column} (λ (z : ℤ). record { 0 = z }) e
 
 -- what a carrier answers: 0 and its premise, or a number and why
 module _ (r : Racking) (c : Carrier) where
-  pub parked-zero : (z : Slot) → ParkedAt c z → parkedNo (lookOf r c) z ≡ 0
+  pub parked-zero : (z : Slot) → ParkedAt c z → parkedNo (lookOf r c .active) (lookOf r c .slot) z ≡ 0
   parked-zero z p = parked-is r c z ∙ simp (ne-eqb (c .active) 0 (p .active), eqZ-yes (c .slot .0) (z .0) (ap (λ (y : Slot). y .0) (p .here)))
 
-  pub parked-off : (z : Slot) → Inactive c → parkedNo (lookOf r c) z ≡ 7
+  pub parked-off : (z : Slot) → Inactive c → parkedNo (lookOf r c .active) (lookOf r c .slot) z ≡ 7
   parked-off z e = parked-is r c z ∙ simp (eq-eqb (c .active) 0 e)
 
-  pub parked-elsewhere : (z : Slot) → Active c → (c .slot ≡ z → ⊥) → parkedNo (lookOf r c) z ≡ 8
+  pub parked-elsewhere : (z : Slot) → Active c → (c .slot ≡ z → ⊥) → parkedNo (lookOf r c .active) (lookOf r c .slot) z ≡ 8
   parked-elsewhere z a h = parked-is r c z ∙ simp (ne-eqb (c .active) 0 a, eqZ-no (c .slot .0) (z .0) (λ e. h (slot-same (c .slot) z e)))
 
   pub parked-cases : (z : Slot) {G : Type 0} → (Inactive c → G) → (Active c → (c .slot ≡ z → ⊥) → G) → (ParkedAt c z → G) → G
@@ -65,11 +59,6 @@ module _ (r : Racking) (c : Carrier) where
       is (c .active) 0 f
       (λ a. cases (eqZ (c .slot .0) (z .0)) (λ t. k (record { active = a; here = slot-same (c .slot) z (eqZ-true (c .slot .0) (z .0) t) }))
       (λ t. g a (λ e. eqZ-false (c .slot .0) (z .0) t (ap (λ (y : Slot). y .0) e))))
-
-  pub parked-le : (z : Slot) → parkedNo (lookOf r c) z ≤ 8
-  parked-le z =
-      rw (parked-is r c z) (cond-cases (λ (n : ℕ). n ≤ 8) (eqb (c .active) 0) (λ t. omega arith)
-      (λ t. cond-cases (λ (n : ℕ). n ≤ 8) (eqZ (c .slot .0) (z .0)) (λ u. omega arith) (λ u. omega arith)))
 
   abbrev inNo : ℕ
   inNo = cond (lookOf r c .active) 6 0
@@ -99,11 +88,6 @@ module _ (r : Racking) (c : Carrier) where
     float-cases f g =
         is (c .side) 0 (λ e. g (λ a. absurd (a e)))
         (λ a. cases (leb far 20) (λ t. g (λ b. leb-true far 20 t)) (λ t. f a (leb-false far 20 t)))
-
-    pub float-le : floatNo (lookOf r c) z ≤ 9
-    float-le =
-        rw float-at (cond-cases (λ (n : ℕ). n ≤ 9) (eqb (c .side) 0) (λ t. omega arith)
-        (λ t. cond-cases (λ (n : ℕ). n ≤ 9) (leb far 20) (λ u. omega arith) (λ u. omega arith)))
 
 -- 11 or 0, and 10 before it
 pub tuck-zero : (n : ℕ) → Room (n + 1) → tuckNo n ≡ 0
@@ -151,12 +135,3 @@ module _ (s : State) (x : Record) where
   pub move-apart : (Opposite s x → ⊥) → moveNo ≡ 10
   unfolding transferNo
   move-apart h = simp (same-no h)
-
-  pub move-some : 8 < sum → moveNo ≡ 0 → ⊥
-  move-some h e = opposite-cases (λ o. omega (arith, move-full o h)) (λ o. omega (arith, move-apart o))
-
-  pub move-le : moveNo ≤ 11
-  unfolding transferNo
-  move-le =
-      cond-cases (λ (n : ℕ). n ≤ 11) (sameColumn (columnOf (x .at) (s .racking)) (columnOf (x .to) (s .racking)))
-      (λ t. cond-cases (λ (n : ℕ). n ≤ 11) (leb sum 8) (λ u. omega arith) (λ u. omega arith)) (λ t. omega arith)

@@ -12,12 +12,13 @@ use Rattle.record.specs.Format.{Encodes, decodeOf}
 use Rattle.record.proofs.Forms.{form-decode, form-in, decode-size, decode-form, decode-in}
 use Rattle.run.specs.declared.Reached.{Reached}
 use Rattle.run.specs.Relation.{Step, Steps}
+use Rattle.run.specs.Reason.{First}
 use Rattle.run.specs.Step.{numberAt, applyOf}
 use Rattle.run.specs.Run.{reached, runFrom}
 use Rattle.run.proofs.Turns.{run-end, run-refused, run-stopped, run-next}
 use Rattle.run.proofs.Premises.{is}
 use Rattle.run.proofs.Sound.{step-only, step-sound}
-use Rattle.run.proofs.Bytes.{Refusal, bytes-refusal, step-refusal}
+use Rattle.run.proofs.Bytes.{bytes-first, step-first}
 
 -- what becomes of a list with a byte: refused by its bytes, refused by its step, or gone on with
 pub data Turns (l : List ℕ) (at : ℕ) (s : State) : Reached → Type 0 where
@@ -50,7 +51,7 @@ run-steps (Steps.next {bytes = bytes} {rest = rest} form step more) at = on-form
 -- ---- every run ends so or stops at a refusal
 pub data Ends (p : List ℕ) (at : ℕ) (s : State) : Reached → Type 0 where
   through : {t : State} → Steps s p t → Ends p at s (reached 0 0 t)
-  refused : {n place k : ℕ} {t : State} → place ≡ at + k → k < length p → Steps s (take k p) t → Refusal n t (drop k p) → Ends p at s (reached n place t)
+  refused : {n place k : ℕ} {t : State} → place ≡ at + k → k < length p → Steps s (take k p) t → First n t (drop k p) → Ends p at s (reached n place t)
 
 module _ (p : List ℕ) (at : ℕ) (s : State) (e : decodeOf p .number ≡ 0) (z : numberAt s (decodeOf p .what) ≡ 0) where
   abbrev size : ℕ
@@ -63,15 +64,15 @@ module _ (p : List ℕ) (at : ℕ) (s : State) (e : decodeOf p .number ≡ 0) (z
       let (a, b) = decode-size p e in
       Ends.refused {place = place} {k = size + k} (omega arith) (omega (arith, length-drop size p))
       (subst (λ (l : List ℕ). Steps s l t) (sym (take-add size k p)) (Steps.next (decode-form p e) (step-sound s (decodeOf p .what) (decode-in p e) z) before))
-      (subst (Refusal n t) (drop-drop k size p) r)
+      (subst (First n t) (drop-drop k size p) r)
 
 next : (b : ℕ) (l : List ℕ) (at : ℕ) (s : State)
     → ((q : List ℕ) → length q ≤ length l → (at : ℕ) (s : State) → Ends q at s (runFrom 0 q at s)) → Ends (b ∷ l) at s (runFrom 0 (b ∷ l) at s)
 next b l at s more = go (turns b l at s)
   where
     go : {r : Reached} → Turns (b ∷ l) at s r → Ends (b ∷ l) at s r
-    go (Turns.unread h) = Ends.refused {place = at} {k = 0} (omega arith) (omega arith) Steps.none (bytes-refusal s (b ∷ l) h)
-    go (Turns.stopped e h) = Ends.refused {place = at} {k = 0} (omega arith) (omega arith) Steps.none (step-refusal s (b ∷ l) e h)
+    go (Turns.unread h) = Ends.refused {place = at} {k = 0} (omega arith) (omega arith) Steps.none (bytes-first s (b ∷ l) h)
+    go (Turns.stopped e h) = Ends.refused {place = at} {k = 0} (omega arith) (omega arith) Steps.none (step-first s (b ∷ l) e h)
     go (Turns.passed e z) =
         go-on (b ∷ l) at s e z
         (more (drop (decodeOf (b ∷ l) .size) (b ∷ l)) (omega (arith, length-drop (decodeOf (b ∷ l) .size) (b ∷ l), decode-size (b ∷ l) e)) _ _)

@@ -1,7 +1,7 @@
 -- The step as code makes it against the relation: 0 exactly where the relation has a step, else the number of a reason that holds. Assumes nothing.
 use borrow.Table.Steps.{cases}
 use Prim.Native.Nat.{ℕ, _+_, _≤_, _<_}
-use mathlib.Core.Path.{_≡_, _∙_}
+use mathlib.Core.Path.{_≡_, refl, _∙_}
 use mathlib.Core.Bool.{cond}
 use native.Mathlib.Omega.{arith}
 use lib.Dec.{eqb, leb}
@@ -16,16 +16,17 @@ use Rattle.record.specs.Names.{needleCount}
 use Rattle.record.proofs.Ranges.{InRange}
 use Rattle.run.specs.Relation.{Inactive, ParkedAt, FloatInReach, Opposite, Room, Step, entrySlot, exitSlot}
 use Rattle.run.specs.Reason.{NotOpposite, HookFull, RecordReason}
-use Rattle.run.specs.Step.{orNumber, parkedNo, floatNo, numberAt, applyOf}
+use Rattle.run.specs.Step.{orNumber, floatNo, numberAt, applyOf}
 use Rattle.run.specs.Loops.{tuckNo}
-use Rattle.run.proofs.ByKind.{seen, readyNo, rack-number, rack-state, drop-number, drop-state, xfer-number, xfer-state, in-number, in-state, out-number, out-state}
+use Rattle.run.proofs.ByKind.{seen, slotNo, readyNo, rack-number, rack-state, drop-number, drop-state, xfer-number, xfer-state, in-number, in-state, out-number, out-state}
 use Rattle.run.proofs.ByKind.{miss-number, miss-state, tuck-number, tuck-state, knit-number, knit-state, split-number, split-state, split-said}
 use Rattle.run.proofs.Premises.{is, up, or-next, or-first, parked-zero, parked-off, parked-elsewhere, parked-cases, in-zero, in-six}
 use Rattle.run.proofs.Premises.{float-zero, float-over, float-cases, tuck-zero, tuck-full, carrier, sum, moveNo, opposite-cases, move-zero, move-full, move-apart}
+use Rattle.run.proofs.Refusals.{record-other}
 
 -- ---- a step of the relation is the code's
 module _ (s : State) (x : Record) where
-  parked-here : (z : Slot) → ParkedAt (carrier s x) z → parkedNo (seen s x) z ≡ 0
+  parked-here : (z : Slot) → ParkedAt (carrier s x) z → slotNo s x z ≡ 0
   parked-here z p = parked-zero (s .racking) (carrier s x) z p
 
   ready-zero : ParkedAt (carrier s x) (entrySlot s x) → FloatInReach s x → readyNo s x ≡ 0
@@ -52,19 +53,11 @@ data Judged (s : State) (x : Record) (P : Type 0) (n : ℕ) : Type 0 where
   fine : n ≡ 0 → P → Judged s x P n
   refused : RecordReason n s x → Judged s x P n
 
-pub reason-above : {n : ℕ} {s : State} {x : Record} → RecordReason n s x → 6 ≤ n
-reason-above (RecordReason.already-in e a) = omega arith
-reason-above (RecordReason.not-in e a) = omega arith
-reason-above (RecordReason.wrong-slot e a) = omega arith
-reason-above (RecordReason.float-too-long e a) = omega arith
-reason-above (RecordReason.not-opposite e a) = omega arith
-reason-above (RecordReason.hook-full e a) = omega arith
-
 module _ {s : State} {x : Record} where
   both : {P Q : Type 0} {a b : ℕ} → Judged s x P a → Judged s x Q b → Judged s x (P × Q) (orNumber a b)
   both {a = a} {b = b} (Judged.fine e p) (Judged.fine d q) = Judged.fine (or-next a b e ∙ d) (p, q)
   both {a = a} {b = b} (Judged.fine e p) (Judged.refused q) = Judged.refused (rw (or-next a b e) q)
-  both {a = a} {b = b} (Judged.refused p) q = Judged.refused (rw (or-first a b (λ e. omega (arith, reason-above p))) p)
+  both {a = a} {b = b} (Judged.refused p) q = Judged.refused (rw (or-first a b (record-other p 0 refl)) p)
 
   -- a number that is the same, and the step of its premises
   stepped : {P : Type 0} {n m : ℕ} {t u : State} → m ≡ n → u ≡ t → (P → Step s x t) → Judged s x P n → Judged s x (Step s x u) m
@@ -77,7 +70,7 @@ module _ (s : State) (x : Record) where
       is (carrier s x .active) 0 (λ c. Judged.fine (in-zero (s .racking) (carrier s x) c) c)
       (λ a. Judged.refused (RecordReason.already-in (in-six (s .racking) (carrier s x) a) (record { kind = e; active = a })))
 
-  parked-judged : (z : Slot) → 5 ≤ x .kind → cond (eqb (x .kind) 5) (exitSlot s x) (entrySlot s x) ≡ z → Judged s x (ParkedAt (carrier s x) z) (parkedNo (seen s x) z)
+  parked-judged : (z : Slot) → 5 ≤ x .kind → cond (eqb (x .kind) 5) (exitSlot s x) (entrySlot s x) ≡ z → Judged s x (ParkedAt (carrier s x) z) (slotNo s x z)
   parked-judged z k e =
       parked-cases (s .racking) (carrier s x) z
       (λ c. Judged.refused (RecordReason.not-in (parked-off (s .racking) (carrier s x) z c) (record { kind = k; carrier-off = c })))
@@ -130,7 +123,7 @@ module _ (s : State) (x : Record) where
     where
       go : Judged s x (Step s x (applyOf s x)) (numberAt s x) → Step s x (applyOf s x)
       go (Judged.fine e p) = p
-      go (Judged.refused r) = absurd (omega (arith, reason-above r))
+      go (Judged.refused r) = absurd (record-other r 0 refl z)
 
   pub number-reason : InRange x → (numberAt s x ≡ 0 → ⊥) → RecordReason (numberAt s x) s x
   number-reason f h = go (judged f)

@@ -1,13 +1,10 @@
 -- Whatever is a first refusal of a program is the run's. Assumes nothing.
-use borrow.Table.Steps.{cases}
 use Prim.Native.Nat.{ℕ, _+_, _≤_, _<_}
 use mathlib.Core.Path.{_≡_, sym, ap, _∙_}
 use mathlib.Core.List.{List, [], _∷_, _++_, append-assoc}
 use native.Mathlib.Omega.{arith}
-use lib.Dec.{ltb}
 use lib.ListN.{length, take, drop, length-append, length-drop, take-append-drop}
 use lib.Seq.{length-take-le}
-use borrow.Author.Tests.{ltb-true, ltb-false}
 use Rattle.machine.specs.declared.State.{State}
 use Rattle.machine.specs.Machine.{emptyState}
 use Rattle.record.specs.Format.{decodeOf}
@@ -15,11 +12,13 @@ use Rattle.record.proofs.Forms.{decode-form, decode-in}
 use Rattle.run.specs.declared.Reached.{Reached}
 use Rattle.run.specs.declared.Answer.{Answer}
 use Rattle.run.specs.Relation.{Steps}
+use Rattle.run.specs.Reason.{First}
 use Rattle.run.specs.Step.{applyOf}
 use Rattle.run.specs.Run.{reached, runFrom, answerOf, runOf}
 use Rattle.run.specs.Claims.{FirstRefusal}
+use Rattle.run.proofs.Refusals.{first-is-one}
 use Rattle.run.proofs.Sound.{step-sound}
-use Rattle.run.proofs.Bytes.{Refusal, bytes-refusal, step-refusal}
+use Rattle.run.proofs.Bytes.{bytes-first, step-first, reason-no-step}
 use Rattle.run.proofs.Runs.{Turns, turns, on-form}
 use Rattle.run.proofs.Answers.{short-run}
 
@@ -31,23 +30,16 @@ run-prefix {s} {t} (Steps.next {bytes = bytes} {rest = rest} form step more) r a
     ap (λ (l : List ℕ). runFrom 0 l at s) (append-assoc bytes rest r)
     ∙ on-form form step (rest ++ r) at ∙ run-prefix more r (at + length bytes) ∙ ap (λ (n : ℕ). runFrom 0 r n t) e
 
--- the least reason is one
-pub same-number : {n m : ℕ} {s : State} {l : List ℕ} → Refusal n s l → Refusal m s l → n ≡ m
-same-number {n} {m} a b =
-    cases (ltb n m) (λ t. absurd (b .least n (ltb-true n m t) (a .reason)))
-    (λ t. cases (ltb m n) (λ u. absurd (a .least m (ltb-true m n u) (b .reason)))
-    (λ u. omega (arith, ltb-false n m t, ltb-false m n u)))
-
-stops-there : (l : List ℕ) (at n : ℕ) (s : State) → 0 < length l → Refusal n s l → runFrom 0 l at s ≡ reached n at s
+stops-there : (l : List ℕ) (at n : ℕ) (s : State) → 0 < length l → First n s l → runFrom 0 l at s ≡ reached n at s
 stops-there [] at n s h r = absurd (omega arith)
 stops-there (b ∷ l) at n s h r = go (turns b l at s)
   where
     go : {a : Reached} → Turns (b ∷ l) at s a → a ≡ reached n at s
-    go (Turns.unread k) = ap (λ (m : ℕ). reached m at s) (same-number (bytes-refusal s (b ∷ l) k) r)
-    go (Turns.stopped e k) = ap (λ (m : ℕ). reached m at s) (same-number (step-refusal s (b ∷ l) e k) r)
+    go (Turns.unread k) = ap (λ (m : ℕ). reached m at s) (first-is-one (bytes-first s (b ∷ l) k) r)
+    go (Turns.stopped e k) = ap (λ (m : ℕ). reached m at s) (first-is-one (step-first s (b ∷ l) e k) r)
     go (Turns.passed e z) =
         let d = decodeOf (b ∷ l) in
-        absurd (r .no-step (take (d .size) (b ∷ l)) (drop (d .size) (b ∷ l)) (d .what) (applyOf s (d .what))
+        absurd (reason-no-step (r .reason) (take (d .size) (b ∷ l)) (drop (d .size) (b ∷ l)) (d .what) (applyOf s (d .what))
         (sym (take-append-drop (d .size) (b ∷ l))) (decode-form (b ∷ l) e) (step-sound s (d .what) (decode-in (b ∷ l) e) z))
 
 pub one-refusal : (p : List ℕ) (a : Answer) → length p ≤ 32768 → FirstRefusal p a → runOf p ≡ answerOf (reached (a .number) (a .place) (a .state))
@@ -59,4 +51,4 @@ one-refusal p a h f =
     (ap (λ (l : List ℕ). runFrom 0 l 0 emptyState) (sym (take-append-drop k p))
     ∙ run-prefix (f .before) (drop k p) 0
     ∙ ap (λ (n : ℕ). runFrom 0 (drop k p) n (a .state)) e
-    ∙ stops-there (drop k p) k (a .number) (a .state) (omega (arith, length-drop k p, f .within)) (record { no-step = f .no-step; reason = f .reason; least = f .least }))
+    ∙ stops-there (drop k p) k (a .number) (a .state) (omega (arith, length-drop k p, f .within)) (f .first))

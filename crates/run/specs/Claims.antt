@@ -15,7 +15,7 @@ use Rattle.run.specs.declared.Answer.{Answer}
 use Rattle.run.specs.declared.Reached.{Reached}
 use Rattle.run.specs.declared.Stepped.{Stepped}
 use Rattle.run.specs.Relation.{Step, Steps, Valid}
-use Rattle.run.specs.Reason.{Whole, fieldsOk, Reason}
+use Rattle.run.specs.Reason.{Whole, fieldsOk, Reason, First}
 use Rattle.run.specs.Run.{reached, runOf, stay, stepOf, answerOf}
 
 -- ---- the run in one statement
@@ -30,9 +30,7 @@ pub record FirstRefusal (p : List ℕ) (a : Answer) : Type 0 where
   -- the records before it have their steps, and the state is the one they end in
   pub before : Steps emptyState (take (a .place) p) (a .state)
   pub no-step : NoStep (a .state) (drop (a .place) p)
-  -- the number's reason holds there, and no reason of a smaller number does
-  pub reason : Reason (a .number) (a .state) (drop (a .place) p)
-  pub least : (m : ℕ) → m < a .number → Reason m (a .state) (drop (a .place) p) → ⊥
+  pub first : First (a .number) (a .state) (drop (a .place) p)
 
 -- 'whether that state is the empty one (complete)'
 abbrev pub Complete : Bool → State → Type 0
@@ -118,13 +116,12 @@ StepGives =
     (s : State) (bytes rest : List ℕ) (x : Record) (t : State) → Encodes bytes x → Step s x t
     → stepOf s (bytes ++ rest) ≡ record { number = 0; length = length bytes; state = t }
 
--- otherwise it gives the least reason, length 0 and the same state
+-- otherwise it gives the first reason, length 0 and the same state
 pub record StepRefusal (s : State) (l : List ℕ) (a : Stepped) : Type 0 where
   pub length : a .length ≡ 0
   pub state : a .state ≡ s
   pub no-step : NoStep s l
-  pub reason : Reason (a .number) s l
-  pub least : (m : ℕ) → m < a .number → Reason m s l → ⊥
+  pub first : First (a .number) s l
 
 abbrev pub StepRefuses : Type 0
 StepRefuses = (s : State) (l : List ℕ) → (stepOf s l .number ≡ 0 → ⊥) → StepRefusal s l (stepOf s l)

@@ -1,12 +1,12 @@
--- Why a record has no step: the rows 3 to 11 of document 01's table, each said by itself.
+-- Why a record has no step: the rows 3 to 11 of document 01's table, each said by itself, and which of them is the first.
 use Prim.Native.Nat.{ℕ, _+_, _≤_, _<_}
 use mathlib.Core.Path.{_≡_}
 use mathlib.Core.Bool.{Bool, false, _&&_, cond}
-use mathlib.Core.List.{List, _++_}
+use mathlib.Core.List.{List, [], _∷_, _++_}
 use lib.Dec.{eqb}
 use lib.ListN.{length}
 use Rattle.machine.specs.declared.State.{State}
-use Rattle.machine.specs.Machine.{loopsOn, carrierOf}
+use Rattle.machine.specs.Machine.{loopsOn, carrierOf, Each}
 use Rattle.machine.specs.Range.{numberOk}
 use Rattle.record.specs.declared.Record.{Record}
 use Rattle.record.specs.Format.{Encodes, sizeOf, byte, rackOk, needleOk, workOk}
@@ -90,3 +90,16 @@ pub data Reason (n : ℕ) (s : State) (l : List ℕ) : Type 0 where
   cut-short : n ≡ 4 → CutShort l → Reason n s l
   field-range : n ≡ 5 → FieldRange l → Reason n s l
   of-record : (bytes rest : List ℕ) (x : Record) → l ≡ bytes ++ rest → Encodes bytes x → RecordReason n s x → Reason n s l
+
+-- ---- the first reason that holds
+-- 'Order: 15, 1, 2; then each record 3 to 11 by number': the refusals of a record, in the order in which they are looked at
+abbrev pub refusals : List ℕ
+refusals = 3 ∷ 4 ∷ 5 ∷ 6 ∷ 7 ∷ 8 ∷ 9 ∷ 10 ∷ 11 ∷ []
+
+-- of the list the number n is the first whose reason holds: none that stands earlier does
+pub record First (n : ℕ) (s : State) (l : List ℕ) : Type 0 where
+  pub earlier : List ℕ
+  pub later : List ℕ
+  pub order : refusals ≡ earlier ++ n ∷ later
+  pub reason : Reason n s l
+  pub none : Each (λ (m : ℕ). Reason m s l → ⊥) earlier

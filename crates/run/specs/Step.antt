@@ -41,8 +41,8 @@ abbrev pub orNumber : ℕ → ℕ → ℕ
 orNumber a b = cond (eqb a 0) b a
 
 -- 7 and 8: parked at a slot
-unfoldable pub parkedNo : Look → Slot → ℕ
-parkedNo c z = cond (c .active) (cond (eqZ (c .slot .0) (z .0)) 0 8) 7
+unfoldable pub parkedNo : Bool → Slot → Slot → ℕ
+parkedNo active here z = cond active (cond (eqZ (here .0) (z .0)) 0 8) 7
 
 -- 9: a float to a column
 unfoldable pub floatNo : Look → Column → ℕ
@@ -53,9 +53,9 @@ abbrev pub askedNo : ℕ → Needle → Bool → Racking → Look → ℕ
 askedNo kind n right r c =
     cond (leb kind 3) 0
     (cond (eqb kind 4) (cond (c .active) 6 0)
-    (cond (eqb kind 5) (parkedNo c (exitOf (columnOf n r) right))
-    (cond (eqb kind 6) (parkedNo c (entryOf (columnOf n r) right))
-    (orNumber (parkedNo c (entryOf (columnOf n r) right)) (floatNo c (columnOf n r))))))
+    (cond (eqb kind 5) (parkedNo (c .active) (c .slot) (exitOf (columnOf n r) right))
+    (cond (eqb kind 6) (parkedNo (c .active) (c .slot) (entryOf (columnOf n r) right))
+    (orNumber (parkedNo (c .active) (c .slot) (entryOf (columnOf n r) right)) (floatNo c (columnOf n r))))))
 
 unfoldable pub carrierNo : Record → Racking → Look → ℕ
 carrierNo x r c = askedNo (x .kind) (x .at) (x .right) r c
@@ -75,8 +75,8 @@ secondAfter kind here there = cond (eqb (needleCount kind) 2) (here + there) 0
 unfoldable pub roomNo : ℕ → ℕ → ℕ → ℕ
 roomNo kind here there = cond (leb (firstAfter kind here) 8) (cond (leb (secondAfter kind here there) 8) 0 11) 11
 
-unfoldable pub numberOf : Record → Seen → ℕ
-numberOf x s = orNumber (carrierNo x (s .racking) (s .look)) (orNumber (oppositeNo x (s .racking)) (roomNo (x .kind) (s .here) (s .there)))
+unfoldable pub decidedNo : Record → Seen → ℕ
+decidedNo x s = orNumber (carrierNo x (s .racking) (s .look)) (orNumber (oppositeNo x (s .racking)) (roomNo (x .kind) (s .here) (s .there)))
 
 -- ---- apply: edits at listed places
 module _ {A W : Type 0} (act : W → A → A) (d : A) where
@@ -118,7 +118,7 @@ rackingAfter x r = cond (leb (x .kind) 1) (x .racking) r
 
 -- ---- the step of a record: its number, and the state after it where that is 0
 unfoldable pub numberAt : State → Record → ℕ
-numberAt s x = numberOf x (seeOf s x)
+numberAt s x = decidedNo x (seeOf s x)
 
 unfoldable pub applyOf : State → Record → State
 applyOf s x =

@@ -3,7 +3,7 @@ ghost use mathlib.Core.Path.{_≡_};
 ghost use Prim.Native.Nat.{_≤_, _<_};
 ghost use lib.ListN.{getD, set};
 ghost use lib.Dec.{eqb};
-ghost use mathlib.Core.Bool.{cond};
+ghost use mathlib.Core.Bool.{not, cond};
 ghost use Rattle.machine.specs.Machine.{OnBed, hookOf, inactive, emptyState};
 ghost use Rattle.machine.specs.Geometry.{columnOf, entryOf, exitOf};
 ghost use Rattle.run.specs.Relation.{unattached, reparked, attached};
@@ -61,9 +61,9 @@ pub const NOT_OPPOSITE: u8 = 10;
 
 pub const HOOK_FULL: u8 = 11;
 
-// Whether the carrier is parked at the slot: 0, or 7 or 8. (The racking is for the contract alone.)
-fn parked(c: Carrier, z: Slot, r: Racking) -> u8
-    ensures { λ n. ⌜ n ≡ parkedNo (lookOf r c) z ⌝ }
+// Whether the carrier is parked at the slot: 0, or 7 or 8.
+fn parked(c: Carrier, z: Slot) -> u8
+    ensures { λ n. ⌜ n ≡ parkedNo (not (eqb (c .active) 0)) (c .slot) z ⌝ }
 {
     if c.active == 0 {
         return NOT_IN;
@@ -75,9 +75,9 @@ fn parked(c: Carrier, z: Slot, r: Racking) -> u8
 // Whether the carrier can form a loop at the needle: 0, or 7 to 9.
 fn ready(c: Carrier, n: Needle, r: Racking, right: bool) -> u8
     requires { ⌜ OnBed n ⌝ }
-    ensures { λ k. ⌜ k ≡ orNumber (parkedNo (lookOf r c) (entryOf (columnOf n r) right)) (floatNo (lookOf r c) (columnOf n r)) ⌝ }
+    ensures { λ k. ⌜ k ≡ orNumber (parkedNo (lookOf r c .active) (lookOf r c .slot) (entryOf (columnOf n r) right)) (floatNo (lookOf r c) (columnOf n r)) ⌝ }
 {
-    let number = parked(c, n.entry(r, right), r);
+    let number = parked(c, n.entry(r, right));
     if number != 0 {
         return number;
     }
@@ -102,9 +102,9 @@ fn asked(kind: u8, n: Needle, right: bool, c: Carrier, r: Racking) -> u8
         // in
         4 => { if c.active == 0 { 0 } else { ALREADY_IN } }
         // out
-        5 => parked(c, n.exit(r, right), r),
+        5 => parked(c, n.exit(r, right)),
         // miss
-        6 => parked(c, n.entry(r, right), r),
+        6 => parked(c, n.entry(r, right)),
         // tuck, knit, split
         7..=9 => ready(c, n, r, right),
         _ => 0,

@@ -3,12 +3,14 @@ use borrow.Author.Needs.{needs}
 use borrow.Author.Tests.{ne-eqb, le-leb, lt-leb}
 use native.Mathlib.Omega.{arith}
 use mathlib.Core.Path.{_≡_, sym, ap, _∙_}
-use mathlib.Core.Bool.{cond}
+use mathlib.Core.Bool.{not, cond}
 use Prim.Native.Nat.{ℕ, _≤_}
+use lib.Dec.{eqb}
 use Rattle.machine.specs.declared.Column.{Column}
 use Rattle.machine.specs.declared.Slot.{Slot}
 use Rattle.machine.specs.Geometry.{columnOf, entryOf, exitOf}
 use Rattle.run.specs.Step.{Look, orNumber, parkedNo, floatNo, lookOf, askedNo}
+use Rattle.run.proofs.Looks.{parked-seen}
 use Rattle.run.proofs.Premises.{in-zero, in-six}
 use Rattle.run.proofs.asked.Statement.{statement}
 use Rattle.run.proofs.asked.Tie as tie
@@ -27,16 +29,20 @@ module _ (b : tie.Start) where
   abbrev said : ℕ
   said = askedNo k (b .args .n) (b .args .right) (b .args .r) look
 
+  -- as `parked` answers
+  abbrev parks : Slot → ℕ
+  parks s = parkedNo (not (eqb (b .args .c .active) 0)) (b .args .c .slot) s
+
   of-in : k ≡ 4 → said ≡ cond (look .active) 6 0
   of-in e = simp e
 
-  of-out : k ≡ 5 → {s : Slot} → s ≡ exitOf z (b .args .right) → parkedNo look s ≡ said
-  of-out e p = ap (parkedNo look) p ∙ sym (simp e)
+  of-out : k ≡ 5 → {s : Slot} → s ≡ exitOf z (b .args .right) → parks s ≡ said
+  of-out e {s} p = parked-seen (b .args .r) (b .args .c) s ∙ ap (parkedNo (look .active) (look .slot)) p ∙ sym (simp e)
 
-  of-miss : k ≡ 6 → {s : Slot} → s ≡ entryOf z (b .args .right) → parkedNo look s ≡ said
-  of-miss e p = ap (parkedNo look) p ∙ sym (simp e)
+  of-miss : k ≡ 6 → {s : Slot} → s ≡ entryOf z (b .args .right) → parks s ≡ said
+  of-miss e {s} p = parked-seen (b .args .r) (b .args .c) s ∙ ap (parkedNo (look .active) (look .slot)) p ∙ sym (simp e)
 
-  of-rest : 7 ≤ k → said ≡ orNumber (parkedNo look (entryOf z (b .args .right))) (floatNo look z)
+  of-rest : 7 ≤ k → said ≡ orNumber (parkedNo (look .active) (look .slot) (entryOf z (b .args .right))) (floatNo look z)
   of-rest h = simp (lt-leb k 3 (omega arith), ne-eqb k 4 (λ e. omega arith), ne-eqb k 5 (λ e. omega arith), ne-eqb k 6 (λ e. omega arith))
 
   of-none : k ≤ 6 → (k ≡ 4 → ⊥) → (k ≡ 5 → ⊥) → (k ≡ 6 → ⊥) → said ≡ 0

@@ -3,33 +3,43 @@ use borrow.Author.Needs.{needs}
 use borrow.Author.Tests.{eq-eqb, ne-eqb}
 use mathlib.Core.Path.{_≡_, sym, ap, _∙_}
 use Prim.Native.Nat.{ℕ}
-use mathlib.Core.Bool.{true, false}
+use mathlib.Core.Bool.{true, false, not}
+use lib.Dec.{eqb}
 use Rattle.machine.specs.declared.Carrier.{Carrier}
 use Rattle.machine.specs.declared.Column.{Column}
 use Rattle.machine.specs.declared.Slot.{Slot}
 use Rattle.machine.specs.declared.Racking.{Racking}
 use Rattle.machine.specs.Geometry.{columnOf, withinFloat}
 use Rattle.run.specs.Step.{orNumber, lookOf, parkedNo, floatNo}
-use Rattle.run.proofs.Looks.{float-is}
+use Rattle.run.proofs.Looks.{parked-seen, float-is}
 use Rattle.run.proofs.ready.Statement.{statement}
 use Rattle.run.proofs.ready.Tie as tie
 
-module _ (d : Carrier) (s : Slot) (r : Racking) (z : Column) (k : ℕ) (is : k ≡ parkedNo (lookOf r d) s) where
-  refused : (k ≡ 0 → ⊥) → k ≡ orNumber (parkedNo (lookOf r d) s) (floatNo (lookOf r d) z)
-  refused h = simp (← is, ne-eqb k 0 h)
+module _ (d : Carrier) (s : Slot) (r : Racking) (z : Column) (k : ℕ) (is : k ≡ parkedNo (not (eqb (d .active) 0)) (d .slot) s) where
+  abbrev parks : ℕ
+  parks = parkedNo (lookOf r d .active) (lookOf r d .slot) s
+
+  abbrev floats : ℕ
+  floats = floatNo (lookOf r d) z
+
+  seen : k ≡ parks
+  seen = is ∙ parked-seen r d s
+
+  refused : (k ≡ 0 → ⊥) → k ≡ orNumber parks floats
+  refused h = simp (← seen, ne-eqb k 0 h)
 
   module _ (h : k ≡ 0) where
-    past : (n : ℕ) → floatNo (lookOf r d) z ≡ n → n ≡ orNumber (parkedNo (lookOf r d) s) (floatNo (lookOf r d) z)
-    past n e = sym (simp (← is, eq-eqb k 0 h) e)
+    past : (n : ℕ) → floats ≡ n → n ≡ orNumber parks floats
+    past n e = sym (simp (← seen, eq-eqb k 0 h) e)
 
-    free : d .side ≡ 0 → 0 ≡ orNumber (parkedNo (lookOf r d) s) (floatNo (lookOf r d) z)
+    free : d .side ≡ 0 → 0 ≡ orNumber parks floats
     free e = past 0 (float-is r d z ∙ simp (eq-eqb _ _ e))
 
     module _ (e : d .side ≡ 0 → ⊥) where
-      near : withinFloat (columnOf (d .needle) r) z ≡ true → 0 ≡ orNumber (parkedNo (lookOf r d) s) (floatNo (lookOf r d) z)
+      near : withinFloat (columnOf (d .needle) r) z ≡ true → 0 ≡ orNumber parks floats
       near f = past 0 (float-is r d z ∙ simp (ne-eqb _ _ e, f))
 
-      far : withinFloat (columnOf (d .needle) r) z ≡ false → 9 ≡ orNumber (parkedNo (lookOf r d) s) (floatNo (lookOf r d) z)
+      far : withinFloat (columnOf (d .needle) r) z ≡ false → 9 ≡ orNumber parks floats
       far f = past 9 (float-is r d z ∙ simp (ne-eqb _ _ e, f))
 
 -- whether the float is short enough, as the code found it
