@@ -8,6 +8,7 @@ use lib.ListN.{getD, replicate}
 use Rattle.machine.specs.Limits.{bedNeedles, hookCount, carrierCount}
 use Rattle.machine.specs.Geometry.{eqZ}
 use Rattle.machine.specs.declared.Needle.{Needle}
+use Rattle.machine.specs.declared.Racking.{Racking}
 use Rattle.machine.specs.declared.Carrier.{Carrier}
 use Rattle.machine.specs.declared.State.{State}
 
@@ -26,6 +27,10 @@ inactive = record { active = 0; side = 0; slot = record { 0 = pos 0 }; needle = 
 -- racking 0, no loops and no active carrier
 unfoldable pub emptyState : State
 emptyState = record { racking = record { 0 = pos 0 }; loops = replicate hookCount 0; carriers = replicate carrierCount inactive }
+
+-- the state with these parts; what else a state has is kept
+abbrev pub changed : State → Racking → List ℕ → List Carrier → State
+changed s r l cs = record { racking = r; loops = l; carriers = cs }
 
 -- a needle's hook among the 500, and the loops on it
 abbrev pub hookOf : Needle → ℕ

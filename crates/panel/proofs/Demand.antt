@@ -13,7 +13,7 @@ use Rattle.machine.proofs.Ranges.{range-exactly}
 use Rattle.record.specs.Format.{refusedAs, decodeOf}
 use Rattle.run.specs.declared.Stepped.{Stepped}
 use Rattle.run.specs.Run.{runOf, stay, stepOf}
-use Rattle.run.proofs.Premises.{is}
+use Rattle.record.proofs.Shapes.{is}
 use Rattle.run.proofs.Refusals.{reason-other}
 use Rattle.run.proofs.Demand.{step-refused, run-in-range, step-in-range}
 use Rattle.run.proofs.Stepwise.{steps-are-the-run, steps-are-one}

@@ -16,7 +16,7 @@ use Rattle.machine.specs.Range.{StateInRange, stateOk}
 use Rattle.run.specs.declared.Stepped.{Stepped}
 use Rattle.run.specs.Run.{stay, stepOf}
 use Rattle.run.proofs.Refusals.{first-is-one}
-use Rattle.run.proofs.Premises.{is}
+use Rattle.record.proofs.Shapes.{is}
 use Rattle.run.proofs.Demand.{step-accepts, step-done, step-refused}
 use Rattle.panel.specs.declared.Served.{Served}
 use Rattle.panel.specs.Panel.{panelStep, listAnswer, carrierList}

@@ -5,7 +5,7 @@ use mathlib.Core.Path.{_≡_, refl, sym, subst}
 use native.Mathlib.Omega.{arith}
 use lib.Dec.{eqb}
 use borrow.Author.Tests.{eqb-true, eqb-false, ne-eqb}
-use Rattle.record.specs.Kinds.{RACK, DROP, XFER, IN, OUT, MISS, TUCK, KNIT, SPLIT, byKind, sizeOf, hooksWorked, carriersNamed}
+use Rattle.record.specs.Kinds.{RACK, DROP, XFER, IN, OUT, MISS, TUCK, KNIT, SPLIT, byKind, sizeOf, hooksWorked, carriersNamed, loopsFormed}
 
 -- a known kind, by its name
 pub data Known (k : ℕ) : Type 0 where
@@ -71,6 +71,109 @@ sized-known k h = go (named k)
     go : Named k → Known k
     go (Named.known a) = a
     go (Named.unknown a e) = absurd (h e)
+
+-- the least and the greatest kind
+pub known-least : {k : ℕ} → Known k → RACK ≤ k
+known-least = at-known (λ (k : ℕ). RACK ≤ k) (omega arith) (omega arith) (omega arith) (omega arith) (omega arith) (omega arith) (omega arith) (omega arith) (omega arith)
+
+pub known-most : {k : ℕ} → Known k → k ≤ SPLIT
+known-most = at-known (λ (k : ℕ). k ≤ SPLIT) (omega arith) (omega arith) (omega arith) (omega arith) (omega arith) (omega arith) (omega arith) (omega arith) (omega arith)
+
+-- those from in on name a carrier
+pub carrying : {k : ℕ} → Known k → IN ≤ k → 1 ≤ carriersNamed k
+unfolding byKind
+carrying =
+    at-known (λ (k : ℕ). IN ≤ k → 1 ≤ carriersNamed k) (λ h. omega arith) (λ h. omega arith) (λ h. omega arith) (λ h. omega arith) (λ h. omega arith) (λ h. omega arith)
+    (λ h. omega arith) (λ h. omega arith) (λ h. omega arith)
+
+-- ---- kinds by what they do
+-- those that form a loop
+pub data Forms (k : ℕ) : Type 0 where
+  tuck : k ≡ TUCK → Forms k
+  knit : k ≡ KNIT → Forms k
+  split : k ≡ SPLIT → Forms k
+
+pub forms : {k : ℕ} → Known k → 1 ≤ loopsFormed k → Forms k
+unfolding byKind
+forms (Known.rack e) h = let q : 1 ≤ 0 = simp e at h in absurd (omega arith)
+forms (Known.drop e) h = let q : 1 ≤ 0 = simp e at h in absurd (omega arith)
+forms (Known.xfer e) h = let q : 1 ≤ 0 = simp e at h in absurd (omega arith)
+forms (Known.carrier-in e) h = let q : 1 ≤ 0 = simp e at h in absurd (omega arith)
+forms (Known.carrier-out e) h = let q : 1 ≤ 0 = simp e at h in absurd (omega arith)
+forms (Known.miss e) h = let q : 1 ≤ 0 = simp e at h in absurd (omega arith)
+forms (Known.tuck e) h = Forms.tuck e
+forms (Known.knit e) h = Forms.knit e
+forms (Known.split e) h = Forms.split e
+
+-- those that work two hooks
+pub data Moves (k : ℕ) : Type 0 where
+  xfer : k ≡ XFER → Moves k
+  split : k ≡ SPLIT → Moves k
+
+pub two-hooks : {k : ℕ} → Known k → hooksWorked k ≡ 2 → Moves k
+unfolding byKind
+two-hooks (Known.rack e) h = let q : _≡_ {A = ℕ} 0 2 = simp e at h in absurd (omega arith)
+two-hooks (Known.drop e) h = let q : _≡_ {A = ℕ} 1 2 = simp e at h in absurd (omega arith)
+two-hooks (Known.xfer e) h = Moves.xfer e
+two-hooks (Known.carrier-in e) h = let q : _≡_ {A = ℕ} 0 2 = simp e at h in absurd (omega arith)
+two-hooks (Known.carrier-out e) h = let q : _≡_ {A = ℕ} 0 2 = simp e at h in absurd (omega arith)
+two-hooks (Known.miss e) h = let q : _≡_ {A = ℕ} 0 2 = simp e at h in absurd (omega arith)
+two-hooks (Known.tuck e) h = let q : _≡_ {A = ℕ} 1 2 = simp e at h in absurd (omega arith)
+two-hooks (Known.knit e) h = let q : _≡_ {A = ℕ} 1 2 = simp e at h in absurd (omega arith)
+two-hooks (Known.split e) h = Moves.split e
+
+-- those that use a carrier that is in
+pub data Uses (k : ℕ) : Type 0 where
+  carrier-out : k ≡ OUT → Uses k
+  miss : k ≡ MISS → Uses k
+  forming : Forms k → Uses k
+
+pub uses : {k : ℕ} → Known k → 1 ≤ carriersNamed k → (k ≡ IN → ⊥) → Uses k
+unfolding byKind
+uses (Known.rack e) h d = let q : 1 ≤ 0 = simp e at h in absurd (omega arith)
+uses (Known.drop e) h d = let q : 1 ≤ 0 = simp e at h in absurd (omega arith)
+uses (Known.xfer e) h d = let q : 1 ≤ 0 = simp e at h in absurd (omega arith)
+uses (Known.carrier-in e) h d = absurd (d e)
+uses (Known.carrier-out e) h d = Uses.carrier-out e
+uses (Known.miss e) h d = Uses.miss e
+uses (Known.tuck e) h d = Uses.forming (Forms.tuck e)
+uses (Known.knit e) h d = Uses.forming (Forms.knit e)
+uses (Known.split e) h d = Uses.forming (Forms.split e)
+
+-- a kind that forms a loop names a carrier, and is neither in nor out
+pub record Loop (k : ℕ) : Type 0 where
+  pub formed : 1 ≤ loopsFormed k
+  pub carried : 1 ≤ carriersNamed k
+  pub not-in : k ≡ IN → ⊥
+  pub not-out : k ≡ OUT → ⊥
+
+pub loop : {k : ℕ} → Forms k → Loop k
+unfolding byKind
+loop (Forms.tuck e) = rw e (record { formed = omega arith; carried = omega arith; not-in = λ q. omega arith; not-out = λ q. omega arith })
+loop (Forms.knit e) = rw e (record { formed = omega arith; carried = omega arith; not-in = λ q. omega arith; not-out = λ q. omega arith })
+loop (Forms.split e) = rw e (record { formed = omega arith; carried = omega arith; not-in = λ q. omega arith; not-out = λ q. omega arith })
+
+-- tuck to split form one loop, and no other kind does
+pub forms-one : (k : ℕ) → TUCK ≤ k → k ≤ SPLIT → loopsFormed k ≡ 1
+unfolding byKind
+forms-one k h j =
+    is k TUCK (λ e. simp e) (λ a. is k KNIT (λ e. simp e) (λ b. let e : k ≡ SPLIT = omega arith in simp e))
+
+pub forms-none : (k : ℕ) → (TUCK ≤ k → k ≤ SPLIT → ⊥) → loopsFormed k ≡ 0
+unfolding byKind
+forms-none k h =
+    is k RACK (λ e. simp e) (λ a. is k DROP (λ e. simp e) (λ b. is k XFER (λ e. simp e) (λ c. is k IN (λ e. simp e) (λ d. is k OUT (λ e. simp e) (λ f. is k MISS (λ e. simp e)
+    (λ g. simp (
+      ne-eqb k 1 a,
+      ne-eqb k 2 b,
+      ne-eqb k 3 c,
+      ne-eqb k 4 d,
+      ne-eqb k 5 f,
+      ne-eqb k 6 g,
+      ne-eqb k 7 (λ e. h (omega arith) (omega arith)),
+      ne-eqb k 8 (λ e. h (omega arith) (omega arith)),
+      ne-eqb k 9 (λ e. h (omega arith) (omega arith)),
+    )))))))
 
 -- ---- kinds 4 to 8 have a four-byte body
 pub above-bare : (k : ℕ) → 1 ≤ k → (k ≡ RACK → ⊥) → (k ≡ DROP → ⊥) → (k ≡ XFER → ⊥) → IN ≤ k

@@ -7,13 +7,14 @@ use lib.ListN.{length, drop, take}
 use lib.Seq.{drop-length, length-take-le}
 use Rattle.machine.specs.declared.State.{State}
 use Rattle.record.specs.declared.Decoded.{Decoded}
-use Rattle.record.specs.Format.{byte, sizeOf, refusedAs, decodeOf}
+use Rattle.record.specs.Kinds.{sizeOf}
+use Rattle.record.specs.Format.{byte, refusedAs, decodeOf}
 use Rattle.record.proofs.Forms.{decode-front, decode-kind}
 use Rattle.run.specs.declared.Reached.{Reached}
 use Rattle.run.specs.declared.Stepped.{Stepped}
 use Rattle.run.specs.Step.{numberAt, applyOf}
 use Rattle.run.specs.Run.{reached, runFrom, stay, stepOf}
-use Rattle.run.proofs.Premises.{is}
+use Rattle.record.proofs.Shapes.{is}
 use Rattle.run.proofs.Turns.{unread-step, refused-step, made-step, run-end, run-refused, run-stopped, run-next}
 
 -- ---- bytes that are no record

@@ -12,31 +12,33 @@ use Rattle.machine.specs.declared.Needle.{Needle}
 use Rattle.machine.specs.declared.Racking.{Racking}
 use Rattle.machine.specs.declared.Carrier.{Carrier}
 use Rattle.machine.specs.declared.State.{State}
-use Rattle.machine.specs.Machine.{inactive, hookOf, loopsOn, carrierOf, movedTo}
+use Rattle.machine.specs.Limits.{hookLimit}
+use Rattle.machine.specs.Machine.{inactive, changed, hookOf, loopsOn, carrierOf, movedTo}
 use Rattle.machine.specs.Looks.{anyBeside}
 use Rattle.machine.proofs.Laws.{none-moved}
 use Rattle.record.specs.declared.Record.{Record}
+use Rattle.record.specs.Kinds.{RACK, DROP, XFER, IN, OUT, MISS, TUCK, KNIT, SPLIT, byKind}
 use Rattle.run.specs.Relation.{racked, entrySlot, exitSlot, unattached, reparked, attached}
 use Rattle.run.specs.Step.{orNumber, askedNo, numberAt, applyOf}
 use Rattle.run.specs.Loops.{tuckNo, tucked, transferNo, transferredLoops}
 use Rattle.run.proofs.ByKind.{seen, slotNo, readyNo, rack-number, rack-state, drop-number, drop-state, xfer-number, xfer-state, in-number, in-state, out-number, out-state, miss-number, miss-state, tuck-number, tuck-state, knit-number, knit-state, split-number, split-state}
 
 -- the loops after a transfer or a tuck, by its number
-module _ (l : List ℕ) (a b : Needle) (r : Racking) (v n : ℕ) (is : n ≡ transferNo l a b r) where
-  pub transfer-kept : (n ≡ 0 → ⊥) → transferredLoops l a b r v ≡ l
+module _ (limit : ℕ) (l : List ℕ) (a b : Needle) (r : Racking) (v n : ℕ) (is : n ≡ transferNo limit l a b r) where
+  pub transfer-kept : (n ≡ 0 → ⊥) → transferredLoops limit l a b r v ≡ l
   unfolding transferredLoops
   transfer-kept h = simp (← is, ne-eqb n 0 h)
 
-  transfer-made : n ≡ 0 → transferredLoops l a b r v ≡ set (set l (hookOf a) v) (hookOf b) (getD l (hookOf a) 0 + getD l (hookOf b) 0)
+  transfer-made : n ≡ 0 → transferredLoops limit l a b r v ≡ set (set l (hookOf a) v) (hookOf b) (getD l (hookOf a) 0 + getD l (hookOf b) 0)
   unfolding transferredLoops
   transfer-made h = simp (← is, eq-eqb n 0 h)
 
-module _ (l : List ℕ) (a : Needle) (n : ℕ) (is : n ≡ tuckNo (getD l (hookOf a) 0)) where
-  tuck-kept : (n ≡ 0 → ⊥) → tucked l a ≡ l
+module _ (limit : ℕ) (l : List ℕ) (a : Needle) (n : ℕ) (is : n ≡ tuckNo limit (getD l (hookOf a) 0)) where
+  tuck-kept : (n ≡ 0 → ⊥) → tucked limit l a ≡ l
   unfolding tucked
   tuck-kept h = simp (← is, ne-eqb n 0 h)
 
-  tuck-made : n ≡ 0 → tucked l a ≡ set l (hookOf a) (getD l (hookOf a) 0 + 1)
+  tuck-made : n ≡ 0 → tucked limit l a ≡ set l (hookOf a) (getD l (hookOf a) 0 + 1)
   unfolding tucked
   tuck-made h = simp (← is, eq-eqb n 0 h)
 
@@ -58,22 +60,22 @@ module _ (s : State) (x : Record) where
 
   -- the state with other loops and carriers
   abbrev pub parts : List ℕ → List Carrier → State
-  parts l cs = record { racking = s .racking; loops = l; carriers = cs }
+  parts l cs = changed s (s .racking) l cs
 
-  pub rack-made : x .kind ≡ 1 → Made (racked s (x .racking))
+  pub rack-made : x .kind ≡ RACK → Made (racked s (x .racking))
   rack-made e = (rack-number s x e, rack-state s x e)
 
-  pub drop-made : x .kind ≡ 2 → (l : List ℕ) → l ≡ set (s .loops) (hookOf (x .at)) 0 → Made (parts l (s .carriers))
+  pub drop-made : x .kind ≡ DROP → (l : List ℕ) → l ≡ set (s .loops) (hookOf (x .at)) 0 → Made (parts l (s .carriers))
   drop-made e l p = (drop-number s x e, drop-state s x e ∙ simp p)
 
-  module _ (e : x .kind ≡ 3) (n : ℕ) (is : n ≡ transferNo (s .loops) (x .at) (x .to) (s .racking)) where
+  module _ (e : x .kind ≡ XFER) (n : ℕ) (is : n ≡ transferNo (hookLimit s) (s .loops) (x .at) (x .to) (s .racking)) where
     pub xfer-stopped : n ≡ numberAt s x
     xfer-stopped = is ∙ sym (xfer-number s x e)
 
-    pub xfer-made : n ≡ 0 → (l : List ℕ) (cs : List Carrier) → l ≡ transferredLoops (s .loops) (x .at) (x .to) (s .racking) 0
+    pub xfer-made : n ≡ 0 → (l : List ℕ) (cs : List Carrier) → l ≡ transferredLoops (hookLimit s) (s .loops) (x .at) (x .to) (s .racking) 0
         → cs ≡ map (movedTo (x .at) (x .to)) (s .carriers) → Made (parts l cs)
     xfer-made h l cs p q =
-        (xfer-number s x e ∙ sym is ∙ h, xfer-state s x e ∙ simp (p ∙ transfer-made (s .loops) (x .at) (x .to) (s .racking) 0 n is h, q))
+        (xfer-number s x e ∙ sym is ∙ h, xfer-state s x e ∙ simp (p ∙ transfer-made (hookLimit s) (s .loops) (x .at) (x .to) (s .racking) 0 n is h, q))
 
   -- what the record asks of its carrier, as `asked` says it
   abbrev asks : ℕ
@@ -83,72 +85,73 @@ module _ (s : State) (x : Record) where
   abbrev with : List ℕ → Carrier → State
   with l c = parts l (set (s .carriers) (x .carrier - 1) c)
 
-  asks-in : x .kind ≡ 4 → asks ≡ cond (seen s x .active) 6 0
+  asks-in : x .kind ≡ IN → asks ≡ cond (seen s x .active) 6 0
   asks-in e = simp e
 
-  asks-out : x .kind ≡ 5 → asks ≡ slotNo s x (exitSlot s x)
+  asks-out : x .kind ≡ OUT → asks ≡ slotNo s x (exitSlot s x)
   asks-out e = simp e
 
-  asks-miss : x .kind ≡ 6 → asks ≡ slotNo s x (entrySlot s x)
+  asks-miss : x .kind ≡ MISS → asks ≡ slotNo s x (entrySlot s x)
   asks-miss e = simp e
 
-  asks-split : x .kind ≡ 9 → asks ≡ readyNo s x
+  asks-split : x .kind ≡ SPLIT → asks ≡ readyNo s x
+  unfolding byKind
   asks-split e = simp e
 
   -- it is all that in, out and miss ask
   module _ (n : ℕ) (is : n ≡ asks) where
-    in-stopped : x .kind ≡ 4 → n ≡ numberAt s x
+    in-stopped : x .kind ≡ IN → n ≡ numberAt s x
     in-stopped e = is ∙ asks-in e ∙ sym (in-number s x e)
 
-    in-made : x .kind ≡ 4 → n ≡ 0 → (c : Carrier) → c ≡ unattached (entrySlot s x) → Made (with (s .loops) c)
+    in-made : x .kind ≡ IN → n ≡ 0 → (c : Carrier) → c ≡ unattached (entrySlot s x) → Made (with (s .loops) c)
     in-made e h c q = (sym (in-stopped e) ∙ h, in-state s x e ∙ simp q)
 
-    out-stopped : x .kind ≡ 5 → n ≡ numberAt s x
+    out-stopped : x .kind ≡ OUT → n ≡ numberAt s x
     out-stopped e = is ∙ asks-out e ∙ sym (out-number s x e)
 
-    out-made : x .kind ≡ 5 → n ≡ 0 → (c : Carrier) → c ≡ inactive → Made (with (s .loops) c)
+    out-made : x .kind ≡ OUT → n ≡ 0 → (c : Carrier) → c ≡ inactive → Made (with (s .loops) c)
     out-made e h c q = (sym (out-stopped e) ∙ h, out-state s x e ∙ simp q)
 
-    pub miss-stopped : x .kind ≡ 6 → n ≡ numberAt s x
+    pub miss-stopped : x .kind ≡ MISS → n ≡ numberAt s x
     miss-stopped e = is ∙ asks-miss e ∙ sym (miss-number s x e)
 
-    pub miss-made : x .kind ≡ 6 → n ≡ 0 → (c : Carrier) → c ≡ reparked (carrierOf s (x .carrier)) (exitSlot s x) → Made (with (s .loops) c)
+    pub miss-made : x .kind ≡ MISS → n ≡ 0 → (c : Carrier) → c ≡ reparked (carrierOf s (x .carrier)) (exitSlot s x) → Made (with (s .loops) c)
     miss-made e h c q = (sym (miss-stopped e) ∙ h, miss-state s x e ∙ simp q)
 
-    -- kinds 4 to 5
-    module _ (low : 4 ≤ x .kind) (high : x .kind ≤ 5) where
-      one : {G : Type 0} → (x .kind ≡ 4 → G) → (x .kind ≡ 5 → G) → G
-      one f g = cases (eqb (x .kind) 4) (λ t. f (eqb-true _ _ t)) (λ t. g (last (x .kind) low high (eqb-false _ _ t)))
+    -- in and out
+    module _ (low : IN ≤ x .kind) (high : x .kind ≤ OUT) where
+      one : {G : Type 0} → (x .kind ≡ IN → G) → (x .kind ≡ OUT → G) → G
+      one f g = cases (eqb (x .kind) IN) (λ t. f (eqb-true _ _ t)) (λ t. g (last (x .kind) low high (eqb-false _ _ t)))
         where
-          last : (k : ℕ) → 4 ≤ k → k ≤ 5 → (k ≡ 4 → ⊥) → k ≡ 5
+          last : (k : ℕ) → IN ≤ k → k ≤ OUT → (k ≡ IN → ⊥) → k ≡ OUT
           last k h i a = omega arith
 
       pub in-out-stopped : n ≡ numberAt s x
       in-out-stopped = one in-stopped out-stopped
 
-      pub in-out-made : n ≡ 0 → (c : Carrier) → c ≡ cond (eqb (x .kind) 4) (unattached (entrySlot s x)) inactive → Made (with (s .loops) c)
+      pub in-out-made : n ≡ 0 → (c : Carrier) → c ≡ cond (eqb (x .kind) IN) (unattached (entrySlot s x)) inactive → Made (with (s .loops) c)
       in-out-made h c q = one (λ e. in-made e h c (q ∙ simp e)) (λ e. out-made e h c (q ∙ simp e))
 
-  -- kinds 7 to 8: a tuck asks for room besides
-  module _ (low : 7 ≤ x .kind) (high : x .kind ≤ 8) (n : ℕ) (is : n ≡ readyNo s x) where
-    either : {G : Type 0} → (x .kind ≡ 7 → G) → (x .kind ≡ 8 → G) → G
-    either f g = cases (eqb (x .kind) 7) (λ t. f (eqb-true _ _ t)) (λ t. g (last (x .kind) low high (eqb-false _ _ t)))
+  -- tuck and knit: a tuck asks for room besides
+  module _ (low : TUCK ≤ x .kind) (high : x .kind ≤ KNIT) (n : ℕ) (is : n ≡ readyNo s x) where
+    either : {G : Type 0} → (x .kind ≡ TUCK → G) → (x .kind ≡ KNIT → G) → G
+    either f g = cases (eqb (x .kind) TUCK) (λ t. f (eqb-true _ _ t)) (λ t. g (last (x .kind) low high (eqb-false _ _ t)))
       where
-        last : (k : ℕ) → 7 ≤ k → k ≤ 8 → (k ≡ 7 → ⊥) → k ≡ 8
+        last : (k : ℕ) → TUCK ≤ k → k ≤ KNIT → (k ≡ TUCK → ⊥) → k ≡ KNIT
         last k h i a = omega arith
 
     pub loop-unready : (n ≡ 0 → ⊥) → n ≡ numberAt s x
     loop-unready h =
         either (λ e. simp (← is) (before n _ h) ∙ sym (tuck-number s x e)) (λ e. is ∙ sym (knit-number s x e))
 
-    module _ (h : n ≡ 0) (m : ℕ) (f : m ≡ cond (eqb (x .kind) 7) (tuckNo (loopsOn s (x .at))) 0) where
-      tuck-stopped : x .kind ≡ 7 → m ≡ numberAt s x
+    module _ (h : n ≡ 0) (m : ℕ) (f : m ≡ cond (eqb (x .kind) TUCK) (tuckNo (hookLimit s) (loopsOn s (x .at))) 0) where
+      tuck-stopped : x .kind ≡ TUCK → m ≡ numberAt s x
       tuck-stopped e = after (readyNo s x) _ m (sym is ∙ h) (f ∙ simp e) ∙ sym (tuck-number s x e)
 
-      knit-zero : x .kind ≡ 8 → m ≡ 0
+      knit-zero : x .kind ≡ KNIT → m ≡ 0
       knit-zero e = f ∙ simp e
 
-      knit-stopped : x .kind ≡ 8 → m ≡ numberAt s x
+      knit-stopped : x .kind ≡ KNIT → m ≡ numberAt s x
       knit-stopped e = knit-zero e ∙ sym (knit-number s x e ∙ sym is ∙ h)
 
       pub loop-stopped : m ≡ numberAt s x
@@ -156,42 +159,42 @@ module _ (s : State) (x : Record) where
 
       -- the loops, by the number
       abbrev formed : List ℕ
-      formed = cond (eqb (x .kind) 7) (tucked (s .loops) (x .at)) (set (s .loops) (hookOf (x .at)) 1)
+      formed = cond (eqb (x .kind) TUCK) (tucked (hookLimit s) (s .loops) (x .at)) (set (s .loops) (hookOf (x .at)) 1)
 
-      formed-tuck : x .kind ≡ 7 → formed ≡ tucked (s .loops) (x .at)
+      formed-tuck : x .kind ≡ TUCK → formed ≡ tucked (hookLimit s) (s .loops) (x .at)
       formed-tuck e = simp e
 
-      formed-knit : x .kind ≡ 8 → formed ≡ set (s .loops) (hookOf (x .at)) 1
+      formed-knit : x .kind ≡ KNIT → formed ≡ set (s .loops) (hookOf (x .at)) 1
       formed-knit e = simp e
 
       pub loop-kept : (m ≡ 0 → ⊥) → formed ≡ s .loops
       loop-kept g =
-          either (λ e. formed-tuck e ∙ tuck-kept (s .loops) (x .at) m (f ∙ simp e) g) (λ e. absurd (g (knit-zero e)))
+          either (λ e. formed-tuck e ∙ tuck-kept (hookLimit s) (s .loops) (x .at) m (f ∙ simp e) g) (λ e. absurd (g (knit-zero e)))
 
       pub loop-made : m ≡ 0 → (c : Carrier) → c ≡ attached (exitSlot s x) (x .at) (x .right) → (l : List ℕ) → l ≡ formed → Made (with l c)
       loop-made g c q l t = (
         sym loop-stopped ∙ g,
         either
-            (λ e. tuck-state s x e ∙ simp (t ∙ formed-tuck e ∙ tuck-made (s .loops) (x .at) m (f ∙ simp e) g, q))
+            (λ e. tuck-state s x e ∙ simp (t ∙ formed-tuck e ∙ tuck-made (hookLimit s) (s .loops) (x .at) m (f ∙ simp e) g, q))
             (λ e. knit-state s x e ∙ simp (t ∙ formed-knit e, q)),
       )
 
   -- a split asks for room and for opposite needles
-  module _ (e : x .kind ≡ 9) (n : ℕ) (said : n ≡ asks) where
+  module _ (e : x .kind ≡ SPLIT) (n : ℕ) (said : n ≡ asks) where
     is : n ≡ readyNo s x
     is = said ∙ asks-split e
 
     pub split-unready : (n ≡ 0 → ⊥) → n ≡ numberAt s x
     split-unready h = simp (← is) (before n _ h) ∙ sym (split-number s x e)
 
-    module _ (h : n ≡ 0) (m : ℕ) (f : m ≡ transferNo (s .loops) (x .at) (x .to) (s .racking)) where
+    module _ (h : n ≡ 0) (m : ℕ) (f : m ≡ transferNo (hookLimit s) (s .loops) (x .at) (x .to) (s .racking)) where
       pub split-stopped : m ≡ numberAt s x
       split-stopped = after (readyNo s x) _ m (sym is ∙ h) f ∙ sym (split-number s x e)
 
       pub split-made : m ≡ 0 → (c : Carrier) → c ≡ attached (exitSlot s x) (x .at) (x .right) → (l : List ℕ) (cs : List Carrier)
-          → l ≡ transferredLoops (s .loops) (x .at) (x .to) (s .racking) 1 → cs ≡ map (movedTo (x .at) (x .to)) (s .carriers)
+          → l ≡ transferredLoops (hookLimit s) (s .loops) (x .at) (x .to) (s .racking) 1 → cs ≡ map (movedTo (x .at) (x .to)) (s .carriers)
           → Made (parts l (set cs (x .carrier - 1) c))
       split-made g c q l cs p t = (
         sym split-stopped ∙ g,
-        split-state s x e ∙ simp (p ∙ transfer-made (s .loops) (x .at) (x .to) (s .racking) 1 m f g, q, t),
+        split-state s x e ∙ simp (p ∙ transfer-made (hookLimit s) (s .loops) (x .at) (x .to) (s .racking) 1 m f g, q, t),
       )

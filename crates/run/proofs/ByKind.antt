@@ -10,12 +10,14 @@ use lib.Dec.{eqb}
 use borrow.Author.Tests.{eqb-true}
 use Rattle.machine.specs.declared.Slot.{Slot}
 use Rattle.machine.specs.declared.State.{State}
-use Rattle.machine.specs.Machine.{inactive, hookOf, loopsOn, carrierOf, movedTo}
+use Rattle.machine.specs.Limits.{hookLimit}
+use Rattle.machine.specs.Machine.{inactive, changed, hookOf, loopsOn, carrierOf, movedTo}
 use Rattle.machine.specs.Geometry.{columnOf, sameColumn}
 use Rattle.record.specs.declared.Record.{Record}
-use Rattle.record.specs.Names.{needleCount, carrierCount, needlesOf, carriersOf}
+use Rattle.record.specs.Kinds.{RACK, DROP, XFER, IN, OUT, MISS, TUCK, KNIT, SPLIT, byKind}
+use Rattle.record.specs.Names.{needlesOf, carriersOf}
 use Rattle.run.specs.Relation.{racked, withLoops, withCarrier, transferred, entrySlot, exitSlot, unattached, reparked, attached}
-use Rattle.run.specs.Step.{Look, lookOf, seeOf, orNumber, parkedNo, floatNo, carrierNo, oppositeNo, firstAfter, secondAfter, roomNo, decidedNo, edit, actOf, acted, moveAttachments, rackingAfter, numberAt, applyOf}
+use Rattle.run.specs.Step.{Look, lookOf, seeOf, orNumber, parkedNo, floatNo, carrierNo, oppositeNo, firstAfter, secondAfter, roomNo, decidedNo, edit, actOf, acted, moveAttachments, numberAt, applyOf}
 use Rattle.run.specs.Loops.{tuckNo, transferNo}
 
 -- a number and nothing after it
@@ -40,85 +42,82 @@ module _ (s : State) (x : Record) where
   abbrev pub readyNo : ℕ
   readyNo = orNumber (slotNo (entrySlot s x)) (floatNo seen (columnOf (x .at) (s .racking)))
 
-  pub rack-number : x .kind ≡ 1 → numberAt s x ≡ 0
-  unfolding numberAt decidedNo carrierNo oppositeNo needleCount roomNo firstAfter secondAfter seeOf
+  pub rack-number : x .kind ≡ RACK → numberAt s x ≡ 0
+  unfolding numberAt decidedNo carrierNo oppositeNo byKind roomNo firstAfter secondAfter seeOf
   rack-number e = simp e
 
-  pub rack-state : x .kind ≡ 1 → applyOf s x ≡ racked s (x .racking)
-  unfolding applyOf rackingAfter edit needlesOf needleCount carriersOf carrierCount moveAttachments
+  pub rack-state : x .kind ≡ RACK → applyOf s x ≡ racked s (x .racking)
+  unfolding applyOf edit needlesOf carriersOf byKind moveAttachments
   rack-state e = simp e
 
-  pub drop-number : x .kind ≡ 2 → numberAt s x ≡ 0
-  unfolding numberAt decidedNo carrierNo oppositeNo needleCount roomNo firstAfter secondAfter seeOf
+  pub drop-number : x .kind ≡ DROP → numberAt s x ≡ 0
+  unfolding numberAt decidedNo carrierNo oppositeNo byKind roomNo firstAfter secondAfter seeOf
   drop-number e = simp e
 
-  pub drop-state : x .kind ≡ 2 → applyOf s x ≡ withLoops s (x .at) 0
-  unfolding applyOf rackingAfter edit needlesOf needleCount carriersOf carrierCount moveAttachments firstAfter
+  pub drop-state : x .kind ≡ DROP → applyOf s x ≡ withLoops s (x .at) 0
+  unfolding applyOf edit needlesOf carriersOf byKind moveAttachments firstAfter
   drop-state e = simp e
 
-  pub xfer-number : x .kind ≡ 3 → numberAt s x ≡ transferNo (s .loops) (x .at) (x .to) (s .racking)
-  unfolding numberAt decidedNo carrierNo oppositeNo needleCount roomNo firstAfter secondAfter seeOf transferNo
+  pub xfer-number : x .kind ≡ XFER → numberAt s x ≡ transferNo (hookLimit s) (s .loops) (x .at) (x .to) (s .racking)
+  unfolding numberAt decidedNo carrierNo oppositeNo byKind roomNo firstAfter secondAfter seeOf transferNo
   xfer-number e = simp e (apart-first (sameColumn (columnOf (x .at) (s .racking)) (columnOf (x .to) (s .racking))) _)
 
-  pub xfer-state : x .kind ≡ 3 → applyOf s x ≡ transferred s (x .at) (x .to)
-  unfolding applyOf rackingAfter edit needlesOf needleCount carriersOf carrierCount moveAttachments firstAfter secondAfter
+  pub xfer-state : x .kind ≡ XFER → applyOf s x ≡ transferred s (x .at) (x .to)
+  unfolding applyOf edit needlesOf carriersOf byKind moveAttachments firstAfter secondAfter
   xfer-state e = simp e
 
-  pub in-number : x .kind ≡ 4 → numberAt s x ≡ cond (seen .active) 6 0
-  unfolding numberAt decidedNo carrierNo oppositeNo needleCount roomNo firstAfter secondAfter seeOf
+  pub in-number : x .kind ≡ IN → numberAt s x ≡ cond (seen .active) 6 0
+  unfolding numberAt decidedNo carrierNo oppositeNo byKind roomNo firstAfter secondAfter seeOf
   in-number e = simp e (or-zero (cond (seen .active) 6 0))
 
-  pub in-state : x .kind ≡ 4 → applyOf s x ≡ withCarrier s (x .carrier) (unattached (entrySlot s x))
-  unfolding applyOf rackingAfter edit needlesOf needleCount carriersOf carrierCount moveAttachments actOf acted
+  pub in-state : x .kind ≡ IN → applyOf s x ≡ withCarrier s (x .carrier) (unattached (entrySlot s x))
+  unfolding applyOf edit needlesOf carriersOf byKind moveAttachments actOf acted
   in-state e = simp e
 
-  pub out-number : x .kind ≡ 5 → numberAt s x ≡ slotNo (exitSlot s x)
-  unfolding numberAt decidedNo carrierNo oppositeNo needleCount roomNo firstAfter secondAfter seeOf
+  pub out-number : x .kind ≡ OUT → numberAt s x ≡ slotNo (exitSlot s x)
+  unfolding numberAt decidedNo carrierNo oppositeNo byKind roomNo firstAfter secondAfter seeOf
   out-number e = simp e (or-zero (slotNo (exitSlot s x)))
 
-  pub out-state : x .kind ≡ 5 → applyOf s x ≡ withCarrier s (x .carrier) inactive
-  unfolding applyOf rackingAfter edit needlesOf needleCount carriersOf carrierCount moveAttachments actOf acted
+  pub out-state : x .kind ≡ OUT → applyOf s x ≡ withCarrier s (x .carrier) inactive
+  unfolding applyOf edit needlesOf carriersOf byKind moveAttachments actOf acted
   out-state e = simp e
 
-  pub miss-number : x .kind ≡ 6 → numberAt s x ≡ slotNo (entrySlot s x)
-  unfolding numberAt decidedNo carrierNo oppositeNo needleCount roomNo firstAfter secondAfter seeOf
+  pub miss-number : x .kind ≡ MISS → numberAt s x ≡ slotNo (entrySlot s x)
+  unfolding numberAt decidedNo carrierNo oppositeNo byKind roomNo firstAfter secondAfter seeOf
   miss-number e = simp e (or-zero (slotNo (entrySlot s x)))
 
-  pub miss-state : x .kind ≡ 6 → applyOf s x ≡ withCarrier s (x .carrier) (reparked (carrierOf s (x .carrier)) (exitSlot s x))
-  unfolding applyOf rackingAfter edit needlesOf needleCount carriersOf carrierCount moveAttachments actOf acted
+  pub miss-state : x .kind ≡ MISS → applyOf s x ≡ withCarrier s (x .carrier) (reparked (carrierOf s (x .carrier)) (exitSlot s x))
+  unfolding applyOf edit needlesOf carriersOf byKind moveAttachments actOf acted
   miss-state e = simp e
 
-  pub tuck-number : x .kind ≡ 7 → numberAt s x ≡ orNumber readyNo (tuckNo (loopsOn s (x .at)))
-  unfolding numberAt decidedNo carrierNo oppositeNo needleCount roomNo firstAfter secondAfter seeOf tuckNo
+  pub tuck-number : x .kind ≡ TUCK → numberAt s x ≡ orNumber readyNo (tuckNo (hookLimit s) (loopsOn s (x .at)))
+  unfolding numberAt decidedNo carrierNo oppositeNo byKind roomNo firstAfter secondAfter seeOf tuckNo
   tuck-number e = simp e
 
-  pub tuck-state : x .kind ≡ 7 → applyOf s x ≡ withCarrier (withLoops s (x .at) (loopsOn s (x .at) + 1)) (x .carrier) (attached (exitSlot s x) (x .at) (x .right))
-  unfolding applyOf rackingAfter edit needlesOf needleCount carriersOf carrierCount moveAttachments actOf acted firstAfter
+  pub tuck-state : x .kind ≡ TUCK → applyOf s x ≡ withCarrier (withLoops s (x .at) (loopsOn s (x .at) + 1)) (x .carrier) (attached (exitSlot s x) (x .at) (x .right))
+  unfolding applyOf edit needlesOf carriersOf byKind moveAttachments actOf acted firstAfter
   tuck-state e = simp e
 
-  pub knit-number : x .kind ≡ 8 → numberAt s x ≡ readyNo
-  unfolding numberAt decidedNo carrierNo oppositeNo needleCount roomNo firstAfter secondAfter seeOf
+  pub knit-number : x .kind ≡ KNIT → numberAt s x ≡ readyNo
+  unfolding numberAt decidedNo carrierNo oppositeNo byKind roomNo firstAfter secondAfter seeOf
   knit-number e = simp e (or-zero readyNo)
 
-  pub knit-state : x .kind ≡ 8 → applyOf s x ≡ withCarrier (withLoops s (x .at) 1) (x .carrier) (attached (exitSlot s x) (x .at) (x .right))
-  unfolding applyOf rackingAfter edit needlesOf needleCount carriersOf carrierCount moveAttachments actOf acted firstAfter
+  pub knit-state : x .kind ≡ KNIT → applyOf s x ≡ withCarrier (withLoops s (x .at) 1) (x .carrier) (attached (exitSlot s x) (x .at) (x .right))
+  unfolding applyOf edit needlesOf carriersOf byKind moveAttachments actOf acted firstAfter
   knit-state e = simp e
 
-  pub split-number : x .kind ≡ 9 → numberAt s x ≡ orNumber readyNo (transferNo (s .loops) (x .at) (x .to) (s .racking))
-  unfolding numberAt decidedNo carrierNo oppositeNo needleCount roomNo firstAfter secondAfter seeOf transferNo
+  pub split-number : x .kind ≡ SPLIT → numberAt s x ≡ orNumber readyNo (transferNo (hookLimit s) (s .loops) (x .at) (x .to) (s .racking))
+  unfolding numberAt decidedNo carrierNo oppositeNo byKind roomNo firstAfter secondAfter seeOf transferNo
   split-number e = simp e (ap (orNumber readyNo) (apart-first (sameColumn (columnOf (x .at) (s .racking)) (columnOf (x .to) (s .racking))) _))
 
   -- a split as code stores it, and as the relation says it
   abbrev splitState : State
   splitState =
-      record {
-        racking = s .racking;
-        loops = set (set (s .loops) (hookOf (x .at)) 1) (hookOf (x .to)) (loopsOn s (x .at) + loopsOn s (x .to));
-        carriers = set (map (movedTo (x .at) (x .to)) (s .carriers)) (x .carrier - 1) (attached (exitSlot s x) (x .at) (x .right));
-      }
+      changed s (s .racking) (set (set (s .loops) (hookOf (x .at)) 1) (hookOf (x .to)) (loopsOn s (x .at) + loopsOn s (x .to)))
+      (set (map (movedTo (x .at) (x .to)) (s .carriers)) (x .carrier - 1) (attached (exitSlot s x) (x .at) (x .right)))
 
-  pub split-state : x .kind ≡ 9 → applyOf s x ≡ splitState
-  unfolding applyOf rackingAfter edit needlesOf needleCount carriersOf carrierCount moveAttachments actOf acted firstAfter secondAfter
+  pub split-state : x .kind ≡ SPLIT → applyOf s x ≡ splitState
+  unfolding applyOf edit needlesOf carriersOf byKind moveAttachments actOf acted firstAfter secondAfter
   split-state e = simp e
 
   pub split-said : (hookOf (x .at) ≡ hookOf (x .to) → ⊥)

@@ -1,7 +1,7 @@
 -- A record refused by its bytes, and one refused by its step: its number is the first reason at the front of a list. Assumes nothing.
 use Prim.Native.Nat.{ℕ, _≤_}
 use mathlib.Core.Path.{_≡_, refl, sym, ap, subst, _∙_}
-use mathlib.Core.Bool.{Bool, true≢false}
+use mathlib.Core.Bool.{true≢false}
 use mathlib.Core.List.{List, _++_}
 use mathlib.Core.Logic.{_↔_}
 use native.Mathlib.Omega.{arith}
@@ -10,46 +10,35 @@ use borrow.Author.Tests.{ne-eqb}
 use Rattle.machine.specs.declared.State.{State}
 use Rattle.record.specs.declared.Record.{Record}
 use Rattle.record.specs.declared.Decoded.{Decoded}
-use Rattle.record.specs.Format.{Encodes, sizeOf, byte, refusedAs, decodeOf}
-use Rattle.record.proofs.Forms.{Fields, Reads, reads, fields-size, fields-positive, form-decode, form-in, decode-form, decode-in}
+use Rattle.record.specs.Kinds.{sizeOf}
+use Rattle.record.specs.Format.{Encodes, byte, refusedAs, decodeOf}
+use Rattle.record.proofs.Shapes.{is, known-size, sized-known}
+use Rattle.record.proofs.Forms.{Reads, reads, form-decode, form-in, decode-form, decode-in}
 use Rattle.run.specs.Relation.{Step}
-use Rattle.run.specs.Reason.{Whole, CutShort, fieldsOk, RecordReason, Reason, First}
+use Rattle.run.specs.Reason.{Whole, CutShort, RecordReason, Reason, First}
 use Rattle.run.specs.Step.{numberAt}
 use Rattle.run.specs.declared.Stepped.{Stepped}
 use Rattle.run.specs.Run.{stepOf}
 use Rattle.run.specs.Claims.{NoStep, HasStep, StepRefusal}
-use Rattle.run.proofs.Premises.{is}
 use Rattle.run.proofs.Refusals.{first-of}
 use Rattle.run.proofs.Sound.{step-only, step-sound, number-reason}
 use Rattle.run.proofs.Earliest.{number-earliest}
 
 -- ---- the three reasons of bytes
-pub fields-ok : {l : List ℕ} {size : ℕ} {ok : Bool} {x : Record} → Fields l size ok x → fieldsOk l ≡ ok
-unfolding fieldsOk
-fields-ok (Fields.one e) = simp e
-fields-ok (Fields.two e) = simp e
-fields-ok (Fields.three e) = simp e
-fields-ok {l} (Fields.middle a b) =
-    simp (ne-eqb (byte l 0) 1 (λ q. omega arith), ne-eqb (byte l 0) 2 (λ q. omega arith), ne-eqb (byte l 0) 3 (λ q. omega arith), ne-eqb (byte l 0) 9 (λ q. omega arith))
-fields-ok (Fields.nine e) = simp e
+module _ {l : List ℕ} (f : sizeOf (byte l 0) ≡ 0 → ⊥) where
+  not-short : sizeOf (byte l 0) ≤ length l → CutShort l → ⊥
+  not-short h (CutShort.no-byte e) = f (omega arith)
+  not-short h (CutShort.too-few k e) = omega arith
 
-module _ {l : List ℕ} {size : ℕ} {ok : Bool} {x : Record} (f : Fields l size ok x) where
-  known : sizeOf (byte l 0) ≡ 0 → ⊥
-  known e = omega (arith, fields-size f, fields-positive f)
-
-  not-short : size ≤ length l → CutShort l → ⊥
-  not-short h (CutShort.no-byte e) = omega (arith, fields-positive f)
-  not-short h (CutShort.too-few k e) = omega (arith, fields-size f)
-
-  whole : size ≤ length l → Whole l
-  whole h = record { some = omega (arith, fields-positive f); known = known; long = omega (arith, fields-size f) }
+  whole : sizeOf (byte l 0) ≤ length l → Whole l
+  whole h = record { some = omega (arith, known-size (sized-known (byte l 0) f)); known = f; long = h }
 
 bytes-reason : {l : List ℕ} {d : Decoded} (s : State) → Reads l d → (d .number ≡ 0 → ⊥) → Reason (d .number) s l
 unfolding refusedAs
 bytes-reason s (Reads.none e) h = Reason.cut-short refl (CutShort.no-byte e)
 bytes-reason s (Reads.strange a e) h = Reason.unknown-kind refl (record { some = a; unknown = e })
-bytes-reason s (Reads.short f a b) h = Reason.cut-short refl (CutShort.too-few (known f) (omega (arith, fields-size f)))
-bytes-reason s (Reads.outside f a e) h = Reason.field-range refl (record { whole = whole f a; outside = fields-ok f ∙ e })
+bytes-reason s (Reads.short f a b) h = Reason.cut-short refl (CutShort.too-few f b)
+bytes-reason s (Reads.outside f a e) h = Reason.field-range refl (record { whole = whole f a; outside = e })
 bytes-reason s (Reads.done f a e) h = absurd (h refl)
 
 -- a form (the bytes that encode a record) at the front is what is decoded
@@ -61,8 +50,8 @@ bytes-alone : {l : List ℕ} {d : Decoded} {s : State} {m : ℕ} → Reason m s 
 unfolding refusedAs
 bytes-alone (Reason.unknown-kind q a) (Reads.none e) i h = absurd (omega (arith, a .some))
 bytes-alone (Reason.unknown-kind q a) (Reads.strange b c) i h = q
-bytes-alone (Reason.unknown-kind q a) (Reads.short f b c) i h = absurd (known f (a .unknown))
-bytes-alone (Reason.unknown-kind q a) (Reads.outside f b c) i h = absurd (known f (a .unknown))
+bytes-alone (Reason.unknown-kind q a) (Reads.short f b c) i h = absurd (f (a .unknown))
+bytes-alone (Reason.unknown-kind q a) (Reads.outside f b c) i h = absurd (f (a .unknown))
 bytes-alone (Reason.unknown-kind q a) (Reads.done f b c) i h = absurd (h refl)
 bytes-alone (Reason.cut-short q a) (Reads.none e) i h = q
 bytes-alone (Reason.cut-short q (CutShort.no-byte a)) (Reads.strange b c) i h = absurd (omega arith)
@@ -72,7 +61,7 @@ bytes-alone (Reason.cut-short q a) (Reads.outside f b c) i h = absurd (not-short
 bytes-alone (Reason.cut-short q a) (Reads.done f b c) i h = absurd (h refl)
 bytes-alone (Reason.field-range q a) (Reads.none e) i h = absurd (omega (arith, a .whole .some))
 bytes-alone (Reason.field-range q a) (Reads.strange b c) i h = absurd (a .whole .known c)
-bytes-alone (Reason.field-range q a) (Reads.short f b c) i h = absurd (omega (arith, fields-size f, a .whole .long))
+bytes-alone (Reason.field-range q a) (Reads.short f b c) i h = absurd (omega (arith, a .whole .long))
 bytes-alone (Reason.field-range q a) (Reads.outside f b c) i h = q
 bytes-alone (Reason.field-range q a) (Reads.done f b c) i h = absurd (h refl)
 bytes-alone (Reason.of-record bytes rest x q form r) w i h = absurd (h (ap (λ (d : Decoded). d .number) (sym i ∙ front-decode rest q form)))
@@ -84,9 +73,9 @@ record-reason (Reads.none a) i e r = absurd (omega arith)
 record-reason (Reads.strange a b) i e r = absurd (omega arith)
 record-reason (Reads.short f a b) i e r = absurd (omega arith)
 record-reason (Reads.outside f a b) i e r = absurd (omega arith)
-record-reason (Reads.done f a b) i e (Reason.unknown-kind q u) = absurd (known f (u .unknown))
+record-reason (Reads.done f a b) i e (Reason.unknown-kind q u) = absurd (f (u .unknown))
 record-reason (Reads.done f a b) i e (Reason.cut-short q u) = absurd (not-short f a u)
-record-reason (Reads.done f a b) i e (Reason.field-range q u) = absurd (true≢false (sym b ∙ sym (fields-ok f) ∙ u .outside))
+record-reason (Reads.done f a b) i e (Reason.field-range q u) = absurd (true≢false (sym b ∙ u .outside))
 record-reason {s = s} {m = m} (Reads.done f a b) i e (Reason.of-record bytes rest x q form r) =
     subst (λ (y : Record). RecordReason m s y) (ap (λ (d : Decoded). d .what) (sym (front-decode rest q form) ∙ i)) r
 

@@ -8,15 +8,18 @@ use lib.Dec.{eqb}
 use borrow.Author.Tests.{ne-eqb}
 use Rattle.machine.specs.declared.Slot.{Slot}
 use Rattle.machine.specs.declared.State.{State}
+use Rattle.machine.specs.Limits.{hookLimit}
 use Rattle.machine.specs.Machine.{loopsOn}
 use Rattle.machine.specs.Geometry.{columnOf}
 use Rattle.record.specs.declared.Record.{Record}
+use Rattle.record.specs.Kinds.{OUT, IN, byKind, hooksWorked, carriersNamed, loopsFormed}
+use Rattle.record.proofs.Shapes.{Forms, Moves, Uses, is, forms, two-hooks, uses, loop}
 use Rattle.record.proofs.Ranges.{InRange}
 use Rattle.run.specs.Relation.{entrySlot, exitSlot}
-use Rattle.run.specs.Reason.{NotOpposite, HookFull, RecordReason}
+use Rattle.run.specs.Reason.{HookFull, RecordReason}
 use Rattle.run.specs.Step.{orNumber, floatNo, numberAt}
 use Rattle.run.proofs.ByKind.{or-zero, seen, slotNo, readyNo, xfer-number, in-number, out-number, miss-number, tuck-number, knit-number, split-number}
-use Rattle.run.proofs.Premises.{is, up, or-next, or-first, parked-zero, parked-off, parked-elsewhere, parked-cases, in-six}
+use Rattle.run.proofs.Premises.{or-next, or-first, parked-zero, parked-off, parked-elsewhere, parked-cases, in-six}
 use Rattle.run.proofs.Premises.{float-zero, float-over, float-cases, tuck-full, carrier, sum, moveNo, opposite-cases, move-full, move-apart}
 use Rattle.run.proofs.Refusals.{rank}
 
@@ -82,34 +85,33 @@ module _ (s : State) (x : Record) where
   ready-early = in-turn 9 enterNo reachNo enter-early reach-early
 
   -- 10 or 11 where the second hook would be over its loops
-  move-full-early : 8 < sum s x → NoLater 11 (moveNo s x)
+  move-full-early : hookLimit s < sum s x → NoLater 11 (moveNo s x)
   move-full-early h =
       opposite-cases s x (λ o. itself 11 _ (λ e. omega arith) (move-full s x o h)) (λ o. rw (move-apart s x o) ((λ e. omega arith), columns-hooks))
 
   abbrev slot : Slot
-  slot = cond (eqb (x .kind) 5) (exitSlot s x) (entrySlot s x)
+  slot = cond (eqb (x .kind) OUT) (exitSlot s x) (entrySlot s x)
 
 module _ (s : State) (x : Record) (f : InRange x) where
-  -- what comes first for tuck, knit and split, and for every kind from out on
-  ready-first : 7 ≤ x .kind → (rest : ℕ) × (numberAt s x ≡ orNumber (readyNo s x) rest)
-  ready-first h =
-      up (x .kind) 7 h (λ e. (_, tuck-number s x e))
-      (λ h. up (x .kind) 8 h (λ e. (0, knit-number s x e ∙ sym (or-zero (readyNo s x))))
-      (λ h. (_, split-number s x (omega (arith, f .high)))))
+  -- what comes first for a kind that forms a loop, and for every one that uses a carrier that is in
+  ready-first : Forms (x .kind) → (rest : ℕ) × (numberAt s x ≡ orNumber (readyNo s x) rest)
+  ready-first (Forms.tuck e) = (_, tuck-number s x e)
+  ready-first (Forms.knit e) = (0, knit-number s x e ∙ sym (or-zero (readyNo s x)))
+  ready-first (Forms.split e) = (_, split-number s x e)
 
-  parked-first : 5 ≤ x .kind → (rest : ℕ) × (numberAt s x ≡ orNumber (slotNo s x (slot s x)) rest)
-  parked-first h =
-      up (x .kind) 5 h (λ e. (0, out-number s x e ∙ simp e (sym (or-zero (slotNo s x (exitSlot s x))))))
-      (λ h. up (x .kind) 6 h (λ e. (0, miss-number s x e ∙ simp e (sym (or-zero (slotNo s x (entrySlot s x))))))
-      (λ h. let (rest, e) = ready-first h in
-      (orNumber (reachNo s x) rest, e ∙ or-assoc (enterNo s x) (reachNo s x) rest ∙ simp (ne-eqb (x .kind) 5 (λ q. omega arith)))))
+  parked-first : Uses (x .kind) → (rest : ℕ) × (numberAt s x ≡ orNumber (slotNo s x (slot s x)) rest)
+  parked-first (Uses.carrier-out e) = (0, out-number s x e ∙ simp e (sym (or-zero (slotNo s x (exitSlot s x)))))
+  parked-first (Uses.miss e) = (0, miss-number s x e ∙ simp e (sym (or-zero (slotNo s x (entrySlot s x)))))
+  parked-first (Uses.forming k) =
+      let (rest, e) = ready-first k in
+      (orNumber (reachNo s x) rest, e ∙ or-assoc (enterNo s x) (reachNo s x) rest ∙ simp (ne-eqb (x .kind) OUT (loop k .not-out)))
 
-  parked-early : 5 ≤ x .kind → (n : ℕ) → (n ≡ 0 → ⊥) → slotNo s x (slot s x) ≡ n → NoLater n (numberAt s x)
-  parked-early h n d e = let (rest, q) = parked-first h in rw q (at-first n (slotNo s x (slot s x)) rest (itself n _ d e))
+  parked-early : 1 ≤ carriersNamed (x .kind) → (x .kind ≡ IN → ⊥) → (n : ℕ) → (n ≡ 0 → ⊥) → slotNo s x (slot s x) ≡ n → NoLater n (numberAt s x)
+  parked-early h i n d e = let (rest, q) = parked-first (uses (f .known) h i) in rw q (at-first n (slotNo s x (slot s x)) rest (itself n _ d e))
 
-  float-early : 7 ≤ x .kind → reachNo s x ≡ 9 → NoLater 9 (numberAt s x)
+  float-early : 1 ≤ loopsFormed (x .kind) → reachNo s x ≡ 9 → NoLater 9 (numberAt s x)
   float-early h e =
-      let (rest, q) = ready-first h in
+      let (rest, q) = ready-first (forms (f .known) h) in
       rw q (at-first 9 (readyNo s x) rest (at-last 9 (enterNo s x) (reachNo s x) (enter-early s x) (itself 9 _ (λ z. omega arith) e)))
 
   -- where tuck or split is refused for its hooks
@@ -121,18 +123,20 @@ module _ (s : State) (x : Record) (f : InRange x) where
   number-earliest (RecordReason.already-in e a) =
       rw e (itself 6 _ (λ z. omega arith) (in-number s x (a .kind) ∙ in-six (s .racking) (carrier s x) (a .active)))
   number-earliest (RecordReason.not-in e a) =
-      rw e (parked-early (a .kind) 7 (λ z. omega arith) (parked-off (s .racking) (carrier s x) (slot s x) (a .carrier-off)))
+      rw e (parked-early (a .carried) (a .other) 7 (λ z. omega arith) (parked-off (s .racking) (carrier s x) (slot s x) (a .carrier-off)))
   number-earliest (RecordReason.wrong-slot e a) =
-      rw e (parked-early (a .kind) 8 (λ z. omega arith) (parked-elsewhere (s .racking) (carrier s x) (slot s x) (a .active) (a .elsewhere)))
+      rw e (parked-early (a .carried) (a .other) 8 (λ z. omega arith) (parked-elsewhere (s .racking) (carrier s x) (slot s x) (a .active) (a .elsewhere)))
   number-earliest (RecordReason.float-too-long e a) =
-      rw e (float-early (a .kind) (float-over (s .racking) (carrier s x) (columnOf (x .at) (s .racking)) (a .attached) (a .over)))
-  number-earliest (RecordReason.not-opposite e (NotOpposite.xfer k h)) =
-      rw e (itself 10 _ (λ z. omega arith) (xfer-number s x k ∙ move-apart s x h))
-  number-earliest (RecordReason.not-opposite e (NotOpposite.split k h)) =
-      rw e (after-ready 10 _ float-columns (split-number s x k) (itself 10 _ (λ z. omega arith) (move-apart s x h)))
+      rw e (float-early (a .formed) (float-over (s .racking) (carrier s x) (columnOf (x .at) (s .racking)) (a .attached) (a .over)))
+  number-earliest (RecordReason.not-opposite e a) = rw e (apart (two-hooks (f .known) (a .two)))
+    where
+      apart : Moves (x .kind) → NoLater 10 (numberAt s x)
+      apart (Moves.xfer k) = itself 10 _ (λ z. omega arith) (xfer-number s x k ∙ move-apart s x (a .differ))
+      apart (Moves.split k) = after-ready 10 _ float-columns (split-number s x k) (itself 10 _ (λ z. omega arith) (move-apart s x (a .differ)))
   number-earliest (RecordReason.hook-full e (HookFull.tuck k h)) =
-      rw e (after-ready 11 _ (through float-columns columns-hooks) (tuck-number s x k) (itself 11 _ (λ z. omega arith) (tuck-full (loopsOn s (x .at)) h)))
-  number-earliest (RecordReason.hook-full e (HookFull.xfer k h)) =
-      rw (e, xfer-number s x k) (move-full-early s x h)
-  number-earliest (RecordReason.hook-full e (HookFull.split k h)) =
-      rw e (after-ready 11 _ (through float-columns columns-hooks) (split-number s x k) (move-full-early s x h))
+      rw e (after-ready 11 _ (through float-columns columns-hooks) (tuck-number s x k) (itself 11 _ (λ z. omega arith) (tuck-full (hookLimit s) (loopsOn s (x .at)) h)))
+  number-earliest (RecordReason.hook-full e (HookFull.second two h)) = rw e (full (two-hooks (f .known) two))
+    where
+      full : Moves (x .kind) → NoLater 11 (numberAt s x)
+      full (Moves.xfer k) = rw (xfer-number s x k) (move-full-early s x h)
+      full (Moves.split k) = after-ready 11 _ (through float-columns columns-hooks) (split-number s x k) (move-full-early s x h)

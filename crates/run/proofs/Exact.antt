@@ -1,25 +1,23 @@
 -- The run gives an answer in 01's words and no other one is; rows 3 to 5 against the format. Assumes nothing.
-use borrow.Table.Steps.{cases}
-use Prim.Native.Nat.{ℕ}
+use Prim.Native.Nat.{ℕ, _≤_}
 use mathlib.Core.Path.{_≡_, refl, sym, ap, subst, _∙_}
-use mathlib.Core.Bool.{Bool, true, false, true≢false, _&&_}
+use mathlib.Core.Bool.{Bool, true, false, true≢false}
 use mathlib.Core.List.{List, [], _∷_, _++_, append-nil}
 use mathlib.Core.Logic.{_↔_}
 use native.Mathlib.Omega.{arith}
-use lib.Dec.{eqb, leb}
 use lib.ListN.{length, take, drop, take-append-drop}
-use borrow.Author.Tests.{eqb-true, leb-true}
 use Rattle.machine.specs.declared.State.{State}
-use Rattle.machine.proofs.Laws.{and-two}
 use Rattle.record.specs.declared.Record.{Record}
 use Rattle.record.specs.declared.Decoded.{Decoded}
-use Rattle.record.specs.Format.{Encodes, sizeOf, signedOf, byte, refusedAs, decodeOf}
-use Rattle.record.proofs.Forms.{Reads, reads, fields-size, form-decode, decode-form, decode-kind}
+use Rattle.record.specs.Kinds.{IN, OUT, MISS, TUCK, KNIT, sizeOf}
+use Rattle.record.specs.Format.{Encodes, signedOf, byte, fieldsOk, refusedAs, decodeOf}
+use Rattle.record.proofs.Shapes.{Known, at-known, sized-known}
+use Rattle.record.proofs.Forms.{Reads, reads, form-decode, decode-form, decode-kind}
 use Rattle.run.specs.declared.Answer.{Answer}
-use Rattle.run.specs.Reason.{Whole, fieldsOk}
+use Rattle.run.specs.Reason.{Whole}
 use Rattle.run.specs.Run.{reached, answerOf, runOf}
 use Rattle.run.specs.Claims.{Complete, Answers, RunExactly, KnownExactly, SizeExactly, FieldExactly}
-use Rattle.run.proofs.Bytes.{fields-ok, reason-no-step}
+use Rattle.run.proofs.Bytes.{reason-no-step}
 use Rattle.run.proofs.Answers.{Answered, answered, long-run, valid-run, complete-empty}
 use Rattle.run.proofs.Unique.{one-refusal}
 
@@ -67,21 +65,22 @@ size-exactly bytes x form = go (form-decode form []) (decode-kind (bytes ++ []))
     go d k = sym (ap (λ (e : Decoded). e .size) d) ∙ k (ap (λ (e : Decoded). e .number) d) ∙ ap (λ (l : List ℕ). sizeOf (byte l 0)) (append-nil bytes)
 
 -- a record of each known kind, its fields the least in range
-known : (k : ℕ) → (sizeOf k ≡ 0 → ⊥) → (body : List ℕ) × (x : Record) × Encodes (k ∷ body) x
-unfolding sizeOf signedOf
-known k h =
-    cases (eqb k 1) (λ e. rw (eqb-true k 1 e) (0 ∷ [], _, Encodes.rack {b = 0} (omega arith))) λ a.
-    cases (eqb k 2) (λ e. rw (eqb-true k 2 e) (0 ∷ 0 ∷ [], _, Encodes.drop {bed = 0} {n = 0} (omega arith) (omega arith))) λ b.
-    cases (eqb k 3) (λ e. rw (eqb-true k 3 e) (0 ∷ 0 ∷ 0 ∷ [], _, Encodes.xfer {bed = 0} {n = 0} {m = 0} (omega arith) (omega arith) (omega arith))) λ c.
-    cases (leb 4 k && leb k 8)
-    (λ e. let (low, high) = and-two (leb 4 k) (leb k 8) e in
-    (0 ∷ 0 ∷ 0 ∷ 1 ∷ [], _, Encodes.work {kind = k} {right = 0} {bed = 0} {n = 0} {k = 1} (leb-true 4 k low) (leb-true k 8 high) (omega arith) (omega arith) (omega arith) (omega arith) (omega arith))) λ d.
-    cases (eqb k 9)
-    (λ e. rw (eqb-true k 9 e) (0 ∷ 0 ∷ 0 ∷ 1 ∷ 0 ∷ [], _, Encodes.split {right = 0} {bed = 0} {n = 0} {k = 1} {m = 0} (omega arith) (omega arith) (omega arith) (omega arith) (omega arith) (omega arith)))
-    (λ e. absurd (h (simp (a, b, c, d, e))))
+some-record : {k : ℕ} → Known k → (body : List ℕ) × (x : Record) × Encodes (k ∷ body) x
+unfolding signedOf
+some-record =
+    at-known (λ (k : ℕ). (body : List ℕ) × (x : Record) × Encodes (k ∷ body) x)
+    (0 ∷ [], _, Encodes.rack {b = 0} (omega arith))
+    (0 ∷ 0 ∷ [], _, Encodes.drop {bed = 0} {n = 0} (omega arith) (omega arith))
+    (0 ∷ 0 ∷ 0 ∷ [], _, Encodes.xfer {bed = 0} {n = 0} {m = 0} (omega arith) (omega arith) (omega arith))
+    (work IN (omega arith) (omega arith)) (work OUT (omega arith) (omega arith)) (work MISS (omega arith) (omega arith)) (work TUCK (omega arith) (omega arith)) (work KNIT (omega arith) (omega arith))
+    (0 ∷ 0 ∷ 0 ∷ 1 ∷ 0 ∷ [], _, Encodes.split {right = 0} {bed = 0} {n = 0} {k = 1} {m = 0} (omega arith) (omega arith) (omega arith) (omega arith) (omega arith) (omega arith))
+  where
+    work : (k : ℕ) → IN ≤ k → k ≤ KNIT → (body : List ℕ) × (x : Record) × Encodes (k ∷ body) x
+    work k low high =
+        (0 ∷ 0 ∷ 0 ∷ 1 ∷ [], _, Encodes.work {kind = k} {right = 0} {bed = 0} {n = 0} {k = 1} low high (omega arith) (omega arith) (omega arith) (omega arith) (omega arith))
 
 pub known-exactly : KnownExactly
-known-exactly k = (known k, λ (body, x, form). λ z. omega (arith, size-exactly (k ∷ body) x form, z))
+known-exactly k = ((λ h. some-record (sized-known k h)), λ (body, x, form). λ z. omega (arith, size-exactly (k ∷ body) x form, z))
 
 -- fields of bytes that are read, and of whole bytes that are not
 module _ {l : List ℕ} where
@@ -91,13 +90,13 @@ module _ {l : List ℕ} where
   in-range (Reads.strange a b) e = absurd (omega arith)
   in-range (Reads.short f a b) e = absurd (omega arith)
   in-range (Reads.outside f a b) e = absurd (omega arith)
-  in-range (Reads.done f a b) e = fields-ok f ∙ b
+  in-range (Reads.done f a b) e = b
 
   out-of-range : {d : Decoded} → Reads l d → Whole l → (d .number ≡ 0 → ⊥) → fieldsOk l ≡ false
   out-of-range (Reads.none a) w h = absurd (omega (arith, w .some))
   out-of-range (Reads.strange a b) w h = absurd (w .known b)
-  out-of-range (Reads.short f a b) w h = absurd (omega (arith, fields-size f, w .long))
-  out-of-range (Reads.outside f a b) w h = fields-ok f ∙ b
+  out-of-range (Reads.short f a b) w h = absurd (omega (arith, w .long))
+  out-of-range (Reads.outside f a b) w h = b
   out-of-range (Reads.done f a b) w h = absurd (h refl)
 
 pub field-exactly : FieldExactly

@@ -12,22 +12,17 @@ use Rattle.machine.specs.declared.Racking.{Racking}
 use Rattle.machine.specs.declared.Slot.{Slot}
 use Rattle.machine.specs.declared.Carrier.{Carrier}
 use Rattle.machine.specs.declared.State.{State}
+use Rattle.machine.specs.Limits.{floatMost, hookLimit}
 use Rattle.machine.specs.Machine.{loopsOn, carrierOf}
 use Rattle.machine.specs.Geometry.{eqZ, columnOf, sameColumn, withinFloat}
 use Rattle.machine.proofs.Signed.{eqZ-yes, eqZ-no, eqZ-true, eqZ-false}
 use Rattle.record.specs.declared.Record.{Record}
+use Rattle.record.proofs.Shapes.{is}
 use Rattle.record.proofs.Forms.{cond-cases}
 use Rattle.run.specs.Relation.{Active, Inactive, Attached, ParkedAt, Opposite, Room}
 use Rattle.run.specs.Step.{lookOf, orNumber, parkedNo, floatNo}
 use Rattle.run.specs.Loops.{tuckNo, transferNo}
 use Rattle.run.proofs.Looks.{parked-is, in-is, float-is}
-
--- a case by the kind
-pub is : {G : Type 0} (k n : ℕ) → (k ≡ n → G) → ((k ≡ n → ⊥) → G) → G
-is k n f g = cases (eqb k n) (λ t. f (eqb-true k n t)) (λ t. g (eqb-false k n t))
-
-pub up : {G : Type 0} (k n : ℕ) → n ≤ k → (k ≡ n → G) → (n < k → G) → G
-up k n h f g = is k n f (λ d. g (omega arith))
 
 -- ---- numbers in order
 pub or-next : (a b : ℕ) → a ≡ 0 → orNumber a b ≡ b
@@ -73,30 +68,30 @@ module _ (r : Racking) (c : Carrier) where
     abbrev pub far : ℕ
     far = natAbs (columnOf (c .needle) r .0 -ℤ z .0)
 
-    float-at : floatNo (lookOf r c) z ≡ cond (eqb (c .side) 0) 0 (cond (leb far 20) 0 9)
+    float-at : floatNo (lookOf r c) z ≡ cond (eqb (c .side) 0) 0 (cond (leb far floatMost) 0 9)
     unfolding withinFloat
     float-at = float-is r c z
 
-    pub float-zero : (Attached c → far ≤ 20) → floatNo (lookOf r c) z ≡ 0
+    pub float-zero : (Attached c → far ≤ floatMost) → floatNo (lookOf r c) z ≡ 0
     float-zero h =
-        float-at ∙ cond-cases (λ (n : ℕ). n ≡ 0) (eqb (c .side) 0) (λ t. refl) (λ t. simp (le-leb far 20 (h (eqb-false (c .side) 0 t))))
+        float-at ∙ cond-cases (λ (n : ℕ). n ≡ 0) (eqb (c .side) 0) (λ t. refl) (λ t. simp (le-leb far floatMost (h (eqb-false (c .side) 0 t))))
 
-    pub float-over : Attached c → 20 < far → floatNo (lookOf r c) z ≡ 9
-    float-over a h = float-at ∙ simp (ne-eqb (c .side) 0 a, lt-leb far 20 h)
+    pub float-over : Attached c → floatMost < far → floatNo (lookOf r c) z ≡ 9
+    float-over a h = float-at ∙ simp (ne-eqb (c .side) 0 a, lt-leb far floatMost h)
 
-    pub float-cases : {G : Type 0} → (Attached c → 20 < far → G) → ((Attached c → far ≤ 20) → G) → G
+    pub float-cases : {G : Type 0} → (Attached c → floatMost < far → G) → ((Attached c → far ≤ floatMost) → G) → G
     float-cases f g =
         is (c .side) 0 (λ e. g (λ a. absurd (a e)))
-        (λ a. cases (leb far 20) (λ t. g (λ b. leb-true far 20 t)) (λ t. f a (leb-false far 20 t)))
+        (λ a. cases (leb far floatMost) (λ t. g (λ b. leb-true far floatMost t)) (λ t. f a (leb-false far floatMost t)))
 
 -- 11 or 0, and 10 before it
-pub tuck-zero : (n : ℕ) → Room (n + 1) → tuckNo n ≡ 0
+pub tuck-zero : (limit n : ℕ) → n + 1 ≤ limit → tuckNo limit n ≡ 0
 unfolding tuckNo
-tuck-zero n h = simp (le-leb (n + 1) 8 h)
+tuck-zero limit n h = simp (le-leb (n + 1) limit h)
 
-pub tuck-full : (n : ℕ) → 8 < n + 1 → tuckNo n ≡ 11
+pub tuck-full : (limit n : ℕ) → limit < n + 1 → tuckNo limit n ≡ 11
 unfolding tuckNo
-tuck-full n h = simp (lt-leb (n + 1) 8 h)
+tuck-full limit n h = simp (lt-leb (n + 1) limit h)
 
 module _ (s : State) (x : Record) where
   abbrev pub carrier : Carrier
@@ -106,7 +101,7 @@ module _ (s : State) (x : Record) where
   sum = loopsOn s (x .at) + loopsOn s (x .to)
 
   abbrev pub moveNo : ℕ
-  moveNo = transferNo (s .loops) (x .at) (x .to) (s .racking)
+  moveNo = transferNo (hookLimit s) (s .loops) (x .at) (x .to) (s .racking)
 
   same-yes : Opposite s x → sameColumn (columnOf (x .at) (s .racking)) (columnOf (x .to) (s .racking)) ≡ true
   unfolding sameColumn
@@ -124,13 +119,13 @@ module _ (s : State) (x : Record) where
       (λ t. f (column-same (columnOf (x .at) (s .racking)) (columnOf (x .to) (s .racking)) (eqZ-true _ _ t)))
       (λ t. g (λ e. eqZ-false _ _ t (ap (λ (z : Column). z .0) e)))
 
-  pub move-zero : Opposite s x → Room sum → moveNo ≡ 0
+  pub move-zero : Opposite s x → Room s sum → moveNo ≡ 0
   unfolding transferNo
-  move-zero e h = simp (same-yes e, le-leb sum 8 h)
+  move-zero e h = simp (same-yes e, le-leb sum (hookLimit s) h)
 
-  pub move-full : Opposite s x → 8 < sum → moveNo ≡ 11
+  pub move-full : Opposite s x → hookLimit s < sum → moveNo ≡ 11
   unfolding transferNo
-  move-full e h = simp (same-yes e, lt-leb sum 8 h)
+  move-full e h = simp (same-yes e, lt-leb sum (hookLimit s) h)
 
   pub move-apart : (Opposite s x → ⊥) → moveNo ≡ 10
   unfolding transferNo

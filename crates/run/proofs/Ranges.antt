@@ -12,28 +12,30 @@ use Rattle.machine.specs.declared.State.{State}
 use Rattle.machine.specs.Machine.{OnBed, inactive, hookOf, loopsOn, carrierOf, movedTo}
 use Rattle.machine.specs.Range.{SlotInRange, CarrierInRange, StateInRange}
 use Rattle.machine.proofs.Ranges.{every-set, every-map, entry-in, exit-in, inactive-in, moved-in, empty-in}
+use Rattle.machine.specs.Limits.{rackingMost, hookLimit}
 use Rattle.record.specs.declared.Record.{Record}
 use Rattle.record.specs.Format.{Encodes}
 use Rattle.record.proofs.Ranges.{InRange}
+use Rattle.record.proofs.Shapes.{is}
 use Rattle.record.proofs.Forms.{form-in}
 use Rattle.run.specs.declared.Answer.{Answer}
 use Rattle.run.specs.declared.Stepped.{Stepped}
 use Rattle.run.specs.Relation.{Active, Room, Step, Steps, withLoops, withCarrier, transferred, reparked, attached, entrySlot, exitSlot}
 use Rattle.run.specs.Run.{answerOf, stepOf}
 use Rattle.run.specs.Claims.{StepInRange}
-use Rattle.run.proofs.Premises.{is, sum}
+use Rattle.run.proofs.Premises.{sum}
 use Rattle.run.proofs.Bytes.{step-exact, step-gives, step-refuses}
 use Rattle.run.proofs.Answers.{Answered}
 
 -- ---- a state with one thing changed
 module _ {s : State} (h : StateInRange s) where
-  loops-in : (n : Needle) (v : ℕ) → v ≤ 8 → StateInRange (withLoops s n v)
-  loops-in n v k = record { racking = h .racking; loops = every-set (λ (m : ℕ). m ≤ 8) 0 (s .loops) (hookOf n) v k (h .loops); carriers = h .carriers }
+  loops-in : (n : Needle) (v : ℕ) → v ≤ hookLimit s → StateInRange (withLoops s n v)
+  loops-in n v k = record { racking = h .racking; loops = every-set (λ (m : ℕ). m ≤ hookLimit s) 0 (s .loops) (hookOf n) v k (h .loops); carriers = h .carriers }
 
   carrier-in : (k : ℕ) (c : Carrier) → CarrierInRange c → StateInRange (withCarrier s k c)
   carrier-in k c p = record { racking = h .racking; loops = h .loops; carriers = every-set CarrierInRange inactive (s .carriers) (k - 1) c p (h .carriers) }
 
-transferred-in : {s : State} → StateInRange s → (x : Record) → OnBed (x .to) → Room (sum s x) → StateInRange (transferred s (x .at) (x .to))
+transferred-in : {s : State} → StateInRange s → (x : Record) → OnBed (x .to) → Room s (sum s x) → StateInRange (transferred s (x .at) (x .to))
 transferred-in {s} h x b r = record {
   racking = h .racking;
   loops = loops-in (loops-in h (x .at) 0 (omega arith)) (x .to) (sum s x) r .loops;
@@ -61,7 +63,7 @@ module _ {s : State} {x : Record} (h : StateInRange s) (f : InRange x) where
   worked : CarrierInRange (attached (exitSlot s x) (x .at) (x .right))
   worked = attached-in (exitSlot s x) (x .at) (x .right) exit (f .at-bed)
 
-  step-keeps : natAbs (x .racking .0) ≤ 8 → {t : State} → Step s x t → StateInRange t
+  step-keeps : natAbs (x .racking .0) ≤ rackingMost → {t : State} → Step s x t → StateInRange t
   step-keeps r (Step.rack e) = record { racking = r; loops = h .loops; carriers = h .carriers }
   step-keeps r (Step.drop e) = loops-in h (x .at) 0 (omega arith)
   step-keeps r (Step.xfer e o k) = transferred-in h x (f .to-bed) k
@@ -73,7 +75,7 @@ module _ {s : State} {x : Record} (h : StateInRange s) (f : InRange x) where
   step-keeps r (Step.knit e p g) = carrier-in (loops-in h (x .at) 1 (omega arith)) (x .carrier) _ worked
   step-keeps r (Step.split e p g o k) = carrier-in (loops-in (transferred-in h x (f .to-bed) k) (x .at) 1 (omega arith)) (x .carrier) _ worked
 
-racking-in : {bytes : List ℕ} {x : Record} → Encodes bytes x → natAbs (x .racking .0) ≤ 8
+racking-in : {bytes : List ℕ} {x : Record} → Encodes bytes x → natAbs (x .racking .0) ≤ rackingMost
 racking-in (Encodes.rack h) = h
 racking-in (Encodes.drop h i) = omega arith
 racking-in (Encodes.xfer h i j) = omega arith

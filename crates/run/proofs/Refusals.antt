@@ -11,7 +11,7 @@ use Rattle.machine.specs.declared.State.{State}
 use Rattle.machine.specs.Machine.{Each}
 use Rattle.record.specs.declared.Record.{Record}
 use Rattle.run.specs.Reason.{RecordReason, Reason, refusals, First}
-use Rattle.run.proofs.Premises.{is}
+use Rattle.record.proofs.Shapes.{is}
 
 -- how many stand before a number in a list; all, if it is not there
 abbrev pub index : ℕ → List ℕ → ℕ

@@ -16,7 +16,7 @@ use Rattle.run.specs.Reason.{First}
 use Rattle.run.specs.Step.{numberAt, applyOf}
 use Rattle.run.specs.Run.{reached, runFrom}
 use Rattle.run.proofs.Turns.{run-end, run-refused, run-stopped, run-next}
-use Rattle.run.proofs.Premises.{is}
+use Rattle.record.proofs.Shapes.{is}
 use Rattle.run.proofs.Sound.{step-only, step-sound}
 use Rattle.run.proofs.Bytes.{bytes-first, step-first}
 

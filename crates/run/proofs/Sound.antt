@@ -9,18 +9,21 @@ use borrow.Author.Tests.{ne-eqb, leb-true, leb-false}
 use Rattle.machine.specs.declared.Column.{Column}
 use Rattle.machine.specs.declared.Slot.{Slot}
 use Rattle.machine.specs.declared.State.{State}
+use Rattle.machine.specs.Limits.{hookLimit}
 use Rattle.machine.specs.Machine.{hookOf, loopsOn}
 use Rattle.machine.specs.Geometry.{columnOf}
 use Rattle.record.specs.declared.Record.{Record}
-use Rattle.record.specs.Names.{needleCount}
+use Rattle.record.specs.Kinds.{IN, OUT, TUCK, SPLIT}
+use Rattle.record.specs.Kinds.{byKind, hooksWorked, carriersNamed}
+use Rattle.record.proofs.Shapes.{Known, Forms, Loop, is, loop}
 use Rattle.record.proofs.Ranges.{InRange}
 use Rattle.run.specs.Relation.{Inactive, ParkedAt, FloatInReach, Opposite, Room, Step, entrySlot, exitSlot}
-use Rattle.run.specs.Reason.{NotOpposite, HookFull, RecordReason}
+use Rattle.run.specs.Reason.{HookFull, RecordReason}
 use Rattle.run.specs.Step.{orNumber, floatNo, numberAt, applyOf}
 use Rattle.run.specs.Loops.{tuckNo}
 use Rattle.run.proofs.ByKind.{seen, slotNo, readyNo, rack-number, rack-state, drop-number, drop-state, xfer-number, xfer-state, in-number, in-state, out-number, out-state}
 use Rattle.run.proofs.ByKind.{miss-number, miss-state, tuck-number, tuck-state, knit-number, knit-state, split-number, split-state, split-said}
-use Rattle.run.proofs.Premises.{is, up, or-next, or-first, parked-zero, parked-off, parked-elsewhere, parked-cases, in-zero, in-six}
+use Rattle.run.proofs.Premises.{or-next, or-first, parked-zero, parked-off, parked-elsewhere, parked-cases, in-zero, in-six}
 use Rattle.run.proofs.Premises.{float-zero, float-over, float-cases, tuck-zero, tuck-full, carrier, sum, moveNo, opposite-cases, move-zero, move-full, move-apart}
 use Rattle.run.proofs.Refusals.{record-other}
 
@@ -32,8 +35,8 @@ module _ (s : State) (x : Record) where
   ready-zero : ParkedAt (carrier s x) (entrySlot s x) → FloatInReach s x → readyNo s x ≡ 0
   ready-zero p h = or-next _ _ (parked-here (entrySlot s x) p) ∙ float-zero (s .racking) (carrier s x) (columnOf (x .at) (s .racking)) h
 
-  split-hooks : InRange x → x .kind ≡ 9 → hookOf (x .at) ≡ hookOf (x .to) → ⊥
-  unfolding needleCount
+  split-hooks : InRange x → x .kind ≡ SPLIT → hookOf (x .at) ≡ hookOf (x .to) → ⊥
+  unfolding byKind
   split-hooks f e = f .beds-differ (simp e)
 
   pub step-only : InRange x → {t : State} → Step s x t → (numberAt s x ≡ 0) × (applyOf s x ≡ t)
@@ -43,7 +46,7 @@ module _ (s : State) (x : Record) where
   step-only f (Step.carrier-in e c) = (in-number s x e ∙ in-zero (s .racking) (carrier s x) c, in-state s x e)
   step-only f (Step.carrier-out e p) = (out-number s x e ∙ parked-here (exitSlot s x) p, out-state s x e)
   step-only f (Step.miss e p) = (miss-number s x e ∙ parked-here (entrySlot s x) p, miss-state s x e)
-  step-only f (Step.tuck e p h r) = (tuck-number s x e ∙ or-next _ _ (ready-zero p h) ∙ tuck-zero (loopsOn s (x .at)) r, tuck-state s x e)
+  step-only f (Step.tuck e p h r) = (tuck-number s x e ∙ or-next _ _ (ready-zero p h) ∙ tuck-zero (hookLimit s) (loopsOn s (x .at)) r, tuck-state s x e)
   step-only f (Step.knit e p h) = (knit-number s x e ∙ ready-zero p h, knit-state s x e)
   step-only f (Step.split e p h o r) =
       (split-number s x e ∙ or-next _ _ (ready-zero p h) ∙ move-zero s x o r, split-state s x e ∙ split-said s x (split-hooks f e))
@@ -65,58 +68,63 @@ module _ {s : State} {x : Record} where
   stepped e d f (Judged.refused r) = Judged.refused (rw e r)
 
 module _ (s : State) (x : Record) where
-  in-judged : x .kind ≡ 4 → Judged s x (Inactive (carrier s x)) (cond (seen s x .active) 6 0)
+  in-judged : x .kind ≡ IN → Judged s x (Inactive (carrier s x)) (cond (seen s x .active) 6 0)
   in-judged e =
       is (carrier s x .active) 0 (λ c. Judged.fine (in-zero (s .racking) (carrier s x) c) c)
       (λ a. Judged.refused (RecordReason.already-in (in-six (s .racking) (carrier s x) a) (record { kind = e; active = a })))
 
-  parked-judged : (z : Slot) → 5 ≤ x .kind → cond (eqb (x .kind) 5) (exitSlot s x) (entrySlot s x) ≡ z → Judged s x (ParkedAt (carrier s x) z) (slotNo s x z)
-  parked-judged z k e =
+  parked-judged : (z : Slot) → 1 ≤ carriersNamed (x .kind) → (x .kind ≡ IN → ⊥) → cond (eqb (x .kind) OUT) (exitSlot s x) (entrySlot s x) ≡ z → Judged s x (ParkedAt (carrier s x) z) (slotNo s x z)
+  parked-judged z k d e =
       parked-cases (s .racking) (carrier s x) z
-      (λ c. Judged.refused (RecordReason.not-in (parked-off (s .racking) (carrier s x) z c) (record { kind = k; carrier-off = c })))
-      (λ a h. Judged.refused (RecordReason.wrong-slot (parked-elsewhere (s .racking) (carrier s x) z a h) (record { kind = k; active = a; elsewhere = λ q. h (q ∙ e) })))
+      (λ c. Judged.refused (RecordReason.not-in (parked-off (s .racking) (carrier s x) z c) (record { carried = k; other = d; carrier-off = c })))
+      (λ a h. Judged.refused (RecordReason.wrong-slot (parked-elsewhere (s .racking) (carrier s x) z a h) (record { carried = k; other = d; active = a; elsewhere = λ q. h (q ∙ e) })))
       (λ p. Judged.fine (parked-here s x z p) p)
 
-  float-judged : 7 ≤ x .kind → Judged s x (FloatInReach s x) (floatNo (seen s x) (columnOf (x .at) (s .racking)))
+  float-judged : Loop (x .kind) → Judged s x (FloatInReach s x) (floatNo (seen s x) (columnOf (x .at) (s .racking)))
   float-judged k =
       float-cases (s .racking) (carrier s x) z
-      (λ a h. Judged.refused (RecordReason.float-too-long (float-over (s .racking) (carrier s x) z a h) (record { kind = k; attached = a; over = h })))
+      (λ a h. Judged.refused (RecordReason.float-too-long (float-over (s .racking) (carrier s x) z a h) (record { formed = k .formed; attached = a; over = h })))
       (λ h. Judged.fine (float-zero (s .racking) (carrier s x) z h) h)
     where
       z : Column
       z = columnOf (x .at) (s .racking)
 
-  ready-judged : 7 ≤ x .kind → Judged s x (ParkedAt (carrier s x) (entrySlot s x) × FloatInReach s x) (readyNo s x)
-  ready-judged k = both (parked-judged (entrySlot s x) (omega arith) (simp (ne-eqb (x .kind) 5 (λ e. omega arith)))) (float-judged k)
+  ready-judged : Loop (x .kind) → Judged s x (ParkedAt (carrier s x) (entrySlot s x) × FloatInReach s x) (readyNo s x)
+  ready-judged k = both (parked-judged (entrySlot s x) (k .carried) (k .not-in) (simp (ne-eqb (x .kind) OUT (k .not-out)))) (float-judged k)
 
-  tuck-judged : x .kind ≡ 7 → Judged s x (Room (loopsOn s (x .at) + 1)) (tuckNo (loopsOn s (x .at)))
+  tuck-judged : x .kind ≡ TUCK → Judged s x (Room s (loopsOn s (x .at) + 1)) (tuckNo (hookLimit s) (loopsOn s (x .at)))
   tuck-judged e =
-      cases (leb n 8) (λ t. let h = leb-true n 8 t in Judged.fine (tuck-zero (loopsOn s (x .at)) h) h)
-      (λ t. let h = leb-false n 8 t in Judged.refused (RecordReason.hook-full (tuck-full (loopsOn s (x .at)) h) (HookFull.tuck e h)))
+      cases (leb n (hookLimit s)) (λ t. let h = leb-true n (hookLimit s) t in Judged.fine (tuck-zero (hookLimit s) (loopsOn s (x .at)) h) h)
+      (λ t. let h = leb-false n (hookLimit s) t in Judged.refused (RecordReason.hook-full (tuck-full (hookLimit s) (loopsOn s (x .at)) h) (HookFull.tuck e h)))
     where
       n : ℕ
       n = loopsOn s (x .at) + 1
 
-  move-judged : ((Opposite s x → ⊥) → NotOpposite s x) → (8 < sum s x → HookFull s x) → Judged s x (Opposite s x × Room (sum s x)) (moveNo s x)
-  move-judged f g =
+  move-judged : hooksWorked (x .kind) ≡ 2 → Judged s x (Opposite s x × Room s (sum s x)) (moveNo s x)
+  move-judged two =
       opposite-cases s x
-      (λ o. cases (leb (sum s x) 8) (λ t. let h = leb-true (sum s x) 8 t in Judged.fine (move-zero s x o h) (o, h))
-      (λ t. let h = leb-false (sum s x) 8 t in Judged.refused (RecordReason.hook-full (move-full s x o h) (g h))))
-      (λ h. Judged.refused (RecordReason.not-opposite (move-apart s x h) (f h)))
+      (λ o. cases (leb (sum s x) (hookLimit s)) (λ t. let h = leb-true (sum s x) (hookLimit s) t in Judged.fine (move-zero s x o h) (o, h))
+      (λ t. let h = leb-false (sum s x) (hookLimit s) t in Judged.refused (RecordReason.hook-full (move-full s x o h) (HookFull.second two h))))
+      (λ h. Judged.refused (RecordReason.not-opposite (move-apart s x h) (record { two = two; differ = h })))
 
   judged : InRange x → Judged s x (Step s x (applyOf s x)) (numberAt s x)
-  judged f =
-      up (x .kind) 1 (f .low) (λ e. Judged.fine (rack-number s x e) (rw (rack-state s x e) (Step.rack e)))
-      (λ h. up (x .kind) 2 h (λ e. Judged.fine (drop-number s x e) (rw (drop-state s x e) (Step.drop e)))
-      (λ h. up (x .kind) 3 h (λ e. stepped (xfer-number s x e) (xfer-state s x e) (λ (o, h). Step.xfer e o h) (move-judged (NotOpposite.xfer e) (HookFull.xfer e)))
-      (λ h. up (x .kind) 4 h (λ e. stepped (in-number s x e) (in-state s x e) (Step.carrier-in e) (in-judged e))
-      (λ h. up (x .kind) 5 h (λ e. stepped (out-number s x e) (out-state s x e) (Step.carrier-out e) (parked-judged (exitSlot s x) (omega arith) (simp e)))
-      (λ h. up (x .kind) 6 h (λ e. stepped (miss-number s x e) (miss-state s x e) (Step.miss e) (parked-judged (entrySlot s x) (omega arith) (simp e)))
-      (λ h. up (x .kind) 7 h (λ e. stepped (tuck-number s x e) (tuck-state s x e) (λ ((p, h), r). Step.tuck e p h r) (both (ready-judged (omega arith)) (tuck-judged e)))
-      (λ h. up (x .kind) 8 h (λ e. stepped (knit-number s x e) (knit-state s x e) (λ (p, h). Step.knit e p h) (ready-judged (omega arith)))
-      (λ h. let e : x .kind ≡ 9 = omega (arith, f .high) in
-      stepped (split-number s x e) (split-state s x e ∙ split-said s x (split-hooks s x f e)) (λ ((p, h), (o, r)). Step.split e p h o r)
-      (both (ready-judged (omega arith)) (move-judged (NotOpposite.split e) (HookFull.split e)))))))))))
+  unfolding byKind
+  judged f = go (f .known)
+    where
+      go : Known (x .kind) → Judged s x (Step s x (applyOf s x)) (numberAt s x)
+      go (Known.rack e) = Judged.fine (rack-number s x e) (rw (rack-state s x e) (Step.rack e))
+      go (Known.drop e) = Judged.fine (drop-number s x e) (rw (drop-state s x e) (Step.drop e))
+      go (Known.xfer e) = stepped (xfer-number s x e) (xfer-state s x e) (λ (o, h). Step.xfer e o h) (move-judged (simp e))
+      go (Known.carrier-in e) = stepped (in-number s x e) (in-state s x e) (Step.carrier-in e) (in-judged e)
+      go (Known.carrier-out e) =
+          stepped (out-number s x e) (out-state s x e) (Step.carrier-out e) (parked-judged (exitSlot s x) (simp e (omega arith)) (λ q. omega arith) (simp e))
+      go (Known.miss e) = stepped (miss-number s x e) (miss-state s x e) (Step.miss e) (parked-judged (entrySlot s x) (simp e (omega arith)) (λ q. omega arith) (simp e))
+      go (Known.tuck e) =
+          stepped (tuck-number s x e) (tuck-state s x e) (λ ((p, h), r). Step.tuck e p h r) (both (ready-judged (loop (Forms.tuck e))) (tuck-judged e))
+      go (Known.knit e) = stepped (knit-number s x e) (knit-state s x e) (λ (p, h). Step.knit e p h) (ready-judged (loop (Forms.knit e)))
+      go (Known.split e) =
+          stepped (split-number s x e) (split-state s x e ∙ split-said s x (split-hooks s x f e)) (λ ((p, h), (o, r)). Step.split e p h o r)
+          (both (ready-judged (loop (Forms.split e))) (move-judged (simp e)))
 
   pub step-sound : InRange x → numberAt s x ≡ 0 → Step s x (applyOf s x)
   step-sound f z = go (judged f)

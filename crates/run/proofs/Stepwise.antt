@@ -15,7 +15,7 @@ use Rattle.run.specs.declared.Stepped.{Stepped}
 use Rattle.run.specs.Step.{numberAt}
 use Rattle.run.specs.Run.{reached, stay, stepOf, runFrom, answerOf}
 use Rattle.run.specs.Claims.{Stepwise, StepsAreTheRun, StepsAreOne}
-use Rattle.run.proofs.Premises.{is}
+use Rattle.record.proofs.Shapes.{is}
 use Rattle.run.proofs.Turns.{unread-step, refused-step, made-step, run-end, run-stops, run-goes}
 use Rattle.run.proofs.Answers.{short-run}
 use Rattle.run.proofs.Ranges.{slice-keeps}

@@ -7,15 +7,17 @@ use mathlib.Core.List.{List, [], _∷_, _++_}
 use mathlib.Core.Logic.{_↔_}
 use lib.ListN.{length, take, drop}
 use Rattle.machine.specs.declared.State.{State}
+use Rattle.machine.specs.Limits.{programMost}
 use Rattle.machine.specs.Machine.{emptyState}
 use Rattle.machine.specs.Range.{StateInRange}
 use Rattle.record.specs.declared.Record.{Record}
-use Rattle.record.specs.Format.{Encodes, sizeOf, byte}
+use Rattle.record.specs.Kinds.{sizeOf}
+use Rattle.record.specs.Format.{Encodes, byte, fieldsOk}
 use Rattle.run.specs.declared.Answer.{Answer}
 use Rattle.run.specs.declared.Reached.{Reached}
 use Rattle.run.specs.declared.Stepped.{Stepped}
 use Rattle.run.specs.Relation.{Step, Steps, Valid}
-use Rattle.run.specs.Reason.{Whole, fieldsOk, Reason, First}
+use Rattle.run.specs.Reason.{Whole, Reason, First}
 use Rattle.run.specs.Run.{reached, runOf, stay, stepOf, answerOf}
 
 -- ---- the run in one statement
@@ -38,9 +40,9 @@ Complete c t = (c ≡ true) ↔ (t ≡ emptyState)
 
 -- what is an answer to a program, by the ways in which a run ends: 1 (too long); 0 (done), with the relation's final state; 3 to 11
 pub data Answers (p : List ℕ) : Answer → Type 0 where
-  too-long : 32768 < length p → Answers p (record { number = 1; place = 0; complete = true; state = emptyState })
+  too-long : programMost < length p → Answers p (record { number = 1; place = 0; complete = true; state = emptyState })
   done : {t : State} {c : Bool} → Valid p t → Complete c t → Answers p (record { number = 0; place = 0; complete = c; state = t })
-  refused : {a : Answer} → length p ≤ 32768 → FirstRefusal p a → Complete (a .complete) (a .state) → Answers p a
+  refused : {a : Answer} → length p ≤ programMost → FirstRefusal p a → Complete (a .complete) (a .state) → Answers p a
 
 -- the run gives such an answer, and no other one is
 abbrev pub RunExactly : Type 0
@@ -75,19 +77,19 @@ GivesFinalState = (p : List ℕ) (t : State) → Valid p t → Done t (runOf p)
 
 -- a program that is too long gets 1, and only such a program; place 0, the empty state
 abbrev pub TooLongExactly : Type 0
-TooLongExactly = (p : List ℕ) → (runOf p .number ≡ 1) ↔ (32768 < length p)
+TooLongExactly = (p : List ℕ) → (runOf p .number ≡ 1) ↔ (programMost < length p)
 
 abbrev pub TooLongAnswer : Type 0
-TooLongAnswer = (p : List ℕ) → 32768 < length p → runOf p ≡ record { number = 1; place = 0; complete = true; state = emptyState }
+TooLongAnswer = (p : List ℕ) → programMost < length p → runOf p ≡ record { number = 1; place = 0; complete = true; state = emptyState }
 
 -- otherwise it names the first record that has no step, and the first reason that holds
 abbrev pub RefusesFirst : Type 0
-RefusesFirst = (p : List ℕ) → length p ≤ 32768 → (runOf p .number ≡ 0 → ⊥) → FirstRefusal p (runOf p)
+RefusesFirst = (p : List ℕ) → length p ≤ programMost → (runOf p .number ≡ 0 → ⊥) → FirstRefusal p (runOf p)
 
 -- nothing is left to choose: number, place and state of a first refusal are the run's
 abbrev pub RefusalIsOne : Type 0
 RefusalIsOne =
-    (p : List ℕ) (a : Answer) → length p ≤ 32768 → FirstRefusal p a → (runOf p .number ≡ a .number) × (runOf p .place ≡ a .place) × (runOf p .state ≡ a .state)
+    (p : List ℕ) (a : Answer) → length p ≤ programMost → FirstRefusal p a → (runOf p .number ≡ a .number) × (runOf p .place ≡ a .place) × (runOf p .state ≡ a .state)
 
 -- a reason holds exactly where there is no step
 abbrev pub ReasonExactlyNoStep : Type 0
@@ -95,7 +97,7 @@ ReasonExactlyNoStep = (s : State) (l : List ℕ) → ((n : ℕ) × Reason n s l)
 
 -- a place lies within the longest program, so that number and place go into one word
 abbrev pub PlaceIsSmall : Type 0
-PlaceIsSmall = (p : List ℕ) → runOf p .place < 32768
+PlaceIsSmall = (p : List ℕ) → runOf p .place < programMost
 
 -- complete, whatever the number
 abbrev pub CompleteIsEmpty : Type 0
@@ -145,10 +147,10 @@ module _ (service : State → List ℕ → Stepped) where
 
 -- stepped from the empty state, a program that is not too long gives the run's answer, and no other
 abbrev pub StepsAreTheRun : (State → List ℕ → Stepped) → Type 0
-StepsAreTheRun service = (p : List ℕ) → length p ≤ 32768 → (r : Reached) × Stepwise service emptyState p 0 r × (runOf p ≡ answerOf r)
+StepsAreTheRun service = (p : List ℕ) → length p ≤ programMost → (r : Reached) × Stepwise service emptyState p 0 r × (runOf p ≡ answerOf r)
 
 abbrev pub StepsAreOne : (State → List ℕ → Stepped) → Type 0
-StepsAreOne service = (p : List ℕ) (r : Reached) → length p ≤ 32768 → Stepwise service emptyState p 0 r → runOf p ≡ answerOf r
+StepsAreOne service = (p : List ℕ) (r : Reached) → length p ≤ programMost → Stepwise service emptyState p 0 r → runOf p ≡ answerOf r
 
 -- which a service that refuses everything does not do
 abbrev pub RefuserIsNotTheRun : Type 0

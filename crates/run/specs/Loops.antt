@@ -1,4 +1,4 @@
--- What tuck and transfers make of the loops, and their refusals: the promises of the code's small functions.
+-- What tuck and transfers make of the loops on hooks of a limit, and their refusals: the promises of the code's small functions.
 use Prim.Native.Nat.{ℕ, _+_}
 use mathlib.Core.Bool.{cond}
 use mathlib.Core.List.{List}
@@ -10,15 +10,15 @@ use Rattle.machine.specs.Machine.{hookOf}
 use Rattle.machine.specs.Geometry.{columnOf, sameColumn}
 
 -- one loop more, and its refusal
-unfoldable pub tuckNo : ℕ → ℕ
-tuckNo here = cond (leb (here + 1) 8) 0 11
+unfoldable pub tuckNo : ℕ → ℕ → ℕ
+tuckNo limit here = cond (leb (here + 1) limit) 0 11
 
-unfoldable pub tucked : List ℕ → Needle → List ℕ
-tucked l n = cond (eqb (tuckNo (getD l (hookOf n) 0)) 0) (set l (hookOf n) (getD l (hookOf n) 0 + 1)) l
+unfoldable pub tucked : ℕ → List ℕ → Needle → List ℕ
+tucked limit l n = cond (eqb (tuckNo limit (getD l (hookOf n) 0)) 0) (set l (hookOf n) (getD l (hookOf n) 0 + 1)) l
 
 -- the loops at a go to b, a then holds v, and its refusal
-unfoldable pub transferNo : List ℕ → Needle → Needle → Racking → ℕ
-transferNo l a b r = cond (sameColumn (columnOf a r) (columnOf b r)) (cond (leb (getD l (hookOf a) 0 + getD l (hookOf b) 0) 8) 0 11) 10
+unfoldable pub transferNo : ℕ → List ℕ → Needle → Needle → Racking → ℕ
+transferNo limit l a b r = cond (sameColumn (columnOf a r) (columnOf b r)) (cond (leb (getD l (hookOf a) 0 + getD l (hookOf b) 0) limit) 0 11) 10
 
-unfoldable pub transferredLoops : List ℕ → Needle → Needle → Racking → ℕ → List ℕ
-transferredLoops l a b r v = cond (eqb (transferNo l a b r) 0) (set (set l (hookOf a) v) (hookOf b) (getD l (hookOf a) 0 + getD l (hookOf b) 0)) l
+unfoldable pub transferredLoops : ℕ → List ℕ → Needle → Needle → Racking → ℕ → List ℕ
+transferredLoops limit l a b r v = cond (eqb (transferNo limit l a b r) 0) (set (set l (hookOf a) v) (hookOf b) (getD l (hookOf a) 0 + getD l (hookOf b) 0)) l

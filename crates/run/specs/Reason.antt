@@ -1,15 +1,16 @@
 -- Why a record has no step: the rows 3 to 11 of document 01's table, each said by itself, and which of them is the first.
 use Prim.Native.Nat.{ℕ, _+_, _≤_, _<_}
 use mathlib.Core.Path.{_≡_}
-use mathlib.Core.Bool.{Bool, false, _&&_, cond}
+use mathlib.Core.Bool.{false, cond}
 use mathlib.Core.List.{List, [], _∷_, _++_}
 use lib.Dec.{eqb}
 use lib.ListN.{length}
 use Rattle.machine.specs.declared.State.{State}
+use Rattle.machine.specs.Limits.{floatMost, hookLimit}
 use Rattle.machine.specs.Machine.{loopsOn, carrierOf, Each}
-use Rattle.machine.specs.Range.{numberOk}
 use Rattle.record.specs.declared.Record.{Record}
-use Rattle.record.specs.Format.{Encodes, sizeOf, byte, rackOk, needleOk, workOk}
+use Rattle.record.specs.Kinds.{IN, OUT, TUCK, sizeOf, hooksWorked, carriersNamed, loopsFormed}
+use Rattle.record.specs.Format.{Encodes, byte, fieldsOk}
 use Rattle.run.specs.Relation.{Active, Inactive, Attached, Opposite, entrySlot, exitSlot, floatOf}
 
 -- a known kind with all its bytes there
@@ -28,15 +29,7 @@ pub data CutShort (l : List ℕ) : Type 0 where
   no-byte : length l ≡ 0 → CutShort l
   too-few : (sizeOf (byte l 0) ≡ 0 → ⊥) → length l < sizeOf (byte l 0) → CutShort l
 
--- 5, field: a field outside its range, by the kind
-unfoldable pub fieldsOk : List ℕ → Bool
-fieldsOk l =
-    cond (eqb (byte l 0) 1) (rackOk (byte l 1))
-    (cond (eqb (byte l 0) 2) (needleOk (byte l 1) (byte l 2))
-    (cond (eqb (byte l 0) 3) (needleOk (byte l 1) (byte l 2) && numberOk (byte l 3))
-    (cond (eqb (byte l 0) 9) (workOk (byte l 1) (byte l 2) (byte l 3) (byte l 4) && numberOk (byte l 5))
-    (workOk (byte l 1) (byte l 2) (byte l 3) (byte l 4)))))
-
+-- 5, field: a field outside its range
 pub record FieldRange (l : List ℕ) : Type 0 where
   pub whole : Whole l
   pub outside : fieldsOk l ≡ false
@@ -44,36 +37,37 @@ pub record FieldRange (l : List ℕ) : Type 0 where
 module _ (s : State) (x : Record) where
   -- 6, already in: in for an active carrier
   pub record AlreadyIn : Type 0 where
-    pub kind : x .kind ≡ 4
+    pub kind : x .kind ≡ IN
     pub active : Active (carrierOf s (x .carrier))
 
   -- 7, not in: any other use of an inactive one
   pub record NotIn : Type 0 where
-    pub kind : 5 ≤ x .kind
+    pub carried : 1 ≤ carriersNamed (x .kind)
+    pub other : x .kind ≡ IN → ⊥
     pub carrier-off : Inactive (carrierOf s (x .carrier))
 
   -- 8, elsewhere: parked at the wrong slot; out needs the exit slot, the rest the entry slot
   pub record WrongSlot : Type 0 where
-    pub kind : 5 ≤ x .kind
+    pub carried : 1 ≤ carriersNamed (x .kind)
+    pub other : x .kind ≡ IN → ⊥
     pub active : Active (carrierOf s (x .carrier))
-    pub elsewhere : carrierOf s (x .carrier) .slot ≡ cond (eqb (x .kind) 5) (exitSlot s x) (entrySlot s x) → ⊥
+    pub elsewhere : carrierOf s (x .carrier) .slot ≡ cond (eqb (x .kind) OUT) (exitSlot s x) (entrySlot s x) → ⊥
 
-  -- 9, float: over 20 columns, for tuck, knit and split
+  -- 9, float: over 20 columns, for tuck, knit and split, which form a loop
   pub record FloatTooLong : Type 0 where
-    pub kind : 7 ≤ x .kind
+    pub formed : 1 ≤ loopsFormed (x .kind)
     pub attached : Attached (carrierOf s (x .carrier))
-    pub over : 20 < floatOf s x
+    pub over : floatMost < floatOf s x
 
-  -- 10, not opposite: columns differ, for xfer and split
-  pub data NotOpposite : Type 0 where
-    xfer : x .kind ≡ 3 → (Opposite s x → ⊥) → NotOpposite
-    split : x .kind ≡ 9 → (Opposite s x → ⊥) → NotOpposite
+  -- 10, not opposite: columns differ, for xfer and split, which work two hooks
+  pub record NotOpposite : Type 0 where
+    pub two : hooksWorked (x .kind) ≡ 2
+    pub differ : Opposite s x → ⊥
 
   -- 11, hook full: over 8 loops on a hook, the worked one of a tuck, the second of an xfer or split
   pub data HookFull : Type 0 where
-    tuck : x .kind ≡ 7 → 8 < loopsOn s (x .at) + 1 → HookFull
-    xfer : x .kind ≡ 3 → 8 < loopsOn s (x .at) + loopsOn s (x .to) → HookFull
-    split : x .kind ≡ 9 → 8 < loopsOn s (x .at) + loopsOn s (x .to) → HookFull
+    tuck : x .kind ≡ TUCK → hookLimit s < loopsOn s (x .at) + 1 → HookFull
+    second : hooksWorked (x .kind) ≡ 2 → hookLimit s < loopsOn s (x .at) + loopsOn s (x .to) → HookFull
 
 -- a reason by its number: of a record
 pub data RecordReason (n : ℕ) (s : State) (x : Record) : Type 0 where

@@ -10,29 +10,27 @@ use Rattle.machine.specs.declared.Racking.{Racking}
 use Rattle.machine.specs.declared.Slot.{Slot}
 use Rattle.machine.specs.declared.Carrier.{Carrier}
 use Rattle.machine.specs.declared.State.{State}
-use Rattle.machine.specs.Machine.{inactive, emptyState, hookOf, loopsOn, carrierOf, movedTo}
+use Rattle.machine.specs.Limits.{floatMost, hookLimit, programMost}
+use Rattle.machine.specs.Machine.{inactive, emptyState, changed, hookOf, loopsOn, carrierOf, movedTo}
 use Rattle.machine.specs.Geometry.{columnOf, entryOf, exitOf}
 use Rattle.record.specs.declared.Record.{Record}
+use Rattle.record.specs.Kinds.{RACK, DROP, XFER, IN, OUT, MISS, TUCK, KNIT, SPLIT}
 use Rattle.record.specs.Format.{Encodes}
 
 -- a state with one thing changed: the racking, the loops on a hook, carrier k
 abbrev pub racked : State → Racking → State
-racked s r = record { racking = r; loops = s .loops; carriers = s .carriers }
+racked s r = changed s r (s .loops) (s .carriers)
 
 abbrev pub withLoops : State → Needle → ℕ → State
-withLoops s n v = record { racking = s .racking; loops = set (s .loops) (hookOf n) v; carriers = s .carriers }
+withLoops s n v = changed s (s .racking) (set (s .loops) (hookOf n) v) (s .carriers)
 
 abbrev pub withCarrier : State → ℕ → Carrier → State
-withCarrier s k c = record { racking = s .racking; loops = s .loops; carriers = set (s .carriers) (k - 1) c }
+withCarrier s k c = changed s (s .racking) (s .loops) (set (s .carriers) (k - 1) c)
 
 -- all loops and attachments at one needle go to another, sides kept
 abbrev pub transferred : State → Needle → Needle → State
 transferred s a b =
-    record {
-      racking = s .racking;
-      loops = set (set (s .loops) (hookOf a) 0) (hookOf b) (loopsOn s a + loopsOn s b);
-      carriers = map (movedTo a b) (s .carriers);
-    }
+    changed s (s .racking) (set (set (s .loops) (hookOf a) 0) (hookOf b) (loopsOn s a + loopsOn s b)) (map (movedTo a b) (s .carriers))
 
 -- where a record's carrier stands before it passes the needle, and after
 abbrev pub entrySlot : State → Record → Slot
@@ -71,33 +69,33 @@ floatOf s x = natAbs (columnOf (carrierOf s (x .carrier) .needle) (s .racking) .
 
 -- an attached carrier's needle is at most 20 columns from the needle worked
 abbrev pub FloatInReach : State → Record → Type 0
-FloatInReach s x = Attached (carrierOf s (x .carrier)) → floatOf s x ≤ 20
+FloatInReach s x = Attached (carrierOf s (x .carrier)) → floatOf s x ≤ floatMost
 
 -- both needles have the same column
 abbrev pub Opposite : State → Record → Type 0
 Opposite s x = columnOf (x .at) (s .racking) ≡ columnOf (x .to) (s .racking)
 
 -- a hook holds 0 to 8 loops
-abbrev pub Room : ℕ → Type 0
-Room n = n ≤ 8
+abbrev pub Room : State → ℕ → Type 0
+Room s n = n ≤ hookLimit s
 
 -- executing x on s produces t
 pub data Step (s : State) (x : Record) : State → Type 0 where
-  rack : x .kind ≡ 1 → Step s x (racked s (x .racking))
-  drop : x .kind ≡ 2 → Step s x (withLoops s (x .at) 0)
-  xfer : x .kind ≡ 3 → Opposite s x → Room (loopsOn s (x .at) + loopsOn s (x .to))
+  rack : x .kind ≡ RACK → Step s x (racked s (x .racking))
+  drop : x .kind ≡ DROP → Step s x (withLoops s (x .at) 0)
+  xfer : x .kind ≡ XFER → Opposite s x → Room s (loopsOn s (x .at) + loopsOn s (x .to))
       → Step s x (transferred s (x .at) (x .to))
-  carrier-in : x .kind ≡ 4 → Inactive (carrierOf s (x .carrier))
+  carrier-in : x .kind ≡ IN → Inactive (carrierOf s (x .carrier))
       → Step s x (withCarrier s (x .carrier) (unattached (entrySlot s x)))
-  carrier-out : x .kind ≡ 5 → ParkedAt (carrierOf s (x .carrier)) (exitSlot s x)
+  carrier-out : x .kind ≡ OUT → ParkedAt (carrierOf s (x .carrier)) (exitSlot s x)
       → Step s x (withCarrier s (x .carrier) inactive)
-  miss : x .kind ≡ 6 → ParkedAt (carrierOf s (x .carrier)) (entrySlot s x)
+  miss : x .kind ≡ MISS → ParkedAt (carrierOf s (x .carrier)) (entrySlot s x)
       → Step s x (withCarrier s (x .carrier) (reparked (carrierOf s (x .carrier)) (exitSlot s x)))
-  tuck : x .kind ≡ 7 → ParkedAt (carrierOf s (x .carrier)) (entrySlot s x) → FloatInReach s x → Room (loopsOn s (x .at) + 1)
+  tuck : x .kind ≡ TUCK → ParkedAt (carrierOf s (x .carrier)) (entrySlot s x) → FloatInReach s x → Room s (loopsOn s (x .at) + 1)
       → Step s x (withCarrier (withLoops s (x .at) (loopsOn s (x .at) + 1)) (x .carrier) (attached (exitSlot s x) (x .at) (x .right)))
-  knit : x .kind ≡ 8 → ParkedAt (carrierOf s (x .carrier)) (entrySlot s x) → FloatInReach s x
+  knit : x .kind ≡ KNIT → ParkedAt (carrierOf s (x .carrier)) (entrySlot s x) → FloatInReach s x
       → Step s x (withCarrier (withLoops s (x .at) 1) (x .carrier) (attached (exitSlot s x) (x .at) (x .right)))
-  split : x .kind ≡ 9 → ParkedAt (carrierOf s (x .carrier)) (entrySlot s x) → FloatInReach s x → Opposite s x → Room (loopsOn s (x .at) + loopsOn s (x .to))
+  split : x .kind ≡ SPLIT → ParkedAt (carrierOf s (x .carrier)) (entrySlot s x) → FloatInReach s x → Opposite s x → Room s (loopsOn s (x .at) + loopsOn s (x .to))
       → Step s x (withCarrier (withLoops (transferred s (x .at) (x .to)) (x .at) 1) (x .carrier) (attached (exitSlot s x) (x .at) (x .right)))
 
 -- the records of a list of bytes, each with its step in turn (000: V-seq)
@@ -108,5 +106,5 @@ pub data Steps : State → List ℕ → State → Type 0 where
 -- a valid program and its final state
 pub record Valid (p : List ℕ) (t : State) : Type 0 where
   -- 01: a program is at most 32,768 bytes
-  pub short : length p ≤ 32768
+  pub short : length p ≤ programMost
   pub steps : Steps emptyState p t

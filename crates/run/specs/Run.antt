@@ -5,6 +5,7 @@ use mathlib.Core.List.{List, [], _∷_}
 use lib.ListN.{length}
 use lib.Dec.{eqb, leb}
 use Rattle.machine.specs.declared.State.{State}
+use Rattle.machine.specs.Limits.{programMost}
 use Rattle.machine.specs.Machine.{emptyState, completeOf}
 use Rattle.record.specs.Format.{decodeOf}
 use Rattle.run.specs.declared.Reached.{Reached}
@@ -45,7 +46,7 @@ answerOf r = record { number = r .number; place = r .place; complete = completeO
 
 -- 1 (too long) comes first
 abbrev pub reachedOf : List ℕ → Reached
-reachedOf p = cond (leb (length p) 32768) (runFrom 0 p 0 emptyState) (reached 1 0 emptyState)
+reachedOf p = cond (leb (length p) programMost) (runFrom 0 p 0 emptyState) (reached 1 0 emptyState)
 
 unfoldable pub runOf : List ℕ → Answer
 runOf p = answerOf (reachedOf p)

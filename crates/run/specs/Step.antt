@@ -12,10 +12,13 @@ use Rattle.machine.specs.declared.Racking.{Racking}
 use Rattle.machine.specs.declared.Slot.{Slot}
 use Rattle.machine.specs.declared.Carrier.{Carrier}
 use Rattle.machine.specs.declared.State.{State}
-use Rattle.machine.specs.Machine.{inactive, hookOf, loopsOn, carrierOf, movedTo}
+use Rattle.machine.specs.Limits.{hookLimit}
+use Rattle.machine.specs.Machine.{inactive, changed, hookOf, loopsOn, carrierOf, movedTo}
 use Rattle.machine.specs.Geometry.{eqZ, columnOf, entryOf, exitOf, sameColumn, withinFloat}
 use Rattle.record.specs.declared.Record.{Record}
-use Rattle.record.specs.Names.{needleCount, needlesOf, carriersOf}
+use Rattle.record.specs.Kinds.{IN, OUT, MISS, TUCK, loopsFormed, moves}
+use Rattle.record.specs.Format.{noNeedle}
+use Rattle.record.specs.Names.{needlesOf, carriersOf, rackingAfter}
 
 -- ---- see: a carrier shows the column of its attachment and not the needle
 pub record Look : Type 0 where
@@ -26,6 +29,7 @@ pub record Look : Type 0 where
 
 pub record Seen : Type 0 where
   pub racking : Racking
+  pub limit : ℕ
   pub here : ℕ
   pub there : ℕ
   pub look : Look
@@ -34,7 +38,7 @@ unfoldable pub lookOf : Racking → Carrier → Look
 lookOf r c = record { active = not (eqb (c .active) 0); slot = c .slot; attached = not (eqb (c .side) 0); column = columnOf (c .needle) r }
 
 unfoldable pub seeOf : State → Record → Seen
-seeOf s x = record { racking = s .racking; here = loopsOn s (x .at); there = loopsOn s (x .to); look = lookOf (s .racking) (carrierOf s (x .carrier)) }
+seeOf s x = record { racking = s .racking; limit = hookLimit s; here = loopsOn s (x .at); there = loopsOn s (x .to); look = lookOf (s .racking) (carrierOf s (x .carrier)) }
 
 -- ---- decide: the number is the first that holds, 0 for none
 abbrev pub orNumber : ℕ → ℕ → ℕ
@@ -51,32 +55,31 @@ floatNo c z = cond (c .attached) (cond (withinFloat (c .column) z) 0 9) 0
 -- 6 to 9: the carrier is inactive for in, at the exit slot for out, at the entry slot for the rest, and near for tuck, knit and split
 abbrev pub askedNo : ℕ → Needle → Bool → Racking → Look → ℕ
 askedNo kind n right r c =
-    cond (leb kind 3) 0
-    (cond (eqb kind 4) (cond (c .active) 6 0)
-    (cond (eqb kind 5) (parkedNo (c .active) (c .slot) (exitOf (columnOf n r) right))
-    (cond (eqb kind 6) (parkedNo (c .active) (c .slot) (entryOf (columnOf n r) right))
-    (orNumber (parkedNo (c .active) (c .slot) (entryOf (columnOf n r) right)) (floatNo c (columnOf n r))))))
+    cond (eqb kind IN) (cond (c .active) 6 0)
+    (cond (eqb kind OUT) (parkedNo (c .active) (c .slot) (exitOf (columnOf n r) right))
+    (cond (eqb kind MISS) (parkedNo (c .active) (c .slot) (entryOf (columnOf n r) right))
+    (cond (leb 1 (loopsFormed kind)) (orNumber (parkedNo (c .active) (c .slot) (entryOf (columnOf n r) right)) (floatNo c (columnOf n r))) 0)))
 
 unfoldable pub carrierNo : Record → Racking → Look → ℕ
 carrierNo x r c = askedNo (x .kind) (x .at) (x .right) r c
 
 -- 10: the two needles of xfer and split
 unfoldable pub oppositeNo : Record → Racking → ℕ
-oppositeNo x r = cond (eqb (needleCount (x .kind)) 2) (cond (sameColumn (columnOf (x .at) r) (columnOf (x .to) r)) 0 10) 0
+oppositeNo x r = cond (moves (x .kind)) (cond (sameColumn (columnOf (x .at) r) (columnOf (x .to) r)) 0 10) 0
 
 -- the loops on the first needle and on the second, afterwards; 0, and not stored, for a kind that works no such hook
 unfoldable pub firstAfter : ℕ → ℕ → ℕ
-firstAfter kind here = cond (eqb kind 7) (here + 1) (cond (leb kind 7) 0 1)
+firstAfter kind here = cond (eqb kind TUCK) (here + loopsFormed kind) (loopsFormed kind)
 
 unfoldable pub secondAfter : ℕ → ℕ → ℕ → ℕ
-secondAfter kind here there = cond (eqb (needleCount kind) 2) (here + there) 0
+secondAfter kind here there = cond (moves kind) (here + there) 0
 
--- 11: either is over 8
-unfoldable pub roomNo : ℕ → ℕ → ℕ → ℕ
-roomNo kind here there = cond (leb (firstAfter kind here) 8) (cond (leb (secondAfter kind here there) 8) 0 11) 11
+-- 11: either is over the limit
+unfoldable pub roomNo : ℕ → ℕ → ℕ → ℕ → ℕ
+roomNo limit kind here there = cond (leb (firstAfter kind here) limit) (cond (leb (secondAfter kind here there) limit) 0 11) 11
 
 unfoldable pub decidedNo : Record → Seen → ℕ
-decidedNo x s = orNumber (carrierNo x (s .racking) (s .look)) (orNumber (oppositeNo x (s .racking)) (roomNo (x .kind) (s .here) (s .there)))
+decidedNo x s = orNumber (carrierNo x (s .racking) (s .look)) (orNumber (oppositeNo x (s .racking)) (roomNo (s .limit) (x .kind) (s .here) (s .there)))
 
 -- ---- apply: edits at listed places
 module _ {A W : Type 0} (act : W → A → A) (d : A) where
@@ -96,14 +99,11 @@ pub record Act : Type 0 where
   pub side : ℕ
   pub needle : Needle
 
-abbrev pub noNeedle : Needle
-noNeedle = record { 0 = 0; 1 = 0 }
-
 unfoldable pub actOf : Record → Racking → Act
 actOf x r =
-    cond (leb (x .kind) 4) (record { active = 1; slot = entryOf (columnOf (x .at) r) (x .right); keep = false; side = 0; needle = noNeedle })
-    (cond (eqb (x .kind) 5) (record { active = 0; slot = record { 0 = pos 0 }; keep = false; side = 0; needle = noNeedle })
-    (cond (eqb (x .kind) 6) (record { active = 1; slot = exitOf (columnOf (x .at) r) (x .right); keep = true; side = 0; needle = noNeedle })
+    cond (eqb (x .kind) IN) (record { active = 1; slot = entryOf (columnOf (x .at) r) (x .right); keep = false; side = 0; needle = noNeedle })
+    (cond (eqb (x .kind) OUT) (record { active = 0; slot = record { 0 = pos 0 }; keep = false; side = 0; needle = noNeedle })
+    (cond (eqb (x .kind) MISS) (record { active = 1; slot = exitOf (columnOf (x .at) r) (x .right); keep = true; side = 0; needle = noNeedle })
     (record { active = 1; slot = exitOf (columnOf (x .at) r) (x .right); keep = false; side = cond (x .right) 2 1; needle = x .at })))
 
 unfoldable pub acted : Act → Carrier → Carrier
@@ -111,10 +111,7 @@ acted a c = record { active = a .active; side = cond (a .keep) (c .side) (a .sid
 
 -- a record with two needles takes the attachments along
 unfoldable pub moveAttachments : Record → List Carrier → List Carrier
-moveAttachments x l = cond (eqb (needleCount (x .kind)) 2) (map (movedTo (x .at) (x .to)) l) l
-
-unfoldable pub rackingAfter : Record → Racking → Racking
-rackingAfter x r = cond (leb (x .kind) 1) (x .racking) r
+moveAttachments x l = cond (moves (x .kind)) (map (movedTo (x .at) (x .to)) l) l
 
 -- ---- the step of a record: its number, and the state after it where that is 0
 unfoldable pub numberAt : State → Record → ℕ
@@ -122,8 +119,6 @@ numberAt s x = decidedNo x (seeOf s x)
 
 unfoldable pub applyOf : State → Record → State
 applyOf s x =
-    record {
-      racking = rackingAfter x (s .racking);
-      loops = edit stored 0 (map hookOf (needlesOf x)) (firstAfter (x .kind) (loopsOn s (x .at)) ∷ secondAfter (x .kind) (loopsOn s (x .at)) (loopsOn s (x .to)) ∷ []) (s .loops);
-      carriers = edit acted inactive (map (λ (k : ℕ). k - 1) (carriersOf x)) (actOf x (s .racking) ∷ []) (moveAttachments x (s .carriers));
-    }
+    changed s (rackingAfter (s .racking) x)
+    (edit stored 0 (map hookOf (needlesOf x)) (firstAfter (x .kind) (loopsOn s (x .at)) ∷ secondAfter (x .kind) (loopsOn s (x .at)) (loopsOn s (x .to)) ∷ []) (s .loops))
+    (edit acted inactive (map (λ (k : ℕ). k - 1) (carriersOf x)) (actOf x (s .racking) ∷ []) (moveAttachments x (s .carriers)))

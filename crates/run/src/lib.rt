@@ -4,8 +4,10 @@ ghost use Prim.Native.Nat.{_≤_, _<_};
 ghost use lib.ListN.{getD, set};
 ghost use lib.Dec.{eqb};
 ghost use mathlib.Core.Bool.{not, cond};
+ghost use Rattle.machine.specs.Limits.{hookMost};
 ghost use Rattle.machine.specs.Machine.{OnBed, hookOf, inactive, emptyState};
 ghost use Rattle.machine.specs.Geometry.{columnOf, entryOf, exitOf};
+ghost use Rattle.record.specs.Kinds.{IN, OUT, TUCK, KNIT};
 ghost use Rattle.run.specs.Relation.{unattached, reparked, attached};
 ghost use Rattle.run.specs.Step.{lookOf, parkedNo, floatNo, orNumber, askedNo};
 ghost use Rattle.run.specs.Loops.{tuckNo, tucked, transferNo, transferredLoops};
@@ -15,6 +17,24 @@ use machine::Needle;
 use machine::Racking;
 use machine::Slot;
 use machine::State;
+use machine::numbers::ALREADY_IN;
+use machine::numbers::CUT_SHORT;
+use machine::numbers::FLOAT_TOO_LONG;
+use machine::numbers::HOOK_FULL;
+use machine::numbers::NOT_IN;
+use machine::numbers::NOT_OPPOSITE;
+use machine::numbers::TOO_LONG;
+use machine::numbers::UNKNOWN_KIND;
+use machine::numbers::WRONG_SLOT;
+use record::DROP;
+use record::IN;
+use record::KNIT;
+use record::MISS;
+use record::OUT;
+use record::RACK;
+use record::SPLIT;
+use record::TUCK;
+use record::XFER;
 
 // Where a run stopped: the refusal's number and the record's start, or 0 and 0, and the state.
 pub struct Reached {
@@ -43,23 +63,6 @@ pub struct Stepped {
     pub length: usize,
     pub state: State,
 }
-
-// The numbers of refusals, besides those of the bytes (crate record).
-pub const TOO_LONG: u8 = 1;
-
-pub const NO_ROOM: u8 = 2;
-
-pub const ALREADY_IN: u8 = 6;
-
-pub const NOT_IN: u8 = 7;
-
-pub const WRONG_SLOT: u8 = 8;
-
-pub const FLOAT_TOO_LONG: u8 = 9;
-
-pub const NOT_OPPOSITE: u8 = 10;
-
-pub const HOOK_FULL: u8 = 11;
 
 // Whether the carrier is parked at the slot: 0, or 7 or 8.
 fn parked(c: Carrier, z: Slot) -> u8
@@ -95,18 +98,14 @@ fn ready(c: Carrier, n: Needle, r: Racking, right: bool) -> u8
 
 // What a record of this kind asks of its carrier: 0, or 6 to 9.
 fn asked(kind: u8, n: Needle, right: bool, c: Carrier, r: Racking) -> u8
-    requires { ⌜ (kind ≤ 9) × (OnBed n) ⌝ }
+    requires { ⌜ OnBed n ⌝ }
     ensures { λ k. ⌜ k ≡ askedNo kind n right r (lookOf r c) ⌝ }
 {
     match kind {
-        // in
-        4 => { if c.active == 0 { 0 } else { ALREADY_IN } }
-        // out
-        5 => parked(c, n.exit(r, right)),
-        // miss
-        6 => parked(c, n.entry(r, right)),
-        // tuck, knit, split
-        7..=9 => ready(c, n, r, right),
+        IN => { if c.active == 0 { 0 } else { ALREADY_IN } }
+        OUT => parked(c, n.exit(r, right)),
+        MISS => parked(c, n.entry(r, right)),
+        TUCK..=SPLIT => ready(c, n, r, right),
         _ => 0,
     }
 }
@@ -126,12 +125,12 @@ fn enter(n: Needle, r: Racking, right: bool) -> Carrier
 }
 
 fn enter_or_leave(kind: u8, n: Needle, r: Racking, right: bool) -> Carrier
-    requires { ⌜ (4 ≤ kind) × (kind ≤ 5) × (OnBed n) ⌝ }
-    ensures { λ c. ⌜ c ≡ cond (eqb kind 4) (unattached (entryOf (columnOf n r) right)) inactive ⌝ }
+    requires { ⌜ (IN ≤ kind) × (kind ≤ OUT) × (OnBed n) ⌝ }
+    ensures { λ c. ⌜ c ≡ cond (eqb kind IN) (unattached (entryOf (columnOf n r) right)) inactive ⌝ }
 {
     match kind {
-        4 => enter(n, r, right),
-        5 => Carrier::inactive(),
+        IN => enter(n, r, right),
+        OUT => Carrier::inactive(),
         _ => Carrier::inactive(),
     }
 }
@@ -176,7 +175,7 @@ fn put(loops: &mut [u8; State::HOOKS], n: Needle, v: u8)
 // One loop more on the needle's hook: 0, or 11 and no store.
 fn tuck(loops: &mut [u8; State::HOOKS], n: Needle) -> u8
     requires { ⌜ OnBed n ⌝ }
-    ensures { λ k. ⌜ (k ≡ tuckNo (getD (now (loops .entry)) (hookOf n) 0)) × (now (loops .exit) ≡ tucked (now (loops .entry)) n) ⌝ }
+    ensures { λ k. ⌜ (k ≡ tuckNo hookMost (getD (now (loops .entry)) (hookOf n) 0)) × (now (loops .exit) ≡ tucked hookMost (now (loops .entry)) n) ⌝ }
 {
     let i = n.hook();
     let here = loops[i];
@@ -189,13 +188,13 @@ fn tuck(loops: &mut [u8; State::HOOKS], n: Needle) -> u8
 
 // The loop that a tuck or a knit forms on the needle's hook: 0, or 11 and no store.
 fn form(kind: u8, loops: &mut [u8; State::HOOKS], n: Needle) -> u8
-    requires { ⌜ (7 ≤ kind) × (kind ≤ 8) × (OnBed n) ⌝ }
-    ensures { λ k. ⌜ (k ≡ cond (eqb kind 7) (tuckNo (getD (now (loops .entry)) (hookOf n) 0)) 0)
-        × (now (loops .exit) ≡ cond (eqb kind 7) (tucked (now (loops .entry)) n) (set (now (loops .entry)) (hookOf n) 1)) ⌝ }
+    requires { ⌜ (TUCK ≤ kind) × (kind ≤ KNIT) × (OnBed n) ⌝ }
+    ensures { λ k. ⌜ (k ≡ cond (eqb kind TUCK) (tuckNo hookMost (getD (now (loops .entry)) (hookOf n) 0)) 0)
+        × (now (loops .exit) ≡ cond (eqb kind TUCK) (tucked hookMost (now (loops .entry)) n) (set (now (loops .entry)) (hookOf n) 1)) ⌝ }
 {
     match kind {
-        7 => tuck(loops, n),
-        8 => {
+        TUCK => tuck(loops, n),
+        KNIT => {
             put(loops, n, 1);
             0
         }
@@ -206,7 +205,7 @@ fn form(kind: u8, loops: &mut [u8; State::HOOKS], n: Needle) -> u8
 // The loops at a go to b, and a then holds v: 0, or 10 or 11 and no store.
 fn transfer(loops: &mut [u8; State::HOOKS], a: Needle, b: Needle, r: Racking, v: u8) -> u8
     requires { ⌜ (OnBed a) × (OnBed b) ⌝ }
-    ensures { λ k. ⌜ (k ≡ transferNo (now (loops .entry)) a b r) × (now (loops .exit) ≡ transferredLoops (now (loops .entry)) a b r v) ⌝ }
+    ensures { λ k. ⌜ (k ≡ transferNo hookMost (now (loops .entry)) a b r) × (now (loops .exit) ≡ transferredLoops hookMost (now (loops .entry)) a b r v) ⌝ }
 {
     let z = a.column(r);
     if !z.equals(b.column(r)) {
@@ -259,15 +258,12 @@ fn run_from(state: State, program: &[u8]) -> Reached
         let n = x.at;
         let r = st.racking;
         match kind {
-            // rack
-            1 => {
+            RACK => {
                 let z = x.racking;
                 st.racking = z;
             }
-            // drop
-            2 => put(&mut st.loops, n, 0),
-            // xfer
-            3 => {
+            DROP => put(&mut st.loops, n, 0),
+            XFER => {
                 let m = x.to;
                 let number = transfer(&mut st.loops, n, m, r, 0);
                 if number != 0 {
@@ -279,8 +275,7 @@ fn run_from(state: State, program: &[u8]) -> Reached
                     st.carriers = ds;
                 }
             }
-            // in, out
-            4..=5 => {
+            IN..=OUT => {
                 let k = (x.carrier as usize) - 1;
                 let c = st.carriers[k];
                 let number = asked(kind, n, x.right, c, r);
@@ -290,8 +285,7 @@ fn run_from(state: State, program: &[u8]) -> Reached
                 let then = enter_or_leave(kind, n, r, x.right);
                 st.carriers[k] = then;
             }
-            // miss
-            6 => {
+            MISS => {
                 let k = (x.carrier as usize) - 1;
                 let c = st.carriers[k];
                 let number = asked(kind, n, x.right, c, r);
@@ -301,8 +295,8 @@ fn run_from(state: State, program: &[u8]) -> Reached
                 let then = pass(c, n, r, x.right);
                 st.carriers[k] = then;
             }
-            // tuck, knit: `asked` says `ready` of both, with one more look at the kind
-            7..=8 => {
+            // `asked` says `ready` of both, with one more look at the kind
+            TUCK..=KNIT => {
                 let k = (x.carrier as usize) - 1;
                 let c = st.carriers[k];
                 let number = ready(c, n, r, x.right);
@@ -316,8 +310,7 @@ fn run_from(state: State, program: &[u8]) -> Reached
                 let then = attach(n, r, x.right);
                 st.carriers[k] = then;
             }
-            // split
-            9 => {
+            SPLIT => {
                 let m = x.to;
                 let k = (x.carrier as usize) - 1;
                 let c = st.carriers[k];
@@ -419,14 +412,14 @@ pub fn step(state: State, bytes: &[u8]) -> Stepped
     ensures { λ t. ⌜ t ≡ stepOf state (now (bytes .entry)) ⌝ }
 {
     if bytes.len() == 0 {
-        return kept(record::CUT_SHORT, state);
+        return kept(CUT_SHORT, state);
     }
     let size = record::size_of(bytes[0]);
     if size == 0 {
-        return kept(record::UNKNOWN_KIND, state);
+        return kept(UNKNOWN_KIND, state);
     }
     if bytes.len() < size {
-        return kept(record::CUT_SHORT, state);
+        return kept(CUT_SHORT, state);
     }
     let a = run_from(state, &bytes[..size]);
     if a.number != 0 {

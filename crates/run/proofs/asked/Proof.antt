@@ -1,14 +1,16 @@
 -- By the kind. Assumes nothing.
 use borrow.Author.Needs.{needs}
-use borrow.Author.Tests.{ne-eqb, le-leb, lt-leb}
+use borrow.Author.Tests.{ne-eqb}
 use native.Mathlib.Omega.{arith}
 use mathlib.Core.Path.{_≡_, sym, ap, _∙_}
 use mathlib.Core.Bool.{not, cond}
 use Prim.Native.Nat.{ℕ, _≤_}
-use lib.Dec.{eqb}
+use lib.Dec.{eqb, leb}
 use Rattle.machine.specs.declared.Column.{Column}
 use Rattle.machine.specs.declared.Slot.{Slot}
 use Rattle.machine.specs.Geometry.{columnOf, entryOf, exitOf}
+use Rattle.record.specs.Kinds.{IN, OUT, MISS, TUCK, SPLIT}
+use Rattle.record.proofs.Shapes.{forms-one, forms-none}
 use Rattle.run.specs.Step.{Look, orNumber, parkedNo, floatNo, lookOf, askedNo}
 use Rattle.run.proofs.Looks.{parked-seen}
 use Rattle.run.proofs.Premises.{in-zero, in-six}
@@ -33,20 +35,20 @@ module _ (b : tie.Start) where
   abbrev parks : Slot → ℕ
   parks s = parkedNo (not (eqb (b .args .c .active) 0)) (b .args .c .slot) s
 
-  of-in : k ≡ 4 → said ≡ cond (look .active) 6 0
+  of-in : k ≡ IN → said ≡ cond (look .active) 6 0
   of-in e = simp e
 
-  of-out : k ≡ 5 → {s : Slot} → s ≡ exitOf z (b .args .right) → parks s ≡ said
+  of-out : k ≡ OUT → {s : Slot} → s ≡ exitOf z (b .args .right) → parks s ≡ said
   of-out e {s} p = parked-seen (b .args .r) (b .args .c) s ∙ ap (parkedNo (look .active) (look .slot)) p ∙ sym (simp e)
 
-  of-miss : k ≡ 6 → {s : Slot} → s ≡ entryOf z (b .args .right) → parks s ≡ said
+  of-miss : k ≡ MISS → {s : Slot} → s ≡ entryOf z (b .args .right) → parks s ≡ said
   of-miss e {s} p = parked-seen (b .args .r) (b .args .c) s ∙ ap (parkedNo (look .active) (look .slot)) p ∙ sym (simp e)
 
-  of-rest : 7 ≤ k → said ≡ orNumber (parkedNo (look .active) (look .slot) (entryOf z (b .args .right))) (floatNo look z)
-  of-rest h = simp (lt-leb k 3 (omega arith), ne-eqb k 4 (λ e. omega arith), ne-eqb k 5 (λ e. omega arith), ne-eqb k 6 (λ e. omega arith))
+  of-rest : TUCK ≤ k → k ≤ SPLIT → said ≡ orNumber (parkedNo (look .active) (look .slot) (entryOf z (b .args .right))) (floatNo look z)
+  of-rest h j = simp (ne-eqb k IN (λ e. omega arith), ne-eqb k OUT (λ e. omega arith), ne-eqb k MISS (λ e. omega arith), ap (leb 1) (forms-one k h j))
 
-  of-none : k ≤ 6 → (k ≡ 4 → ⊥) → (k ≡ 5 → ⊥) → (k ≡ 6 → ⊥) → said ≡ 0
-  of-none h n4 n5 n6 = simp (le-leb k 3 (omega (arith, h, n4, n5, n6)))
+  of-none : (k ≡ IN → ⊥) → (k ≡ OUT → ⊥) → (k ≡ MISS → ⊥) → (TUCK ≤ k → k ≤ SPLIT → ⊥) → said ≡ 0
+  of-none a b d h = simp (ne-eqb k IN a, ne-eqb k OUT b, ne-eqb k MISS d, ap (leb 1) (forms-none k h))
 
 exit-requires : tie.Need-exit-requires
 exit-requires c κs = search needs
@@ -76,13 +78,13 @@ returns-4 : tie.Need-returns-4
 returns-4 c = c .parked2 .ensures ∙ of-miss (c .before .before .before) (c .before .before .match .keys3) (c .before .entry .ensures)
 
 returns-5 : tie.Need-returns-5
-returns-5 c = c .ready .ensures ∙ sym (of-rest (c .before .before .before .before) (omega (arith, c .before .before .if2 .left)))
+returns-5 c = c .ready .ensures ∙ sym (of-rest (c .before .before .before .before) (omega (arith, c .before .before .if2 .left)) (omega (arith, c .before .if3 .taken)))
 
 returns-6 : tie.Need-returns-6
-returns-6 c = let no = c .before .match .rest in sym (of-none (c .before .before) (omega (arith, c .if2 .taken)) (no .0 .0 .1) (no .0 .1) (no .1))
+returns-6 c = let no = c .before .match .rest in sym (of-none (c .before .before) (no .0 .0 .1) (no .0 .1) (no .1) (λ h j. omega (arith, c .if2 .taken)))
 
 returns-7 : tie.Need-returns-7
-returns-7 c = absurd (omega (arith, c .if3 .left, c .before .before .before .pre .0))
+returns-7 c = let no = c .before .before .match .rest in sym (of-none (c .before .before .before) (no .0 .0 .1) (no .0 .1) (no .1) (λ h j. omega (arith, c .if3 .left)))
 
 pub asked-spec : {M : Type 1} → statement M
 asked-spec =

@@ -19,7 +19,7 @@ returns c = simp (c .before .match .keys1) (c .enter .ensures)
 returns-2 : tie.Need-returns-2
 returns-2 c = simp (c .before .match .keys2) (c .inactive .ensures)
 
--- kinds are 4 and 5
+-- kinds are in and out
 returns-3 : tie.Need-returns-3
 returns-3 c = let no = c .before .match .rest in absurd (omega (arith, c .before .before .pre .0, c .before .before .pre .1, no .0 .1, no .1))
 

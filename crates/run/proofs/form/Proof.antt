@@ -17,7 +17,7 @@ returns c = simp (c .before .before .match .keys1) (c .tuck .ensures)
 returns-2 : tie.Need-returns-2
 returns-2 c = simp (c .before .before .match .keys2) (refl, c .put .ensures)
 
--- kinds are 7 and 8
+-- kinds are tuck and knit
 returns-3 : tie.Need-returns-3
 returns-3 c = let no = c .match .rest in absurd (omega (arith, c .before .pre .0, c .before .pre .1, no .0 .1, no .1))
 

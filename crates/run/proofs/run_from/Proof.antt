@@ -5,10 +5,13 @@ use mathlib.Core.List.{List}
 use native.Mathlib.Omega.{arith}
 use borrow.Author.Needs.{needs}
 use lib.ListN.{length, drop}
+use Rattle.machine.specs.Limits.{carrierCount, hookLimit}
 use Rattle.machine.specs.declared.State.{State}
 use Rattle.record.specs.declared.Record.{Record}
 use Rattle.record.specs.declared.Decoded.{Decoded}
-use Rattle.record.proofs.Ranges.{InRange, four}
+use Rattle.record.specs.Kinds.{IN, OUT, TUCK, KNIT}
+use Rattle.record.proofs.Shapes.{above-bare, known-least, known-most, carrying}
+use Rattle.record.proofs.Ranges.{InRange}
 use Rattle.run.specs.Step.{numberAt}
 use Rattle.run.specs.Run.{reached, runFrom}
 use Rattle.run.proofs.Turns.{Turn, ended, turned, refused, in-range, sized, stopped, goes}
@@ -65,10 +68,10 @@ module _ (b : tie.Else1 Inv-loop μ-loop) where
 
   -- the carrier of a kind that has one is one of the ten
   abbrev Carried : Type 0
-  Carried = (1 ≤ x .carrier) × (x .carrier ≤ 10)
+  Carried = (1 ≤ x .carrier) × (x .carrier ≤ carrierCount)
 
-  carried : 4 ≤ x .kind → Carried
-  carried h = (known .carrier-low h, known .carrier-high)
+  carried : IN ≤ x .kind → Carried
+  carried h = (known .carrier-low (carrying (known .known) h), known .carrier-high)
 
 miss-carrier : (m : tie.At-match-keys4 Inv-loop μ-loop) → Carried (m .before .before .before .before .before)
 miss-carrier m = carried (m .before .before .before .before .before) (omega (arith, m .match .keys4))
@@ -81,11 +84,11 @@ module _ (t : tie.Then9 Inv-loop μ-loop) where
   abbrev in-out : tie.Else1 Inv-loop μ-loop
   in-out = t .before .before .before .before .before .before .before
 
-  in-out-low : 4 ≤ x in-out .kind
+  in-out-low : IN ≤ x in-out .kind
   in-out-low = let no = t .before .before .match .rest in
-      four (x in-out .kind) (known in-out .low) (no .0 .0 .0 .0 .1) (no .0 .0 .0 .1) (no .0 .0 .1)
+      above-bare (x in-out .kind) (known-least (known in-out .known)) (no .0 .0 .0 .0 .1) (no .0 .0 .0 .1) (no .0 .0 .1)
 
-  in-out-high : x in-out .kind ≤ 5
+  in-out-high : x in-out .kind ≤ OUT
   in-out-high = omega (arith, t .if9 .taken, t .before .before .match .rest .0 .1)
 
   in-out-carrier : Carried in-out
@@ -96,10 +99,10 @@ module _ (t : tie.Then11 Inv-loop μ-loop) where
   abbrev loop : tie.Else1 Inv-loop μ-loop
   loop = t .before .before .before .before .before .before .before .before
 
-  loop-low : 7 ≤ x loop .kind
+  loop-low : TUCK ≤ x loop .kind
   loop-low = omega (arith, t .before .if9 .left, t .before .before .before .match .rest .0 .1)
 
-  loop-high : x loop .kind ≤ 8
+  loop-high : x loop .kind ≤ KNIT
   loop-high = omega (arith, t .if11 .taken, t .before .before .before .match .rest .1)
 
   loop-carrier : Carried loop
@@ -141,7 +144,7 @@ stop-requires-2 c κs = search needs
 
 returns-2 : tie.Need-returns-2 Inv-loop μ-loop
 returns-2 c = let m = c .before .before .before .before .before in let b = m .before .before .before .before .before in let e = m .match .keys3 in let told = c .before .before .transfer .ensures in
-    c .stop2 .ensures ∙ simp (told .1, transfer-kept (s b .loops) (x b .at) (x b .to) (s b .racking) 0 _ (told .0) (c .before .if2 .taken)) (halt b (xfer-stopped (s b) (x b) e _ (told .0)) (c .before .if2 .taken))
+    c .stop2 .ensures ∙ simp (told .1, transfer-kept (hookLimit (s b)) (s b .loops) (x b .at) (x b .to) (s b .racking) 0 _ (told .0) (c .before .if2 .taken)) (halt b (xfer-stopped (s b) (x b) e _ (told .0)) (c .before .if2 .taken))
 
 any-beside-requires : tie.Need-any-beside-requires Inv-loop μ-loop
 any-beside-requires c κs = search needs
@@ -162,7 +165,7 @@ element-copy-out-c : tie.Need-element-copy-out-c Inv-loop μ-loop
 element-copy-out-c c = omega (arith, miss-carrier (c .before))
 
 asked-requires : tie.Need-asked-requires Inv-loop μ-loop
-asked-requires c κs = let b = c .before .before .before .before .before .before .before in (known b .high, known b .at-bed)
+asked-requires c κs = let b = c .before .before .before .before .before .before .before in known b .at-bed
 
 stop-requires-3 : tie.Need-stop-requires-3 Inv-loop μ-loop
 stop-requires-3 c κs = search needs
@@ -193,7 +196,7 @@ element-copy-out-c-2 : tie.Need-element-copy-out-c-2 Inv-loop μ-loop
 element-copy-out-c-2 c = omega (arith, split-carrier (c .before .before))
 
 asked-requires-2 : tie.Need-asked-requires-2 Inv-loop μ-loop
-asked-requires-2 c κs = let b = c .before .before .before .before .before .before .before .before in (known b .high, known b .at-bed)
+asked-requires-2 c κs = let b = c .before .before .before .before .before .before .before .before in known b .at-bed
 
 stop-requires-4 : tie.Need-stop-requires-4 Inv-loop μ-loop
 stop-requires-4 c κs = search needs
@@ -210,7 +213,7 @@ stop-requires-5 c κs = search needs
 
 returns-5 : tie.Need-returns-5 Inv-loop μ-loop
 returns-5 c = let m = c .before .before .before .before .before .before .before .before .before in let b = m .before .before .before .before .before in let told = c .before .before .transfer2 .ensures in
-    c .stop5 .ensures ∙ simp (told .1, transfer-kept (s b .loops) (x b .at) (x b .to) (s b .racking) 1 _ (told .0) (c .before .if6 .taken)) (halt b (split-stopped (s b) (x b) (m .match .keys5) _ (c .before .before .before .before .before .asked2 .ensures) (c .before .before .before .before .if5 .left) _ (told .0)) (c .before .if6 .taken))
+    c .stop5 .ensures ∙ simp (told .1, transfer-kept (hookLimit (s b)) (s b .loops) (x b .at) (x b .to) (s b .racking) 1 _ (told .0) (c .before .if6 .taken)) (halt b (split-stopped (s b) (x b) (m .match .keys5) _ (c .before .before .before .before .before .asked2 .ensures) (c .before .before .before .before .if5 .left) _ (told .0)) (c .before .if6 .taken))
 
 attach-requires : tie.Need-attach-requires Inv-loop μ-loop
 attach-requires c κs = known (c .before .before .before .before .before .before .before .before .before .before .before .before .before) .at-bed
@@ -246,7 +249,7 @@ element-copy-out-c-3 : tie.Need-element-copy-out-c-3 Inv-loop μ-loop
 element-copy-out-c-3 c = omega (arith, in-out-carrier (c .before))
 
 asked-requires-3 : tie.Need-asked-requires-3 Inv-loop μ-loop
-asked-requires-3 c κs = let b = c .before .before .before .before .before .before .before .before .before in (known b .high, known b .at-bed)
+asked-requires-3 c κs = let b = c .before .before .before .before .before .before .before .before .before in known b .at-bed
 
 stop-requires-6 : tie.Need-stop-requires-6 Inv-loop μ-loop
 stop-requires-6 c κs = search needs
@@ -359,7 +362,7 @@ loop-less-8 : tie.Need-loop-less-8 Inv-loop μ-loop
 loop-less-8 c = less (c .before .before .before .before .before .before)
 
 loop-again-8 : tie.Need-loop-again-8 Inv-loop μ-loop
-loop-again-8 c = absurd (omega (arith, c .if8 .taken, known (c .before .before .before .before .before .before) .low))
+loop-again-8 c = absurd (omega (arith, c .if8 .taken, known-least (known (c .before .before .before .before .before .before) .known)))
 
 loop-less-9 : tie.Need-loop-less-9 Inv-loop μ-loop
 loop-less-9 c = less (c .before .before .before .before .before .before .before .before .before .before .before .before)
@@ -375,12 +378,12 @@ loop-again-10 : tie.Need-loop-again-10 Inv-loop μ-loop
 loop-again-10 c = let t = c .before .before .before .before .before .before .before .before in let b = loop t in let told = c .before .before .form .ensures in
     on b (loop-made (s b) (x b) (loop-low t) (loop-high t) _ (c .before .before .before .before .before .ready .ensures) (c .before .before .before .before .if12 .left) _ (told .0) (c .before .if13 .left) _ (c .attach2 .ensures) _ (told .1))
 
--- and none above 9
+-- and none above split
 loop-less-11 : tie.Need-loop-less-11 Inv-loop μ-loop
 loop-less-11 c = less (c .before .before .before .before .before .before .before .before)
 
 loop-again-11 : tie.Need-loop-again-11 Inv-loop μ-loop
-loop-again-11 c = absurd (omega (arith, c .if11 .left, c .before .before .before .match .rest .1, known (c .before .before .before .before .before .before .before .before) .high))
+loop-again-11 c = absurd (omega (arith, c .if11 .left, c .before .before .before .match .rest .1, known-most (known (c .before .before .before .before .before .before .before .before) .known)))
 
 stop-requires-9 : tie.Need-stop-requires-9 Inv-loop μ-loop
 stop-requires-9 c κs = search needs

@@ -10,6 +10,7 @@ use lib.ListN.{getD, set}
 use Rattle.machine.specs.declared.Needle.{Needle}
 use Rattle.machine.specs.declared.Column.{Column}
 use Rattle.machine.specs.declared.Racking.{Racking}
+use Rattle.machine.specs.Limits.{hookMost}
 use Rattle.machine.specs.Machine.{hookOf}
 use Rattle.machine.specs.Geometry.{columnOf, sameColumn}
 use Rattle.run.specs.Loops.{transferNo, transferredLoops}
@@ -17,19 +18,19 @@ use Rattle.run.proofs.transfer.Statement.{statement}
 use Rattle.run.proofs.transfer.Tie as tie
 
 module _ (l : List ℕ) (a b : Needle) (r : Racking) (v : ℕ) where
-  not-opposite : sameColumn (columnOf a r) (columnOf b r) ≡ false → (10 ≡ transferNo l a b r) × (l ≡ transferredLoops l a b r v)
+  not-opposite : sameColumn (columnOf a r) (columnOf b r) ≡ false → (10 ≡ transferNo hookMost l a b r) × (l ≡ transferredLoops hookMost l a b r v)
   unfolding transferNo transferredLoops
   not-opposite e = (simp e, simp e)
 
   module _ (e : sameColumn (columnOf a r) (columnOf b r) ≡ true) where
-    full : 8 < getD l (hookOf a) 0 + getD l (hookOf b) 0 → (11 ≡ transferNo l a b r) × (l ≡ transferredLoops l a b r v)
+    full : hookMost < getD l (hookOf a) 0 + getD l (hookOf b) 0 → (11 ≡ transferNo hookMost l a b r) × (l ≡ transferredLoops hookMost l a b r v)
     unfolding transferNo transferredLoops
-    full h = let f = lt-leb (getD l (hookOf a) 0 + getD l (hookOf b) 0) 8 h in (simp (e, f), simp (e, f))
+    full h = let f = lt-leb (getD l (hookOf a) 0 + getD l (hookOf b) 0) hookMost h in (simp (e, f), simp (e, f))
 
-    room : getD l (hookOf a) 0 + getD l (hookOf b) 0 ≤ 8
-        → (0 ≡ transferNo l a b r) × (set (set l (hookOf a) v) (hookOf b) (getD l (hookOf a) 0 + getD l (hookOf b) 0) ≡ transferredLoops l a b r v)
+    room : getD l (hookOf a) 0 + getD l (hookOf b) 0 ≤ hookMost
+        → (0 ≡ transferNo hookMost l a b r) × (set (set l (hookOf a) v) (hookOf b) (getD l (hookOf a) 0 + getD l (hookOf b) 0) ≡ transferredLoops hookMost l a b r v)
     unfolding transferNo transferredLoops
-    room h = let f = le-leb (getD l (hookOf a) 0 + getD l (hookOf b) 0) 8 h in (simp (e, f), simp (e, f))
+    room h = let f = le-leb (getD l (hookOf a) 0 + getD l (hookOf b) 0) hookMost h in (simp (e, f), simp (e, f))
 
 -- whether the columns are the same, as the code found it
 same : (b : tie.After-equals) → let a = b .before .before .before .args in sameColumn (columnOf (a .a) (a .r)) (columnOf (a .b) (a .r)) ≡ b .equals .result

@@ -7,19 +7,20 @@ use Prim.Native.Nat.{ℕ, _+_, _≤_, _<_}
 use mathlib.Core.List.{List}
 use lib.ListN.{getD, set}
 use Rattle.machine.specs.declared.Needle.{Needle}
+use Rattle.machine.specs.Limits.{hookMost}
 use Rattle.machine.specs.Machine.{hookOf}
 use Rattle.run.specs.Loops.{tuckNo, tucked}
 use Rattle.run.proofs.tuck.Statement.{statement}
 use Rattle.run.proofs.tuck.Tie as tie
 
 module _ (l : List ℕ) (n : Needle) where
-  full : 8 ≤ getD l (hookOf n) 0 → (11 ≡ tuckNo (getD l (hookOf n) 0)) × (l ≡ tucked l n)
+  full : hookMost ≤ getD l (hookOf n) 0 → (11 ≡ tuckNo hookMost (getD l (hookOf n) 0)) × (l ≡ tucked hookMost l n)
   unfolding tuckNo tucked
-  full h = let e = lt-leb (getD l (hookOf n) 0 + 1) 8 (omega arith) in (simp e, simp e)
+  full h = let e = lt-leb (getD l (hookOf n) 0 + 1) hookMost (omega arith) in (simp e, simp e)
 
-  room : getD l (hookOf n) 0 < 8 → (0 ≡ tuckNo (getD l (hookOf n) 0)) × (set l (hookOf n) (getD l (hookOf n) 0 + 1) ≡ tucked l n)
+  room : getD l (hookOf n) 0 < hookMost → (0 ≡ tuckNo hookMost (getD l (hookOf n) 0)) × (set l (hookOf n) (getD l (hookOf n) 0 + 1) ≡ tucked hookMost l n)
   unfolding tuckNo tucked
-  room h = let e = le-leb (getD l (hookOf n) 0 + 1) 8 (omega arith) in (simp e, simp e)
+  room h = let e = le-leb (getD l (hookOf n) 0 + 1) hookMost (omega arith) in (simp e, simp e)
 
 hook-requires : tie.Need-hook-requires
 hook-requires c κs = search needs
