@@ -29,9 +29,8 @@ use Rattle.trace.proofs.Theorems.{made-iff-untied, refused-iff-tied, no-pair-if
 use Rattle.rewrite.specs.Programs.{flat, recordsOf, startsOf, knitting}
 use Rattle.rewrite.specs.Rewrite.{rackingZero, swapOf, Replay, ended, onOutcome, replay, lentNo, Rewritten, refused, rewriteOf}
 use Rattle.rewrite.specs.Exact.{TooLong, NoBench, Enough, RecordsAre, TiedBehind, Neighbours, Swapped, Torn, Long, Short, Lent, unlooked, leaving, Followed, Rewrites, RewriteExactly}
-use Rattle.rewrite.specs.Laid.{Whole}
 use Rattle.rewrite.proofs.Lawful.{tied-exactly}
-use Rattle.rewrite.proofs.Records.{records-flat, flat-records, whole-form, form-whole, steps-whole}
+use Rattle.rewrite.proofs.Records.{each-map, records-flat, flat-records, record-form, form-record, steps-records}
 use Rattle.rewrite.proofs.Replays.{made-pair, replay-made, replay-tied}
 use Rattle.rewrite.proofs.Rewriting.{program-long, log-long, output-short, work-short, all-lent, lent-call, refused-call, written-call}
 
@@ -158,19 +157,11 @@ unfolding replay
 unpaired-replay high low log at l h = rw (no-pair-iff-short knitting rackingZero (high * 256 + low) l .1 (omega arith)) refl
 
 -- ---- the records of a program
-whole-each : (l : List (List ℕ)) → Whole l → Each (λ (x : List ℕ). (r : Record) × Encodes x r) l
-whole-each [] w = tt
-whole-each (x ∷ l) (w, v) = ((_, whole-form x w), whole-each l v)
-
-each-whole : (l : List (List ℕ)) → Each (λ (x : List ℕ). (r : Record) × Encodes x r) l → Whole l
-each-whole [] w = tt
-each-whole (x ∷ l) ((r, form), v) = (form-whole form, each-whole l v)
-
 valid-are : {p : List ℕ} {t : State} → Valid p t → RecordsAre p (recordsOf p)
-valid-are {p} v = record { end-to-end = records-flat p; each = whole-each (recordsOf p) (steps-whole (v .steps)) }
+valid-are {p} v = record { end-to-end = records-flat p; each = each-map (λ x w. (_, record-form x w)) (recordsOf p) (steps-records (v .steps)) }
 
 pub are-records : {p : List ℕ} {l : List (List ℕ)} → RecordsAre p l → recordsOf p ≡ l
-are-records {l = l} a = ap recordsOf (sym (a .end-to-end)) ∙ flat-records l (each-whole l (a .each))
+are-records {l = l} a = ap recordsOf (sym (a .end-to-end)) ∙ flat-records l (each-map (λ x (r, form). form-record form) l (a .each))
 
 -- ---- a call
 module _ (p log output work : List ℕ) where

@@ -7,11 +7,12 @@ use native.Mathlib.Omega.{arith}
 use native.Mathlib.Numerals.{add-one}
 use lib.ListN.{length, take, drop, getD, set, length-append, take-append-drop, List·getD-append}
 use lib.Seq.{length-take-le, take-length, take-suc, take-suc-set, take-at, drop-at, drop-drop, drop-set-lt, split-at, getD-at, getD-drop}
+use Rattle.machine.specs.Machine.{Each}
 use Rattle.run.proofs.Premises.{is}
 use Rattle.record.specs.Format.{byte, sizeOf}
 use Rattle.rewrite.specs.Programs.{flat, recordsOf, startsOf}
-use Rattle.rewrite.specs.Laid.{whole, Whole, Sound, Laid, part}
-use Rattle.rewrite.proofs.Records.{Sized, whole-size, whole-length, records-flat}
+use Rattle.rewrite.specs.Laid.{isRecord, Sound, Laid, part}
+use Rattle.rewrite.proofs.Records.{each-part, Sized, record-size, records-length, records-flat}
 
 -- ---- lists of records
 pub flat-append : (u v : List (List ℕ)) → flat (u ++ v) ≡ flat u ++ flat v
@@ -29,10 +30,6 @@ starts-append at [] v = let e : at ≡ at + 0 = omega arith in ap (λ (n : ℕ).
 starts-append at (x ∷ u) v =
     let e : at + length x + length (flat u) ≡ at + length (x ++ flat u) = omega (arith, length-append x (flat u)) in
     ap (λ (q : List ℕ). at ∷ q) (starts-append (at + length x) u v ∙ ap (λ (n : ℕ). startsOf (at + length x) u ++ startsOf n v) e)
-
-pub whole-part : (u v : List (List ℕ)) → Whole (u ++ v) → Whole u × Whole v
-whole-part [] v w = (tt, w)
-whole-part (x ∷ u) v (a, w) = let (b, c) = whole-part u v w in ((a, b), c)
 
 -- ---- a record x between others
 module _ (u : List (List ℕ)) (x : List ℕ) (v : List (List ℕ)) where
@@ -62,7 +59,7 @@ flat-next p j h =
 
 pub record Stands (p w : List ℕ) (j : ℕ) : Type 0 where
   pub start : getD w j 0 ≡ length (flat (take j (recordsOf p)))
-  pub is-whole : whole (nth p j) ≡ true
+  pub is-record : isRecord (nth p j) ≡ true
   pub sized : Sized (nth p j)
   pub ends : getD w j 0 + length (nth p j) ≤ length p
   pub bytes : drop (getD w j 0) p ≡ nth p j ++ flat (drop (suc j) (recordsOf p))
@@ -75,7 +72,7 @@ module _ (p w : List ℕ) (laid : Laid p w) where
   work-length = ap length (laid .starts) ∙ starts-length 0 l
 
   few : length l * 2 ≤ length p
-  few = subst (λ (q : List ℕ). length l * 2 ≤ length q) (records-flat p) (whole-length l (laid .sound .whole))
+  few = subst (λ (q : List ℕ). length l * 2 ≤ length q) (records-flat p) (records-length l (laid .sound .records))
 
   pub work-short : length w ≤ 16384
   work-short = omega (arith, work-length, few, laid .sound .short)
@@ -88,14 +85,14 @@ module _ (p w : List ℕ) (laid : Laid p w) where
       let n : length u ≡ j = length-take-le j l (omega arith) in
       let s : getD w j 0 ≡ length (flat u) =
       ap (λ (q : List ℕ). getD q j 0) (laid .starts) ∙ (λ k. getD (startsOf 0 (cut k)) (sym n k) 0) ∙ start-between u x v in
-      let e : whole x ≡ true = whole-part u (x ∷ v) (subst Whole cut (laid .sound .whole)) .1 .0 in
-      let whole-p : p ≡ flat (u ++ x ∷ v) = sym (records-flat p) ∙ ap flat cut in
+      let e : isRecord x ≡ true = each-part (λ (x : List ℕ). isRecord x ≡ true) u (x ∷ v) (subst (Each (λ (x : List ℕ). isRecord x ≡ true)) cut (laid .sound .records)) .1 .0 in
+      let joined : p ≡ flat (u ++ x ∷ v) = sym (records-flat p) ∙ ap flat cut in
       record {
         start = s;
-        is-whole = e;
-        sized = whole-size x e;
-        ends = omega (arith, ap length whole-p, length-between u x v, s);
-        bytes = (λ k. drop (s k) (whole-p k)) ∙ bytes-between u x v;
+        is-record = e;
+        sized = record-size x e;
+        ends = omega (arith, ap length joined, length-between u x v, s);
+        bytes = (λ k. drop (s k) (joined k)) ∙ bytes-between u x v;
       }
 
 -- what stands at a start

@@ -1,7 +1,7 @@
 -- A log replayed from a place on, one record at a time, and the program laid again after a swap. Assumes nothing.
 use Prim.Native.Nat.{ℕ, zero, suc, _+_, _-_, _*_, _≤_, _<_}
 use mathlib.Core.Path.{_≡_, refl, sym, ap, subst, _∙_}
-use mathlib.Core.Bool.{false}
+use mathlib.Core.Bool.{true, false}
 use mathlib.Core.List.{List, [], _∷_}
 use native.Mathlib.Omega.{arith}
 use native.Mathlib.Numerals.{add-one}
@@ -10,12 +10,13 @@ use lib.ListN.{length, take, drop, getD, length-drop, drop-of-length-le}
 use lib.Seq.{drop-cons}
 use borrow.Author.Tests.{eq-eqb, ne-eqb}
 use Rattle.machine.specs.declared.Racking.{Racking}
+use Rattle.machine.specs.Machine.{Each}
 use Rattle.record.specs.Format.{byte}
 use Rattle.trace.specs.Swaps.{Outcome, no-pair, is-tied, made}
 use Rattle.trace.proofs.Swaps.{Made, made-is, untied}
 use Rattle.rewrite.specs.Programs.{flat, recordsOf, startsOf, knitting}
 use Rattle.rewrite.specs.Rewrite.{rackingZero, swapOf, Replay, ended, onOutcome, replay}
-use Rattle.rewrite.specs.Laid.{Whole, Laid, Marked, rackByte, swapNo, leftBy}
+use Rattle.rewrite.specs.Laid.{isRecord, Laid, Marked, rackByte, swapNo, leftBy}
 use Rattle.rewrite.proofs.Records.{records-flat, flat-records}
 use Rattle.rewrite.proofs.Laying.{starts-length, work-length}
 use Rattle.rewrite.proofs.Replays.{Moved, made-moved}
@@ -85,7 +86,7 @@ pair-rack x y l e f (suc (suc k)) b = both (take k l)
     both : (q : List (List ℕ)) → rackByte b (x ∷ y ∷ q) ≡ rackByte b (y ∷ x ∷ q)
     both q = simp (e, f)
 
-made-rack : {r : Racking} {i : ℕ} {l m : List (List ℕ)} → Made knitting r i l m → Whole l → (k b : ℕ) → rackByte b (take k l) ≡ rackByte b (take k m)
+made-rack : {r : Racking} {i : ℕ} {l m : List (List ℕ)} → Made knitting r i l m → Each (λ (x : List ℕ). isRecord x ≡ true) l → (k b : ℕ) → rackByte b (take k l) ≡ rackByte b (take k m)
 unfolding rackByte
 made-rack (Made.here {r} {x} {y} {l} t) (w, (v, u)) k b =
     let (p, q, _, _) = untied knitting r x y t in
@@ -110,7 +111,7 @@ module _ (p w table : List ℕ) (laid : Laid p w) (marked : Marked p table) (i :
   moved = made-moved knitting swapped
 
   records-after : recordsOf q ≡ m
-  records-after = ap recordsOf bytes ∙ flat-records m (moved .whole (laid .sound .whole))
+  records-after = ap recordsOf bytes ∙ flat-records m (moved .each (laid .sound .records))
 
   length-after : length q ≡ length p
   length-after = ap length bytes ∙ moved .bytes ∙ ap length (records-flat p)
@@ -122,13 +123,13 @@ module _ (p w table : List ℕ) (laid : Laid p w) (marked : Marked p table) (i :
         bytes = length-after;
         entries = ap length starts ∙ starts-length 0 m ∙ moved .records ∙ sym (work-length p w laid);
         laid = record {
-          sound = record { whole = subst Whole (sym records-after) (moved .whole (laid .sound .whole)); short = omega (arith, length-after, laid .sound .short) };
+          sound = record { records = subst (Each (λ (x : List ℕ). isRecord x ≡ true)) (sym records-after) (moved .each (laid .sound .records)); short = omega (arith, length-after, laid .sound .short) };
           starts = starts ∙ ap (startsOf 0) (sym records-after);
         };
         marked = record {
           long = marked .long;
           marks = λ k h. marked .marks k (omega (arith, ap length records-after, moved .records))
-              ∙ made-rack swapped (laid .sound .whole) (k * 64) 0
+              ∙ made-rack swapped (laid .sound .records) (k * 64) 0
               ∙ ap (λ (l : List (List ℕ)). rackByte 0 (take (k * 64) l)) (sym records-after);
         };
       }

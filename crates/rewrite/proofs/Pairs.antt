@@ -9,6 +9,7 @@ use lib.ListN.{length, take, drop, getD, set, length-append}
 use lib.Seq.{length-take-le, take-at, drop-at, drop-append-add, split-at, drop-cons, set-at}
 use lib.Dec.{eqb}
 use borrow.Author.Tests.{eqb-true}
+use Rattle.machine.specs.Machine.{Each}
 use Rattle.machine.proofs.Laws.{and-two}
 use Rattle.record.specs.Format.{sizeOf, decodeOf}
 use Rattle.trace.specs.Records.{tied}
@@ -17,10 +18,10 @@ use Rattle.trace.specs.Order.{inForce}
 use Rattle.trace.proofs.Theorems.{made-iff-untied, refused-iff-tied, no-pair-iff-short}
 use Rattle.rewrite.specs.Programs.{flat, recordsOf, startsOf, what, knitting}
 use Rattle.rewrite.specs.Rewrite.{rackingZero, swapOf}
-use Rattle.rewrite.specs.Laid.{tiedAt, whole, Whole, Laid, Between, inForceAt, exchanged, part}
+use Rattle.rewrite.specs.Laid.{tiedAt, isRecord, Laid, Between, inForceAt, exchanged, part}
 use Rattle.rewrite.proofs.Extents.{tied-bytes}
-use Rattle.rewrite.proofs.Records.{records-flat}
-use Rattle.rewrite.proofs.Laying.{flat-append, starts-append, starts-length, whole-part, nth, flat-next, Stands, work-length, stands, kind-at, part-at}
+use Rattle.rewrite.proofs.Records.{each-part, records-flat}
+use Rattle.rewrite.proofs.Laying.{flat-append, starts-append, starts-length, nth, flat-next, Stands, work-length, stands, kind-at, part-at}
 use Rattle.rewrite.proofs.Rackings.{force-is}
 
 -- ---- a list with two neighbours, and the same with the two exchanged
@@ -130,8 +131,8 @@ module _ (p w : List ℕ) (laid : Laid p w) (i : ℕ) (h : i + 1 < length w) whe
         short = omega (arith, second-start, one .sized .most, two .sized .most);
       }
 
-  front-whole : Whole front
-  front-whole = whole-part front (first ∷ second ∷ rest) (subst Whole pair-cut (laid .sound .whole)) .0
+  front-records : Each (λ (x : List ℕ). isRecord x ≡ true) front
+  front-records = each-part (λ (x : List ℕ). isRecord x ≡ true) front (first ∷ second ∷ rest) (subst (Each (λ (x : List ℕ). isRecord x ≡ true)) pair-cut (laid .sound .records)) .0
 
   swap-read : swapOf i (recordsOf p) ≡ swapOf (length front) (front ++ first ∷ second ∷ rest)
   swap-read = λ k. swapOf (sym front-length k) (pair-cut k)
@@ -157,15 +158,15 @@ module _ (p w : List ℕ) (laid : Laid p w) (i : ℕ) (h : i + 1 < length w) whe
         (λ k. set ((laid .starts ∙ ap (startsOf 0) pair-cut) k) (i + 1) (a k)) ∙ starts-exchanged front first second rest (i + 1) (ap (λ (n : ℕ). n + 1) front-length)
 
     -- each is a record's bytes
-    reads-whole : (x : List ℕ) → whole x ≡ true → decodeOf x .number ≡ 0
-    reads-whole x w = eqb-true (decodeOf x .number) 0 (and-two (eqb (decodeOf x .number) 0) (eqb (decodeOf x .size) (length x)) w .0)
+    reads-record : (x : List ℕ) → isRecord x ≡ true → decodeOf x .number ≡ 0
+    reads-record x w = eqb-true (decodeOf x .number) 0 (and-two (eqb (decodeOf x .number) 0) (eqb (decodeOf x .size) (length x)) w .0)
 
     pub first-between : Between p (getD w i 0) (getD w (i + 1) 0)
     first-between =
         record {
           order = omega (arith, second-start);
           within = omega (arith, two .ends);
-          reads = ap (λ (x : List ℕ). decodeOf x .number) first-part ∙ reads-whole first (one .is-whole);
+          reads = ap (λ (x : List ℕ). decodeOf x .number) first-part ∙ reads-record first (one .is-record);
         }
 
     pub second-between : Between p (getD w (i + 1) 0) e
@@ -173,12 +174,12 @@ module _ (p w : List ℕ) (laid : Laid p w) (i : ℕ) (h : i + 1 < length w) whe
         record {
           order = omega arith;
           within = omega (arith, two .ends);
-          reads = ap (λ (x : List ℕ). decodeOf x .number) second-part ∙ reads-whole second (two .is-whole);
+          reads = ap (λ (x : List ℕ). decodeOf x .number) second-part ∙ reads-record second (two .is-record);
         }
 
     -- ---- the swap
     tie-read : tiedAt (inForceAt p i) (what (part p (getD w i 0) (getD w (i + 1) 0))) (what (part p (getD w (i + 1) 0) e)) ≡ tied knitting (inForce knitting rackingZero front) first second
-    tie-read = tied-bytes (inForceAt p i) _ _ ∙ (λ k. tied knitting (sym (force-is front front-whole) k) (first-part k) (second-part k))
+    tie-read = tied-bytes (inForceAt p i) _ _ ∙ (λ k. tied knitting (sym (force-is front front-records) k) (first-part k) (second-part k))
 
     pub pair-tied : tiedAt (inForceAt p i) (what (part p (getD w i 0) (getD w (i + 1) 0))) (what (part p (getD w (i + 1) 0) e)) ≡ true → swapOf i (recordsOf p) ≡ is-tied
     pair-tied t = swap-read ∙ refused-iff-tied knitting rackingZero front first second rest .1 (sym tie-read ∙ t)

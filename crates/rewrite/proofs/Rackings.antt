@@ -10,6 +10,7 @@ use lib.ListN.{length, take, drop, getD, set, length-set}
 use lib.Seq.{drop-cons, take-add, getD-set-same, getD-set-other}
 use borrow.Author.Tests.{ne-eqb}
 use Rattle.machine.specs.declared.Racking.{Racking}
+use Rattle.machine.specs.Machine.{Each}
 use Rattle.record.specs.declared.Record.{Record}
 use Rattle.record.specs.Format.{Encodes, byte, signedOf}
 use Rattle.run.proofs.Premises.{is}
@@ -17,8 +18,8 @@ use Rattle.trace.specs.Order.{inForce}
 use Rattle.rewrite.specs.Extents.{isRack, rackingAfter}
 use Rattle.rewrite.specs.Programs.{recordsOf, what, knitting}
 use Rattle.rewrite.specs.Rewrite.{rackingZero}
-use Rattle.rewrite.specs.Laid.{whole, Whole, rackByte, Marked}
-use Rattle.rewrite.proofs.Records.{whole-form}
+use Rattle.rewrite.specs.Laid.{isRecord, rackByte, Marked}
+use Rattle.rewrite.proofs.Records.{record-form}
 
 -- ---- along the records
 -- the byte after one record more
@@ -70,20 +71,20 @@ form-kind (Encodes.xfer h i j) = refl
 form-kind (Encodes.work a c d e f g h) = refl
 form-kind (Encodes.split c d e f g h) = refl
 
-in-force : (b : ℕ) (u : List (List ℕ)) → Whole u → inForce knitting (racked b) u ≡ racked (rackByte b u)
+in-force : (b : ℕ) (u : List (List ℕ)) → Each (λ (x : List ℕ). isRecord x ≡ true) u → inForce knitting (racked b) u ≡ racked (rackByte b u)
 unfolding rackByte
 in-force b [] w = refl
-in-force b (x ∷ u) (w, v) = ap (λ (r : Racking). inForce knitting r u) (form-rack (whole-form x w) b) ∙ in-force (byteAfter b x) u v
+in-force b (x ∷ u) (w, v) = ap (λ (r : Racking). inForce knitting r u) (form-rack (record-form x w) b) ∙ in-force (byteAfter b x) u v
 
 no-rack : rackingZero ≡ racked 0
 unfolding signedOf
 no-rack = refl
 
-pub force-is : (u : List (List ℕ)) → Whole u → inForce knitting rackingZero u ≡ racked (rackByte 0 u)
+pub force-is : (u : List (List ℕ)) → Each (λ (x : List ℕ). isRecord x ≡ true) u → inForce knitting rackingZero u ≡ racked (rackByte 0 u)
 force-is u w = ap (λ (r : Racking). inForce knitting r u) no-rack ∙ in-force 0 u w
 
-pub kind-is : (x : List ℕ) → whole x ≡ true → eqb (byte x 0) 1 ≡ isRack (what x)
-kind-is x w = form-kind (whole-form x w)
+pub kind-is : (x : List ℕ) → isRecord x ≡ true → eqb (byte x 0) 1 ≡ isRack (what x)
+kind-is x w = form-kind (record-form x w)
 
 -- ---- at every 64th record
 pub record MarkedUpto (p table : List ℕ) (j : ℕ) : Type 0 where

@@ -8,6 +8,7 @@ use lib.Dec.{eqb, ltb}
 use lib.ListN.{length, take, drop, getD}
 use Rattle.machine.specs.declared.Column.{Column}
 use Rattle.machine.specs.declared.Racking.{Racking}
+use Rattle.machine.specs.Machine.{Each}
 use Rattle.record.specs.declared.Record.{Record}
 use Rattle.record.specs.Format.{byte, signedOf, decodeOf}
 use Rattle.trace.specs.Swaps.{Outcome, no-pair, is-tied, made}
@@ -26,16 +27,12 @@ unfoldable pub farApart : Column → Column → Bool
 farApart a b = ltb 1 (natAbs (a .0 -ℤ b .0))
 
 -- a record's bytes and no more: known kind, fields in range
-abbrev pub whole : List ℕ → Bool
-whole x = eqb (decodeOf x .number) 0 && eqb (decodeOf x .size) (length x)
+abbrev pub isRecord : List ℕ → Bool
+isRecord x = eqb (decodeOf x .number) 0 && eqb (decodeOf x .size) (length x)
 
-abbrev pub Whole : List (List ℕ) → Type 0
-Whole [] = Unit {0}
-Whole (x ∷ l) = (whole x ≡ true) × Whole l
-
--- a short program of whole records
+-- a short program of records
 pub record Sound (program : List ℕ) : Type 0 where
-  pub whole : Whole (recordsOf program)
+  pub records : Each (λ (x : List ℕ). isRecord x ≡ true) (recordsOf program)
   pub short : length program ≤ 32768
 
 -- the racking in force after records, as the byte that a rack gave it
