@@ -1,5 +1,5 @@
 -- How a program is laid in the lent areas between swaps: what the rewriter's private functions ask and promise. No part of the claims.
-use Prim.Native.Nat.{ℕ, _-_, _*_, _≤_, _<_}
+use Prim.Native.Nat.{ℕ, _+_, _-_, _*_, _≤_, _<_}
 use mathlib.Core.Path.{_≡_}
 use mathlib.Core.Bool.{Bool, true, cond, _&&_, _||_}
 use mathlib.Core.List.{List, [], _∷_, _++_}
@@ -13,7 +13,8 @@ use Rattle.record.specs.declared.Record.{Record}
 use Rattle.record.specs.Format.{byte, signedOf, decodeOf}
 use Rattle.trace.specs.Swaps.{Outcome, no-pair, is-tied, made}
 use Rattle.rewrite.specs.Extents.{extentOf, meets, shareCarrier, isRack}
-use Rattle.rewrite.specs.Programs.{recordsOf, startsOf}
+use Rattle.rewrite.specs.declared.Pair.{Pair}
+use Rattle.rewrite.specs.Programs.{flat, recordsOf, startsOf}
 
 -- a tie in two parts: whatever the racking, and by extents at a racking; of their bytes it is crate trace's `tied` over `knitting`
 unfoldable pub boundTo : Record → Record → Bool
@@ -50,19 +51,20 @@ pub record Marked (program table : List ℕ) : Type 0 where
   pub long : length table ≡ 256
   pub marks : (j : ℕ) → j * 64 < length (recordsOf program) → getD table j 0 ≡ rackByte 0 (take (j * 64) (recordsOf program))
 
--- what lies from a to b
-abbrev pub part : List ℕ → ℕ → ℕ → List ℕ
-part o a b = take (b - a) (drop a o)
+-- record i of a program, and where it starts
+abbrev pub recordAt : List ℕ → ℕ → List ℕ
+recordAt program i = getD (recordsOf program) i []
+
+abbrev pub startAt : List ℕ → ℕ → ℕ
+startAt program i = length (flat (take i (recordsOf program)))
+
+-- where records i and i + 1 stand
+abbrev pub pairAt : List ℕ → ℕ → Pair
+pairAt program i = record { first = startAt program i; second = startAt program (i + 1); end = startAt program (i + 2) }
 
 -- the racking in force at record i
 abbrev pub inForceAt : List ℕ → ℕ → Racking
 inForceAt program i = record { 0 = signedOf (rackByte 0 (take i (recordsOf program))) }
-
--- a record's bytes lie from a to b
-pub record Between (program : List ℕ) (a b : ℕ) : Type 0 where
-  pub order : a ≤ b
-  pub within : b ≤ length program
-  pub reads : decodeOf (part program a b) .number ≡ 0
 
 -- what a swap answers and leaves
 unfoldable pub swapNo : Outcome (List ℕ) → ℕ
