@@ -21,7 +21,7 @@ use Rattle.run.specs.Run.{stepOf, turn, runFrom, answerOf, runOf}
 use Rattle.trace.specs.Records.{tied}
 use Rattle.rewrite.specs.Extents.{halfColumn, layerOf, extentOf, meets, member, common}
 use Rattle.rewrite.specs.Programs.{cut, startsOf, sameBytes, knitting}
-use Rattle.rewrite.specs.Rewrite.{replay, lentNo, rewriteOf}
+use Rattle.rewrite.specs.Rewrite.{replayFrom, lentNo, rewriteOf}
 use Rattle.rewrite.proofs.Lawful.{lawful}
 use Rattle.pieces.specs.Rows.{Expected, Row, rows, Swap, swaps}
 use Rattle.pieces.specs.Edges.{Pair, pairs, edges}
@@ -128,7 +128,7 @@ unfolding rowTest saysTest stateTest hooksTest carriersTest sameBool sameCarrier
 rows-computed = refl
 
 swaps-computed : every swapTest swaps ≡ true
-unfolding swapTest saysTest rewriteOf lentNo replay cut startsOf sameBytes halfColumn layerOf extentOf meets member common sizeOf stateTest hooksTest carriersTest sameBool sameCarrier runOf runFrom turn stepOf answerOf emptyState completeOf all inactiveCarrier movedTo attachedAt sameNeedle eqZ columnOf entryOf exitOf sameColumn withinFloat decodeOf whole ranged refusedAs rackOk needleOk workOk signedOf needleCount carrierCount needlesOf carriersOf lookOf seeOf parkedNo floatNo carrierNo oppositeNo firstAfter secondAfter roomNo numberOf edit actOf acted moveAttachments rackingAfter numberAt applyOf
+unfolding swapTest saysTest rewriteOf lentNo replayFrom cut startsOf sameBytes halfColumn layerOf extentOf meets member common sizeOf stateTest hooksTest carriersTest sameBool sameCarrier runOf runFrom turn stepOf answerOf emptyState completeOf all inactiveCarrier movedTo attachedAt sameNeedle eqZ columnOf entryOf exitOf sameColumn withinFloat decodeOf whole ranged refusedAs rackOk needleOk workOk signedOf needleCount carrierCount needlesOf carriersOf lookOf seeOf parkedNo floatNo carrierNo oppositeNo firstAfter secondAfter roomNo numberOf edit actOf acted moveAttachments rackingAfter numberAt applyOf
 swaps-computed = refl
 
 ties-computed : (every pairTest pairs && every pairTest edges) ≡ true

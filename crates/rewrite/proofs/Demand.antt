@@ -18,7 +18,7 @@ use Rattle.trace.specs.Machine.{Kept}
 use Rattle.trace.proofs.Theorems.{made-iff-untied, refused-iff-tied, order-of-positions, reaches-exactly, swaps-keep}
 use Rattle.trace.proofs.Swaps.{swaps-append, equals-are-tied}
 use Rattle.rewrite.specs.Programs.{flat, recordsOf, knitting, needle, carrier, names}
-use Rattle.rewrite.specs.Rewrite.{rackingZero, swapOf, Replay, ended, replay, Rewritten, written}
+use Rattle.rewrite.specs.Rewrite.{rackingZero, swapOf, Replay, ended, replayFrom, replay, Rewritten, written}
 use Rattle.rewrite.specs.Calls.{Call, callOf, callNumber, handedOn, after, AllAccepted}
 use Rattle.rewrite.specs.Claims.{RecordsEndToEnd, RecordsEncode, TiedExactly, EqualRecordsTied, RewritePlaceIsSmall, SameProgram, Keeps, OrderByPositions, LentTo, ComesTo, SwapExactly, FrontHandedOn, InTurn, AnyLoan, Demand3}
 use Rattle.rewrite.specs.Exact.{TiedBehind, Swapped}
@@ -84,7 +84,7 @@ module _ {p : List ℕ} {t : State} (w : Valid p t) (c : Call) (front rest : Lis
 -- a log of swaps that are made
 log-done : {p : List ℕ} {t : State} → Valid p t → (c : Call) (m : List (List ℕ)) → LentTo p c → Swapped (c .log) (recordsOf p) m
     → callOf p c ≡ written p (ended 0 0 m) (c .output) (c .work)
-unfolding replay
+unfolding replayFrom
 log-done {p} w c m lent s =
     call-written w c (all-lent _ _ _ _ lent)
     ∙ ap (λ (r : Replay). written p r (c .output) (c .work)) (ap (λ (log : List ℕ). replay log 0 (recordsOf p)) (sym (append-nil (c .log))) ∙ swapped-replay s [] 0)

@@ -27,7 +27,7 @@ use Rattle.trace.specs.Order.{inForce}
 use Rattle.trace.specs.Swaps.{Outcome, no-pair, is-tied, made}
 use Rattle.trace.proofs.Theorems.{made-iff-untied, refused-iff-tied, no-pair-iff-short}
 use Rattle.rewrite.specs.Programs.{flat, recordsOf, startsOf, knitting}
-use Rattle.rewrite.specs.Rewrite.{rackingZero, swapOf, Replay, ended, onOutcome, replay, lentNo, Rewritten, refused, rewriteOf}
+use Rattle.rewrite.specs.Rewrite.{rackingZero, swapOf, Replay, ended, onOutcome, replayFrom, replay, lentNo, Rewritten, refused, rewriteOf}
 use Rattle.rewrite.specs.Exact.{TooLong, NoBench, Enough, RecordsAre, TiedBehind, Neighbours, Swapped, Torn, Long, Short, Lent, unlooked, leaving, Followed, Rewrites, RewriteExactly}
 use Rattle.rewrite.proofs.Lawful.{tied-exactly}
 use Rattle.rewrite.proofs.Records.{each-map, records-flat, flat-records, record-form, form-record, steps-records}
@@ -117,7 +117,7 @@ module _ (high low at : ℕ) (log : List ℕ) (l : List (List ℕ)) (more : (m :
       (λ t. goes-pair (pair l i (leb-false (length l) (i + 1) t)))
 
 stops : (log : List ℕ) (at : ℕ) (l : List (List ℕ)) → Stops log at l (replay log at l)
-unfolding replay
+unfolding replayFrom
 stops [] at l = Stops.through Swapped.none
 stops (k ∷ []) at l = placed at (Stops.is-torn [] (k ∷ []) refl Swapped.none (Torn.few-bytes (omega arith) (omega arith)))
 stops (k ∷ high ∷ []) at l = placed at (Stops.is-torn [] (k ∷ high ∷ []) refl Swapped.none (Torn.few-bytes (omega arith) (omega arith)))
@@ -144,7 +144,7 @@ swapped-one i l m e =
 
 -- where it stops
 torn-replay : (rest : List ℕ) → Torn rest → (at : ℕ) (l : List (List ℕ)) → replay rest at l ≡ ended 14 at l
-unfolding replay
+unfolding replayFrom
 torn-replay [] (Torn.other-kind q d) at l = absurd (omega (arith, ap length q))
 torn-replay [] (Torn.few-bytes a b) at l = absurd (omega arith)
 torn-replay (k ∷ []) t at l = refl
@@ -153,7 +153,7 @@ torn-replay (k ∷ high ∷ low ∷ log) (Torn.other-kind q d) at l = simp (ne-e
 torn-replay (k ∷ high ∷ low ∷ log) (Torn.few-bytes a b) at l = absurd (omega arith)
 
 unpaired-replay : (high low : ℕ) (log : List ℕ) (at : ℕ) (l : List (List ℕ)) → length l ≤ high * 256 + low + 1 → replay (64 ∷ high ∷ low ∷ log) at l ≡ ended 12 at l
-unfolding replay
+unfolding replayFrom
 unpaired-replay high low log at l h = rw (no-pair-iff-short knitting rackingZero (high * 256 + low) l .1 (omega arith)) refl
 
 -- ---- the records of a program
@@ -235,7 +235,7 @@ module _ (p log output work : List ℕ) where
 
   -- whatever ends so is what the call gives and leaves
   one : {w : Rewritten} → Rewrites p log output work w → call ≡ w
-  unfolding replay
+  unfolding replayFrom
   one (Rewrites.too-long h) = unlooked-call 0 (long-number h)
   one (Rewrites.no-bench d h) = unlooked-call 1 (short-number d h)
   one (Rewrites.not-valid {a = a} l f c) =

@@ -17,7 +17,7 @@ use Rattle.run.proofs.Premises.{is}
 use Rattle.run.proofs.Demand.{final}
 use Rattle.trace.specs.Swaps.{made, Swaps, no-swap, swap-first}
 use Rattle.rewrite.specs.Programs.{flat, recordsOf, knitting}
-use Rattle.rewrite.specs.Rewrite.{rackingZero, swapOf, Replay, ended, replay, lentNo, writes, Rewritten, written}
+use Rattle.rewrite.specs.Rewrite.{rackingZero, swapOf, Replay, ended, replayFrom, replay, lentNo, writes, Rewritten, written}
 use Rattle.rewrite.specs.Exact.{Swapped}
 use Rattle.rewrite.specs.Calls.{Below, Call, callOf, callNumber, handedOn, Accepted}
 use Rattle.rewrite.specs.Laid.{isRecord}
@@ -125,7 +125,7 @@ module _ {p : List ℕ} {t : State} (v : Valid p t) (i : ℕ) {m : List (List �
   one-swap = swapped-one i (recordsOf p) m e
 
   one-replay : replay (one .log) 0 (recordsOf p) ≡ ended 0 0 m
-  unfolding replay swapCall
+  unfolding replayFrom swapCall
   one-replay = swapped-replay one-swap [] 0
 
   one-done : callNumber p one ≡ 0

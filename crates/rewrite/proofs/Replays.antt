@@ -14,7 +14,7 @@ use Rattle.trace.specs.Records.{Records}
 use Rattle.trace.specs.Swaps.{Outcome, no-pair, is-tied, made, swapAt, Swaps, no-swap, swap-first}
 use Rattle.trace.proofs.Swaps.{Made, made-is, short-no-pair}
 use Rattle.rewrite.specs.Programs.{flat, knitting}
-use Rattle.rewrite.specs.Rewrite.{rackingZero, swapOf, Replay, ended, onOutcome, replay, writes}
+use Rattle.rewrite.specs.Rewrite.{rackingZero, swapOf, Replay, ended, onOutcome, replayFrom, replay, writes}
 use Rattle.rewrite.specs.Laid.{isRecord}
 
 -- ---- a swap moves records and changes none
@@ -59,11 +59,11 @@ module _ {R : Type 0} (K : Records (List ℕ) R) where
 
 -- ---- one log record: its swap is made, or the two are tied
 pub replay-made : (high low : ℕ) (log : List ℕ) (at : ℕ) (l m : List (List ℕ)) → swapOf (high * 256 + low) l ≡ made m → replay (64 ∷ high ∷ low ∷ log) at l ≡ replay log (at + 3) m
-unfolding replay
+unfolding replayFrom
 replay-made high low log at l m e = rw e
 
 pub replay-tied : (high low : ℕ) (log : List ℕ) (at : ℕ) (l : List (List ℕ)) → swapOf (high * 256 + low) l ≡ is-tied → replay (64 ∷ high ∷ low ∷ log) at l ≡ ended 13 at l
-unfolding replay
+unfolding replayFrom
 replay-tied high low log at l e = rw e
 
 -- ---- every replay goes through its log or stops at a log record with 12, 13 or 14
@@ -73,7 +73,7 @@ data Replayed : List ℕ → ℕ → List (List ℕ) → Replay → Type 0 where
   next : {high low at : ℕ} {log : List ℕ} {l m : List (List ℕ)} {r : Replay} → swapOf (high * 256 + low) l ≡ made m → Replayed log (at + 3) m r → Replayed (64 ∷ high ∷ low ∷ log) at l r
 
 replayed : (log : List ℕ) (at : ℕ) (l : List (List ℕ)) → Replayed log at l (replay log at l)
-unfolding replay writes
+unfolding replayFrom writes
 replayed [] at l = Replayed.through
 replayed (k ∷ []) at l = Replayed.stopped 14 (omega arith) refl
 replayed (k ∷ high ∷ []) at l = Replayed.stopped 14 (omega arith) refl

@@ -1,5 +1,5 @@
 -- Demand 3, over the rewriter's own definition. The code's `rewrite` equals rewriteOf by its contract.
-use Prim.Native.Nat.{ℕ, _+_, _*_, _≤_, _<_}
+use Prim.Native.Nat.{ℕ, _+_, _≤_, _<_}
 use mathlib.Core.Path.{_≡_}
 use mathlib.Core.Bool.{true}
 use mathlib.Core.List.{List, [], _∷_, _++_}
@@ -15,7 +15,7 @@ use Rattle.run.specs.Relation.{Valid}
 use Rattle.trace.specs.Records.{tied}
 use Rattle.trace.specs.Lists.{Nth}
 use Rattle.trace.specs.Order.{SameRecords, tiedIn, SameOrder}
-use Rattle.rewrite.specs.Programs.{flat, recordsOf, what, sameBytes, knitting, needle, carrier, names, historyOf}
+use Rattle.rewrite.specs.Programs.{flat, recordsOf, logRecordSize, swapKind, positionOf, what, sameBytes, knitting, needle, carrier, names, historyOf}
 use Rattle.rewrite.specs.Rewrite.{rackingZero, ended, replay, written, rewriteOf}
 use Rattle.rewrite.specs.Exact.{Lent, RecordsAre, Tied, TiedBehind, Swapped}
 use Rattle.rewrite.specs.Calls.{Below, Call, callOf, callNumber, after, AllAccepted}
@@ -104,14 +104,14 @@ pub record ComesTo (p : List ℕ) (c : Call) (front : List ℕ) (u : List (List 
   pub before : Swapped front (recordsOf p) (u ++ x ∷ y ∷ v)
   pub high : ℕ
   pub low : ℕ
-  pub log : c .log ≡ front ++ 64 ∷ high ∷ low ∷ rest
-  pub position : length u ≡ high * 256 + low
+  pub log : c .log ≡ front ++ swapKind ∷ high ∷ low ∷ rest
+  pub position : length u ≡ positionOf high low
 
 -- it is made if the two are not tied: the call goes on behind it with the two exchanged; else it gets 13, and nothing more is made.
 -- The call answers 13 at this log record's place exactly if they are tied; 13 at a later place is another swap's.
 pub record SwapExactly (p : List ℕ) (c : Call) (place : ℕ) (u : List (List ℕ)) (x y : List ℕ) (v : List (List ℕ)) (rest : List ℕ) : Type 0 where
   pub made : (TiedBehind u x y → ⊥)
-      → callOf p c ≡ written p (replay rest (place + 3) (u ++ y ∷ x ∷ v)) (c .output) (c .work)
+      → callOf p c ≡ written p (replay rest (place + logRecordSize) (u ++ y ∷ x ∷ v)) (c .output) (c .work)
   pub refused : TiedBehind u x y
       → callOf p c ≡ written p (ended 13 place (u ++ x ∷ y ∷ v)) (c .output) (c .work)
   pub thirteen : ((callNumber p c ≡ 13) × (callOf p c .answer .place ≡ place)) ↔ TiedBehind u x y

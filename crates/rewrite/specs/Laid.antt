@@ -14,7 +14,10 @@ use Rattle.record.specs.Format.{byte, signedOf, decodeOf}
 use Rattle.trace.specs.Swaps.{Outcome, no-pair, is-tied, made}
 use Rattle.rewrite.specs.Extents.{extentOf, meets, shareCarrier, isRack}
 use Rattle.rewrite.specs.declared.Pair.{Pair}
+use Rattle.rewrite.specs.declared.LogRecord.{LogRecord}
+use Rattle.rewrite.specs.declared.LogRecord.the-variants.{Torn, Swap}
 use Rattle.rewrite.specs.Programs.{flat, recordsOf, startsOf}
+use Rattle.rewrite.specs.Rewrite.{swapOf}
 
 -- a tie in two parts: whatever the racking, and by extents at a racking; of their bytes it is crate trace's `tied` over `knitting`
 unfoldable pub boundTo : Record → Record → Bool
@@ -76,6 +79,19 @@ unfoldable pub leftBy : Outcome (List ℕ) → List (List ℕ) → List (List �
 leftBy no-pair l = l
 leftBy is-tied l = l
 leftBy (made m) l = m
+
+-- what a log record answers and leaves; its position is one of two bytes
+abbrev pub InTwoBytes : LogRecord → Type 0
+InTwoBytes Torn = Unit {0}
+InTwoBytes (Swap i) = i < 65536
+
+unfoldable pub followNo : LogRecord → List (List ℕ) → ℕ
+followNo Torn l = 14
+followNo (Swap i) l = swapNo (swapOf i l)
+
+unfoldable pub leftAfter : LogRecord → List (List ℕ) → List (List ℕ)
+leftAfter Torn l = l
+leftAfter (Swap i) l = leftBy (swapOf i l) l
 
 -- the records from a to b and from b to e change places
 unfoldable pub exchanged : List ℕ → ℕ → ℕ → ℕ → List ℕ

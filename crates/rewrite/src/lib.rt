@@ -5,8 +5,8 @@ ghost use Prim.Native.Nat.{ℕ, _+_, _-_, _*_, _/_, _≤_, _<_};
 ghost use lib.ListN.{length, take, drop, getD};
 ghost use Rattle.rewrite.specs.Extents.{halfColumn, layerOf, narrow, broad, formExtent, extentOf, meets, shareCarrier};
 ghost use Rattle.rewrite.specs.Programs.{flat, recordsOf, startsOf, what};
-ghost use Rattle.rewrite.specs.Rewrite.{swapOf, replay, lentNo, writes, rewriteOf};
-ghost use Rattle.rewrite.specs.Laid.{boundTo, tiedAt, farApart, Sound, Laid, Marked, recordAt, startAt, pairAt, rackByte, inForceAt, swapNo, leftBy, exchanged};
+ghost use Rattle.rewrite.specs.Rewrite.{swapOf, logRecordOf, replay, lentNo, writes, rewriteOf};
+ghost use Rattle.rewrite.specs.Laid.{boundTo, tiedAt, farApart, Sound, Laid, Marked, recordAt, startAt, pairAt, rackByte, inForceAt, swapNo, leftBy, InTwoBytes, followNo, leftAfter, exchanged};
 use machine::Column;
 use machine::Needle;
 use machine::Racking;
@@ -30,6 +30,12 @@ struct Pair {
     end: usize,
 }
 
+// A record of a log: not one, or a swap of records i and i + 1.
+enum LogRecord {
+    Torn,
+    Swap(usize),
+}
+
 // The numbers of refusals, besides those of the run; 01's word for 2 is no bench.
 pub const NO_PAIR: u8 = 12;
 
@@ -40,10 +46,10 @@ pub const TORN_LOG: u8 = 14;
 // The layer of the back bed; the front bed's is 0, carriers lie between.
 pub const BACK: u8 = 11;
 
-// A log: its kind, the length of its records, and its bytes at most.
+// A log: the kind of its swaps, the length of its records, and its bytes at most.
 pub const SWAP: u8 = 64;
 
-pub const SWAP_SIZE: usize = 3;
+pub const LOG_RECORD: usize = 3;
 
 pub const LOG_MOST: usize = 32768;
 
@@ -355,15 +361,34 @@ fn wide(b: u8) -> usize
     b as usize
 }
 
-// The position in a log record, high byte first.
-fn position(log: &[u8], at: usize) -> usize
-    requires { ⌜ at + 2 < length (now log) ⌝ }
-    ensures { λ i. ⌜ (i ≡ getD (now (log .entry)) (at + 1) 0 * 256 + getD (now (log .entry)) (at + 2) 0) × (i < 65536) ⌝ }
+// The log record at a place: its kind, then a position, high byte first. All log records are read here.
+fn log_record(log: &[u8], at: usize) -> LogRecord
+    requires { ⌜ at < length (now log) ⌝ }
+    ensures { λ x. ⌜ (x ≡ logRecordOf (drop at (now (log .entry)))) × (InTwoBytes x) ⌝ }
 {
-    wide(log[at + 1]) * 256 + wide(log[at + 2])
+    if log.len() - at < LOG_RECORD {
+        return LogRecord::Torn;
+    }
+    if log[at] != SWAP {
+        return LogRecord::Torn;
+    }
+    LogRecord::Swap(wide(log[at + 1]) * 256 + wide(log[at + 2]))
 }
 
-// Makes the swaps of a log in order, up to the first that it refuses.
+// Does what a log record asks, or answers why not.
+fn follow(x: LogRecord, output: &mut [u8], work: &mut [u16], table: &[u8]) -> u8
+    requires { ⌜ (Laid (now output) (now work)) × (Marked (now output) (now table)) × (InTwoBytes x) ⌝ }
+    ensures number { λ k. ⌜ k ≡ followNo x (recordsOf (now (output .entry))) ⌝ }
+    ensures bytes { λ _. ⌜ now (output .exit) ≡ flat (leftAfter x (recordsOf (now (output .entry)))) ⌝ }
+    ensures starts { λ _. ⌜ now (work .exit) ≡ startsOf 0 (leftAfter x (recordsOf (now (output .entry)))) ⌝ }
+{
+    match x {
+        LogRecord::Torn => TORN_LOG,
+        LogRecord::Swap(i) => swap(output, work, table, i),
+    }
+}
+
+// Follows the records of a log in order, up to the first that it refuses.
 fn replay(log: &[u8], output: &mut [u8], work: &mut [u16], table: &[u8]) -> Ended
     requires { ⌜ (Laid (now output) (now work)) × (Marked (now output) (now table)) ⌝ }
     ensures number { λ d. ⌜ (d .number ≡ replay (now (log .entry)) 0 (recordsOf (now (output .entry))) .number) × (d .place ≡ replay (now (log .entry)) 0 (recordsOf (now (output .entry))) .place) ⌝ }
@@ -372,18 +397,11 @@ fn replay(log: &[u8], output: &mut [u8], work: &mut [u16], table: &[u8]) -> Ende
 {
     let mut at: usize = 0;
     while at < log.len() {
-        if log.len() - at < SWAP_SIZE {
-            return run::end_at(TORN_LOG, at);
-        }
-        if log[at] != SWAP {
-            return run::end_at(TORN_LOG, at);
-        }
-        let i = position(log, at);
-        let number = swap(output, work, table, i);
+        let number = follow(log_record(log, at), output, work, table);
         if number != 0 {
             return run::end_at(number, at);
         }
-        at += SWAP_SIZE;
+        at += LOG_RECORD;
     }
     run::end_at(0, 0)
 }
