@@ -2,7 +2,7 @@
 use borrow.Table.Steps.{cases}
 use Prim.Native.Nat.{ℕ, zero, suc, _+_, _*_, _/_, _%_, _≤_, _<_}
 use mathlib.Core.Path.{_≡_, refl, sym, ap, subst, _∙_}
-use mathlib.Core.Bool.{Bool, true, false, true≢false}
+use mathlib.Core.Bool.{Bool, true, true≢false}
 use mathlib.Core.List.{List, [], _∷_, _++_, append-nil}
 use native.Mathlib.Nat.{div-add-mod'}
 use native.Mathlib.Omega.{arith}
@@ -10,25 +10,22 @@ use lib.Dec.{eqb, leb, ltb}
 use lib.ListN.{length, drop, getD}
 use borrow.Author.Tests.{eqb-true, eqb-false, ne-eqb, leb-true, leb-false, ltb-true, ltb-false}
 use Rattle.machine.specs.declared.State.{State}
-use Rattle.machine.specs.Machine.{emptyState, Each}
+use Rattle.machine.specs.Machine.{emptyState}
 use Rattle.machine.proofs.Laws.{empty-is-complete}
-use Rattle.record.specs.declared.Record.{Record}
-use Rattle.record.specs.Format.{Encodes}
 use Rattle.run.specs.declared.Answer.{Answer}
 use Rattle.run.specs.Relation.{Valid}
-use Rattle.run.specs.Run.{reached, answerOf, runOf}
+use Rattle.run.specs.Run.{answerOf, runOf}
 use Rattle.run.specs.Claims.{Answers, Complete}
-use Rattle.run.proofs.Premises.{is}
 use Rattle.run.proofs.Bytes.{reason-positive}
-use Rattle.run.proofs.Demand.{accepts, final, complete}
+use Rattle.run.proofs.Demand.{final, complete}
 use Rattle.run.proofs.Exact.{run-flag, run-exactly}
 use Rattle.trace.specs.Records.{tied}
 use Rattle.trace.specs.Order.{inForce}
-use Rattle.trace.specs.Swaps.{Outcome, no-pair, is-tied, made}
+use Rattle.trace.specs.Swaps.{no-pair, is-tied, made}
 use Rattle.trace.proofs.Theorems.{made-iff-untied, refused-iff-tied, no-pair-iff-short}
 use Rattle.rewrite.specs.Programs.{flat, recordsOf, startsOf, knitting}
 use Rattle.rewrite.specs.Rewrite.{rackingZero, swapOf, Replay, ended, onOutcome, replayFrom, replay, lentNo, Rewritten, refused, rewriteOf}
-use Rattle.rewrite.specs.Exact.{TooLong, NoBench, Enough, RecordsAre, TiedBehind, Neighbours, Swapped, Torn, Long, Short, Lent, unlooked, leaving, Followed, Rewrites, RewriteExactly}
+use Rattle.rewrite.specs.Exact.{TooLong, NoBench, RecordsAre, TiedBehind, Neighbours, Swapped, Torn, Long, Short, Lent, unlooked, leaving, Followed, Rewrites, RewriteExactly}
 use Rattle.rewrite.proofs.Lawful.{tied-exactly}
 use Rattle.rewrite.proofs.Records.{each-map, records-flat, flat-records, record-form, form-record, steps-records}
 use Rattle.rewrite.proofs.Replays.{made-pair, replay-made, replay-tied}

@@ -2,7 +2,7 @@
 ghost use mathlib.Core.Path.{_≡_};
 ghost use mathlib.Core.List.{List, _++_};
 ghost use Prim.Native.Nat.{ℕ, _+_, _-_, _*_, _/_, _≤_, _<_};
-ghost use lib.ListN.{length, take, drop, getD};
+ghost use lib.ListN.{length, take, drop};
 ghost use Rattle.rewrite.specs.Extents.{halfColumn, layerOf, narrow, broad, formExtent, extentOf, meets, shareCarrier};
 ghost use Rattle.rewrite.specs.Programs.{flat, recordsOf, startsOf, what};
 ghost use Rattle.rewrite.specs.Rewrite.{swapOf, logRecordOf, replay, lentNo, writes, rewriteOf};

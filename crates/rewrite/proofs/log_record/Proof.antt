@@ -1,7 +1,7 @@
 -- Too short, of another kind, or a swap. Assumes nothing.
-use Prim.Native.Nat.{ℕ, _+_, _*_}
+use Prim.Native.Nat.{_+_, _*_}
 use native.Mathlib.Omega.{arith}
-use mathlib.Core.Path.{_≡_, ap, _∙_}
+use mathlib.Core.Path.{_∙_}
 use Rattle.rewrite.specs.declared.LogRecord.the-variants.{Swap}
 use Rattle.rewrite.proofs.Logs.{read-short, read-kind, read-swap}
 use borrow.Author.Needs.{needs}
