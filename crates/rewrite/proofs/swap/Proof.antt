@@ -60,7 +60,7 @@ returns-2 c = let k = c .before .before .before .before .before .before .before 
 
 exchange-requires : tie.Need-exchange-requires
 exchange-requires c κs = let k = c .before .before .before .before .before .before .before .before .before .before .before .before in let p = k .args .output .now in let w = k .args .work .now in let g = k .pre .0 in let h = c .before .before .before .before .before .before .before .before .if1 .left in let s = placed p w g (k .args .i) h _ (c .before .before .before .before .before .pair-at .ensures) in
-    (omega (arith, s .first-long), omega (arith, s .second-long), s .ends, s .short)
+    (omega (arith, s .first-long), omega (arith, s .second-long), omega (arith, s .second-long, s .ends), omega (arith, s .second-long, s .short))
 
 sub-work : tie.Need-sub-work
 sub-work c = let k = c .before .before .before .before .before .before .before .before .before .before .before .before .before .before .before .before in let p = k .args .output .now in let w = k .args .work .now in let g = k .pre .0 in let h = c .before .before .before .before .before .before .before .before .before .before .before .before .if1 .left in let s = placed p w g (k .args .i) h _ (c .before .before .before .before .before .before .before .before .before .pair-at .ensures) in
