@@ -17,7 +17,7 @@ use Rattle.run.specs.Step.{lookOf, seeOf, parkedNo, floatNo, carrierNo, opposit
 use Rattle.run.specs.Run.{stepOf, turn, runFrom, answerOf, runOf}
 use Rattle.rewrite.specs.Extents.{halfColumn, layerOf, extentOf, meets, member, common}
 use Rattle.rewrite.specs.Programs.{cut, startsOf, sameBytes, recordsOf}
-use Rattle.rewrite.specs.Rewrite.{replay, lentNo, writes, Rewritten, refused, written, rewriteOf}
+use Rattle.rewrite.specs.Rewrite.{replayFrom, replay, lentNo, writes, Rewritten, refused, written, rewriteOf}
 use Rattle.rewrite.proofs.Lawful.{lawful}
 use Rattle.rewrite.proofs.Rewriting.{all-lent}
 use Rattle.list.specs.Text.{digitsOf, letterOf, signOf, flagOf, lines, hookLine, attachmentOf, carrierLine, programLine, bedsOf, stateOf, shownOf, listingOf}
@@ -53,7 +53,7 @@ each (r ∷ l) e = (
 )
 
 computed : (output work : List ℕ) → every output work listings ≡ true
-unfolding test bytesIn text digitsOf letterOf signOf flagOf lines hookLine attachmentOf carrierLine programLine bedsOf stateOf shownOf listingOf writes replay cut startsOf sameBytes halfColumn layerOf extentOf meets member common sizeOf runOf runFrom turn stepOf answerOf emptyState completeOf all inactiveCarrier movedTo attachedAt sameNeedle eqZ columnOf entryOf exitOf sameColumn withinFloat decodeOf whole ranged refusedAs rackOk needleOk workOk signedOf needleCount carrierCount needlesOf carriersOf lookOf seeOf parkedNo floatNo carrierNo oppositeNo firstAfter secondAfter roomNo decidedNo edit actOf acted moveAttachments rackingAfter numberAt applyOf
+unfolding test bytesIn text digitsOf letterOf signOf flagOf lines hookLine attachmentOf carrierLine programLine bedsOf stateOf shownOf listingOf writes replayFrom cut startsOf sameBytes halfColumn layerOf extentOf meets member common byKind runOf runFrom turn stepOf answerOf emptyState completeOf all inactiveCarrier movedTo attachedAt sameNeedle eqZ columnOf entryOf exitOf sameColumn withinFloat decodeOf readAs fieldsOk recordAt refusedAs rackOk needleOk workOk signedOf needlesOf carriersOf lookOf seeOf parkedNo floatNo carrierNo oppositeNo firstAfter secondAfter roomNo decidedNo edit actOf acted moveAttachments numberAt applyOf
 computed output work = refl
 
 pub listings-printed : ListingsPrinted

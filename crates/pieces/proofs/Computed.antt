@@ -21,7 +21,7 @@ use Rattle.run.specs.Run.{stepOf, turn, runFrom, answerOf, runOf}
 use Rattle.trace.specs.Records.{tied}
 use Rattle.rewrite.specs.Extents.{halfColumn, layerOf, extentOf, meets, member, common}
 use Rattle.rewrite.specs.Programs.{cut, startsOf, sameBytes, knitting}
-use Rattle.rewrite.specs.Rewrite.{replay, lentNo, rewriteOf}
+use Rattle.rewrite.specs.Rewrite.{replayFrom, lentNo, rewriteOf}
 use Rattle.rewrite.proofs.Lawful.{lawful}
 use Rattle.pieces.specs.Rows.{Expected, Row, rows, Swap, swaps}
 use Rattle.pieces.specs.Edges.{Pair, pairs, edges}
@@ -124,15 +124,15 @@ pair-says r e =
 
 -- the tests, computed: rows, swaps and ties apart, since a declaration is checked in fifty million steps at most
 rows-computed : every rowTest rows ≡ true
-unfolding rowTest saysTest stateTest hooksTest carriersTest sameBool sameCarrier runOf runFrom turn stepOf answerOf emptyState completeOf all inactiveCarrier movedTo attachedAt sameNeedle eqZ columnOf entryOf exitOf sameColumn withinFloat decodeOf whole ranged refusedAs rackOk needleOk workOk signedOf needleCount carrierCount needlesOf carriersOf lookOf seeOf parkedNo floatNo carrierNo oppositeNo firstAfter secondAfter roomNo decidedNo edit actOf acted moveAttachments rackingAfter numberAt applyOf
+unfolding rowTest saysTest stateTest hooksTest carriersTest sameBool sameCarrier runOf runFrom turn stepOf answerOf emptyState completeOf all inactiveCarrier movedTo attachedAt sameNeedle eqZ columnOf entryOf exitOf sameColumn withinFloat decodeOf readAs fieldsOk recordAt refusedAs rackOk needleOk workOk signedOf needlesOf carriersOf lookOf seeOf parkedNo floatNo carrierNo oppositeNo firstAfter secondAfter roomNo decidedNo edit actOf acted moveAttachments numberAt applyOf
 rows-computed = refl
 
 swaps-computed : every swapTest swaps ≡ true
-unfolding swapTest saysTest rewriteOf lentNo replay cut startsOf sameBytes halfColumn layerOf extentOf meets member common sizeOf stateTest hooksTest carriersTest sameBool sameCarrier runOf runFrom turn stepOf answerOf emptyState completeOf all inactiveCarrier movedTo attachedAt sameNeedle eqZ columnOf entryOf exitOf sameColumn withinFloat decodeOf whole ranged refusedAs rackOk needleOk workOk signedOf needleCount carrierCount needlesOf carriersOf lookOf seeOf parkedNo floatNo carrierNo oppositeNo firstAfter secondAfter roomNo decidedNo edit actOf acted moveAttachments rackingAfter numberAt applyOf
+unfolding swapTest saysTest rewriteOf lentNo replayFrom cut startsOf sameBytes halfColumn layerOf extentOf meets member common byKind stateTest hooksTest carriersTest sameBool sameCarrier runOf runFrom turn stepOf answerOf emptyState completeOf all inactiveCarrier movedTo attachedAt sameNeedle eqZ columnOf entryOf exitOf sameColumn withinFloat decodeOf readAs fieldsOk recordAt refusedAs rackOk needleOk workOk signedOf needlesOf carriersOf lookOf seeOf parkedNo floatNo carrierNo oppositeNo firstAfter secondAfter roomNo decidedNo edit actOf acted moveAttachments numberAt applyOf
 swaps-computed = refl
 
 ties-computed : (every pairTest pairs && every pairTest edges) ≡ true
-unfolding pairTest sameBool halfColumn layerOf extentOf meets member common columnOf decodeOf whole ranged refusedAs rackOk needleOk workOk signedOf carrierCount carriersOf
+unfolding pairTest sameBool halfColumn layerOf extentOf meets member common columnOf decodeOf readAs fieldsOk recordAt refusedAs rackOk needleOk workOk signedOf carriersOf
 ties-computed = refl
 
 -- the pieces

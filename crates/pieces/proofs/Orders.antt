@@ -11,7 +11,7 @@ use Rattle.rewrite.specs.Programs.{cut, sameBytes, memberNeedle}
 use Rattle.pieces.specs.Orders.{OrdersHold}
 
 pub orders : OrdersHold
-unfolding cut sizeOf sameBytes memberNeedle sameNeedle halfColumn layerOf extentOf meets member common columnOf decodeOf whole ranged refusedAs rackOk needleOk workOk signedOf needleCount carrierCount needlesOf carriersOf runOf runFrom turn stepOf answerOf emptyState completeOf all inactiveCarrier movedTo attachedAt eqZ entryOf exitOf sameColumn withinFloat lookOf seeOf parkedNo floatNo carrierNo oppositeNo firstAfter secondAfter roomNo decidedNo edit actOf acted moveAttachments rackingAfter numberAt applyOf
+unfolding cut byKind sameBytes memberNeedle sameNeedle halfColumn layerOf extentOf meets member common columnOf decodeOf readAs fieldsOk recordAt refusedAs rackOk needleOk workOk signedOf needlesOf carriersOf runOf runFrom turn stepOf answerOf emptyState completeOf all inactiveCarrier movedTo attachedAt eqZ entryOf exitOf sameColumn withinFloat lookOf seeOf parkedNo floatNo carrierNo oppositeNo firstAfter secondAfter roomNo decidedNo edit actOf acted moveAttachments numberAt applyOf
 orders =
     record {
       records-are = refl;

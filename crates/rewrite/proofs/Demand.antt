@@ -18,14 +18,13 @@ use Rattle.trace.specs.Machine.{Kept}
 use Rattle.trace.proofs.Theorems.{made-iff-untied, refused-iff-tied, order-of-positions, reaches-exactly, swaps-keep}
 use Rattle.trace.proofs.Swaps.{swaps-append, equals-are-tied}
 use Rattle.rewrite.specs.Programs.{flat, recordsOf, knitting, needle, carrier, names}
-use Rattle.rewrite.specs.Rewrite.{rackingZero, swapOf, Replay, ended, replay, Rewritten, written}
-use Rattle.rewrite.specs.Calls.{Call, callOf, numberOf, handedOn, after, AllAccepted}
-use Rattle.rewrite.specs.Claims.{RecordsEndToEnd, EachEncodes, RecordsEncode, TiedExactly, EqualRecordsTied, RewritePlaceIsSmall, SameProgram, Keeps, OrderByPositions, LentTo, ComesTo, SwapExactly, FrontHandedOn, InTurn, AnyLoan, Demand3}
+use Rattle.rewrite.specs.Rewrite.{rackingZero, swapOf, Replay, ended, replayFrom, replay, Rewritten, written}
+use Rattle.rewrite.specs.Calls.{Call, callOf, callNumber, handedOn, after, AllAccepted}
+use Rattle.rewrite.specs.Claims.{RecordsEndToEnd, RecordsEncode, TiedExactly, EqualRecordsTied, RewritePlaceIsSmall, SameProgram, Keeps, OrderByPositions, LentTo, ComesTo, SwapExactly, FrontHandedOn, InTurn, AnyLoan, Demand3}
 use Rattle.rewrite.specs.Exact.{TiedBehind, Swapped}
-use Rattle.rewrite.specs.Laid.{Whole}
 use Rattle.rewrite.proofs.Machine.{machine, Good}
 use Rattle.rewrite.proofs.Lawful.{lawful, orderly, tied-exactly}
-use Rattle.rewrite.proofs.Records.{records-flat, whole-form, steps-whole}
+use Rattle.rewrite.proofs.Records.{each-map, records-flat, record-form, steps-records}
 use Rattle.rewrite.proofs.Joined.{valid-ends, ends-valid}
 use Rattle.rewrite.proofs.Replays.{swaps-moved, replay-made, replay-tied, replay-place}
 use Rattle.rewrite.proofs.Rewriting.{all-lent, enough, place-small}
@@ -62,7 +61,7 @@ module _ {p : List ℕ} {t : State} (w : Valid p t) (c : Call) (front rest : Lis
       (replay-tied (h .high) (h .low) rest (length front) (u ++ x ∷ y ∷ v) (at-pair ∙ refused-iff-tied knitting rackingZero u x y v .1 e))
 
   -- a swap that is made leaves no 13 at its place
-  later-place : areTied ≡ false → numberOf p c ≡ 13 → length front + 3 ≤ callOf p c .answer .place
+  later-place : areTied ≡ false → callNumber p c ≡ 13 → length front + 3 ≤ callOf p c .answer .place
   later-place e n =
       let f = swap-made e in
       let z = ap (λ (r : Rewritten). r .answer .number) f in
@@ -85,7 +84,7 @@ module _ {p : List ℕ} {t : State} (w : Valid p t) (c : Call) (front rest : Lis
 -- a log of swaps that are made
 log-done : {p : List ℕ} {t : State} → Valid p t → (c : Call) (m : List (List ℕ)) → LentTo p c → Swapped (c .log) (recordsOf p) m
     → callOf p c ≡ written p (ended 0 0 m) (c .output) (c .work)
-unfolding replay
+unfolding replayFrom
 log-done {p} w c m lent s =
     call-written w c (all-lent _ _ _ _ lent)
     ∙ ap (λ (r : Replay). written p r (c .output) (c .work)) (ap (λ (log : List ℕ). replay log 0 (recordsOf p)) (sym (append-nil (c .log))) ∙ swapped-replay s [] 0)
@@ -146,12 +145,8 @@ by-calls {p} v q s =
 pub end-to-end : RecordsEndToEnd
 end-to-end = records-flat
 
-each-encodes : (l : List (List ℕ)) → Whole l → EachEncodes l
-each-encodes [] w = tt
-each-encodes (x ∷ l) (w, v) = (whole-form x w, each-encodes l v)
-
 pub records-encode : RecordsEncode
-records-encode p t v = each-encodes (recordsOf p) (steps-whole (v .steps))
+records-encode p t v = each-map record-form (recordsOf p) (steps-records (v .steps))
 
 pub ties : TiedExactly
 ties = tied-exactly

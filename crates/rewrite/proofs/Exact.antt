@@ -2,7 +2,7 @@
 use borrow.Table.Steps.{cases}
 use Prim.Native.Nat.{ℕ, zero, suc, _+_, _*_, _/_, _%_, _≤_, _<_}
 use mathlib.Core.Path.{_≡_, refl, sym, ap, subst, _∙_}
-use mathlib.Core.Bool.{Bool, true, false, true≢false}
+use mathlib.Core.Bool.{Bool, true, true≢false}
 use mathlib.Core.List.{List, [], _∷_, _++_, append-nil}
 use native.Mathlib.Nat.{div-add-mod'}
 use native.Mathlib.Omega.{arith}
@@ -10,28 +10,24 @@ use lib.Dec.{eqb, leb, ltb}
 use lib.ListN.{length, drop, getD}
 use borrow.Author.Tests.{eqb-true, eqb-false, ne-eqb, leb-true, leb-false, ltb-true, ltb-false}
 use Rattle.machine.specs.declared.State.{State}
-use Rattle.machine.specs.Machine.{emptyState, Each}
+use Rattle.machine.specs.Machine.{emptyState}
 use Rattle.machine.proofs.Laws.{empty-is-complete}
-use Rattle.record.specs.declared.Record.{Record}
-use Rattle.record.specs.Format.{Encodes}
 use Rattle.run.specs.declared.Answer.{Answer}
 use Rattle.run.specs.Relation.{Valid}
-use Rattle.run.specs.Run.{reached, answerOf, runOf}
+use Rattle.run.specs.Run.{answerOf, runOf}
 use Rattle.run.specs.Claims.{Answers, Complete}
-use Rattle.run.proofs.Premises.{is}
 use Rattle.run.proofs.Refusals.{reason-other}
-use Rattle.run.proofs.Demand.{accepts, final, complete}
+use Rattle.run.proofs.Demand.{final, complete}
 use Rattle.run.proofs.Exact.{run-flag, run-exactly}
 use Rattle.trace.specs.Records.{tied}
 use Rattle.trace.specs.Order.{inForce}
-use Rattle.trace.specs.Swaps.{Outcome, no-pair, is-tied, made}
+use Rattle.trace.specs.Swaps.{no-pair, is-tied, made}
 use Rattle.trace.proofs.Theorems.{made-iff-untied, refused-iff-tied, no-pair-iff-short}
 use Rattle.rewrite.specs.Programs.{flat, recordsOf, startsOf, knitting}
-use Rattle.rewrite.specs.Rewrite.{rackingZero, swapOf, Replay, ended, onOutcome, replay, lentNo, Rewritten, refused, rewriteOf}
-use Rattle.rewrite.specs.Exact.{TooLong, NoBench, Enough, RecordsAre, TiedBehind, Neighbours, Swapped, Torn, Long, Short, Lent, unlooked, leaving, Followed, Rewrites, RewriteExactly}
-use Rattle.rewrite.specs.Laid.{Whole}
+use Rattle.rewrite.specs.Rewrite.{rackingZero, swapOf, Replay, ended, onOutcome, replayFrom, replay, lentNo, Rewritten, refused, rewriteOf}
+use Rattle.rewrite.specs.Exact.{TooLong, NoBench, RecordsAre, TiedBehind, Neighbours, Swapped, Torn, Long, Short, Lent, unlooked, leaving, Followed, Rewrites, RewriteExactly}
 use Rattle.rewrite.proofs.Lawful.{tied-exactly}
-use Rattle.rewrite.proofs.Records.{records-flat, flat-records, whole-form, form-whole, steps-whole}
+use Rattle.rewrite.proofs.Records.{each-map, records-flat, flat-records, record-form, form-record, steps-records}
 use Rattle.rewrite.proofs.Replays.{made-pair, replay-made, replay-tied}
 use Rattle.rewrite.proofs.Rewriting.{program-long, log-long, output-short, work-short, all-lent, lent-call, refused-call, written-call}
 
@@ -118,7 +114,7 @@ module _ (high low at : ℕ) (log : List ℕ) (l : List (List ℕ)) (more : (m :
       (λ t. goes-pair (pair l i (leb-false (length l) (i + 1) t)))
 
 stops : (log : List ℕ) (at : ℕ) (l : List (List ℕ)) → Stops log at l (replay log at l)
-unfolding replay
+unfolding replayFrom
 stops [] at l = Stops.through Swapped.none
 stops (k ∷ []) at l = placed at (Stops.is-torn [] (k ∷ []) refl Swapped.none (Torn.few-bytes (omega arith) (omega arith)))
 stops (k ∷ high ∷ []) at l = placed at (Stops.is-torn [] (k ∷ high ∷ []) refl Swapped.none (Torn.few-bytes (omega arith) (omega arith)))
@@ -145,7 +141,7 @@ swapped-one i l m e =
 
 -- where it stops
 torn-replay : (rest : List ℕ) → Torn rest → (at : ℕ) (l : List (List ℕ)) → replay rest at l ≡ ended 14 at l
-unfolding replay
+unfolding replayFrom
 torn-replay [] (Torn.other-kind q d) at l = absurd (omega (arith, ap length q))
 torn-replay [] (Torn.few-bytes a b) at l = absurd (omega arith)
 torn-replay (k ∷ []) t at l = refl
@@ -154,23 +150,15 @@ torn-replay (k ∷ high ∷ low ∷ log) (Torn.other-kind q d) at l = simp (ne-e
 torn-replay (k ∷ high ∷ low ∷ log) (Torn.few-bytes a b) at l = absurd (omega arith)
 
 unpaired-replay : (high low : ℕ) (log : List ℕ) (at : ℕ) (l : List (List ℕ)) → length l ≤ high * 256 + low + 1 → replay (64 ∷ high ∷ low ∷ log) at l ≡ ended 12 at l
-unfolding replay
+unfolding replayFrom
 unpaired-replay high low log at l h = rw (no-pair-iff-short knitting rackingZero (high * 256 + low) l .1 (omega arith)) refl
 
 -- ---- the records of a program
-whole-each : (l : List (List ℕ)) → Whole l → Each (λ (x : List ℕ). (r : Record) × Encodes x r) l
-whole-each [] w = tt
-whole-each (x ∷ l) (w, v) = ((_, whole-form x w), whole-each l v)
-
-each-whole : (l : List (List ℕ)) → Each (λ (x : List ℕ). (r : Record) × Encodes x r) l → Whole l
-each-whole [] w = tt
-each-whole (x ∷ l) ((r, form), v) = (form-whole form, each-whole l v)
-
 valid-are : {p : List ℕ} {t : State} → Valid p t → RecordsAre p (recordsOf p)
-valid-are {p} v = record { end-to-end = records-flat p; each = whole-each (recordsOf p) (steps-whole (v .steps)) }
+valid-are {p} v = record { end-to-end = records-flat p; each = each-map (λ x w. (_, record-form x w)) (recordsOf p) (steps-records (v .steps)) }
 
 pub are-records : {p : List ℕ} {l : List (List ℕ)} → RecordsAre p l → recordsOf p ≡ l
-are-records {l = l} a = ap recordsOf (sym (a .end-to-end)) ∙ flat-records l (each-whole l (a .each))
+are-records {l = l} a = ap recordsOf (sym (a .end-to-end)) ∙ flat-records l (each-map (λ x (r, form). form-record form) l (a .each))
 
 -- ---- a call
 module _ (p log output work : List ℕ) where
@@ -244,7 +232,7 @@ module _ (p log output work : List ℕ) where
 
   -- whatever ends so is what the call gives and leaves
   one : {w : Rewritten} → Rewrites p log output work w → call ≡ w
-  unfolding replay
+  unfolding replayFrom
   one (Rewrites.too-long h) = unlooked-call 0 (long-number h)
   one (Rewrites.no-bench d h) = unlooked-call 1 (short-number d h)
   one (Rewrites.not-valid {a = a} l f c) =

@@ -1,7 +1,7 @@
 -- One call on a valid program: the program that it hands on, and one swap as a call of its own. Assumes nothing.
 use borrow.Table.Steps.{cases}
 use Prim.Native.Nat.{ℕ, zero, suc, _/_, _%_, _≤_, _<_}
-use mathlib.Core.Path.{_≡_, refl, ap, _∙_}
+use mathlib.Core.Path.{_≡_, ap, _∙_}
 use mathlib.Core.Bool.{true, _||_}
 use mathlib.Core.List.{List, [], _∷_}
 use native.Mathlib.Omega.{arith}
@@ -10,17 +10,18 @@ use lib.ListN.{length, take, drop, replicate, length-replicate}
 use lib.Seq.{take-at}
 use borrow.Author.Tests.{ne-eqb, le-ltb}
 use Rattle.machine.specs.declared.State.{State}
+use Rattle.machine.specs.Machine.{Each}
 use Rattle.run.specs.Relation.{Valid}
 use Rattle.run.specs.Run.{answerOf}
 use Rattle.run.proofs.Premises.{is}
 use Rattle.run.proofs.Demand.{final}
 use Rattle.trace.specs.Swaps.{made, Swaps, no-swap, swap-first}
 use Rattle.rewrite.specs.Programs.{flat, recordsOf, knitting}
-use Rattle.rewrite.specs.Rewrite.{rackingZero, swapOf, Replay, ended, replay, lentNo, writes, Rewritten, written}
+use Rattle.rewrite.specs.Rewrite.{rackingZero, swapOf, Replay, ended, replayFrom, replay, lentNo, writes, Rewritten, written}
 use Rattle.rewrite.specs.Exact.{Swapped}
-use Rattle.rewrite.specs.Calls.{Below, Call, callOf, numberOf, handedOn, Accepted}
-use Rattle.rewrite.specs.Laid.{Whole}
-use Rattle.rewrite.proofs.Records.{records-flat, flat-records, steps-whole, whole-length}
+use Rattle.rewrite.specs.Calls.{Below, Call, callOf, callNumber, handedOn, Accepted}
+use Rattle.rewrite.specs.Laid.{isRecord}
+use Rattle.rewrite.proofs.Records.{records-flat, flat-records, steps-records, records-length}
 use Rattle.rewrite.proofs.Rewriting.{lent-call, written-call}
 use Rattle.rewrite.proofs.Replays.{Moved, swaps-moved, made-pair, replay-swaps, replay-moved, replay-writes}
 use Rattle.rewrite.proofs.Exact.{swapped-one, swapped-replay}
@@ -37,7 +38,7 @@ lent-number p c =
     (λ a. cases (ltb (length (c .output)) (length p) || ltb (length (c .work)) (length p / 2)) (λ b. simp (a, b) (omega arith)) (λ b. simp (a, b) (omega arith)))
 
 -- 1 and 2 hand the same program on
-refused-number : (p : List ℕ) (c : Call) → (lent p c ≡ 0 → ⊥) → numberOf p c ≡ lent p c
+refused-number : (p : List ℕ) (c : Call) → (lent p c ≡ 0 → ⊥) → callNumber p c ≡ lent p c
 unfolding answerOf
 refused-number p c h = ap (λ (w : Rewritten). w .answer .number) (lent-call p (c .log) (c .output) (c .work) h)
 
@@ -53,8 +54,8 @@ module _ {p : List ℕ} {t : State} (v : Valid p t) where
   pub call-written : (c : Call) → lent p c ≡ 0 → callOf p c ≡ written p (replay (c .log) 0 (recordsOf p)) (c .output) (c .work)
   call-written c e = written-call p (c .log) (c .output) (c .work) e (final p t v .number)
 
-  valid-whole : Whole (recordsOf p)
-  valid-whole = steps-whole (v .steps)
+  valid-records : Each (λ (x : List ℕ). isRecord x ≡ true) (recordsOf p)
+  valid-records = steps-records (v .steps)
 
   -- what swaps of its records leave is as long
   pub moved-length : {m : List (List ℕ)} → Moved (recordsOf p) m → length (flat m) ≡ length p
@@ -65,22 +66,22 @@ module _ {p : List ℕ} {t : State} (v : Valid p t) where
   written-program c e =
       let r = replay (c .log) 0 (recordsOf p) in
       let f = call-written c e in
-      let n : numberOf p c ≡ r .number = ap (λ (w : Rewritten). w .answer .number) f in
-      let test : writes (numberOf p c) ≡ true = rw n (replay-writes (c .log) 0 (recordsOf p)) in
+      let n : callNumber p c ≡ r .number = ap (λ (w : Rewritten). w .answer .number) f in
+      let test : writes (callNumber p c) ≡ true = rw n (replay-writes (c .log) 0 (recordsOf p)) in
       simp test
       (ap (λ (w : Rewritten). take (length p) (w .output)) f
       ∙ take-at (flat (r .left)) (drop (length p) (c .output)) (length p) (moved-length (replay-moved (c .log) 0 (recordsOf p))))
 
   -- which stand at the front of the output
   pub front-written : (c : Call) → lent p c ≡ 0 → handedOn p c ≡ take (length p) (callOf p c .output)
-  front-written c e = let n = ap (λ (w : Rewritten). w .answer .number) (call-written c e) in let test : writes (numberOf p c) ≡ true = rw n (replay-writes (c .log) 0 (recordsOf p)) in simp test
+  front-written c e = let n = ap (λ (w : Rewritten). w .answer .number) (call-written c e) in let test : writes (callNumber p c) ≡ true = rw n (replay-writes (c .log) 0 (recordsOf p)) in simp test
 
   -- so that every call hands on what swaps reach
   pub handed-on : (c : Call) → (is : List ℕ) × Swaps knitting rackingZero is (recordsOf p) (recordsOf (handedOn p c))
   handed-on c =
       is (lent p c) 0
       (λ e. let (js, s) = replay-swaps (c .log) 0 (recordsOf p) in
-      let w = replay-moved (c .log) 0 (recordsOf p) .whole valid-whole in
+      let w = replay-moved (c .log) 0 (recordsOf p) .each valid-records in
       (js, rw (written-program c e, flat-records (replay (c .log) 0 (recordsOf p) .left) w) s))
       (λ h. ([], rw (kept-program p c h) no-swap))
 
@@ -110,7 +111,7 @@ swap-lent p i h k =
 module _ {p : List ℕ} {t : State} (v : Valid p t) (i : ℕ) {m : List (List ℕ)} (e : swapOf i (recordsOf p) ≡ made m) where
   -- a position is a 16-bit number: a program has at most 16,384 records
   small : i < 65536
-  small = omega (arith, made-pair knitting (recordsOf p) m rackingZero i e, whole-length (recordsOf p) (valid-whole v), ap length (records-flat p), v .short)
+  small = omega (arith, made-pair knitting (recordsOf p) m rackingZero i e, records-length (recordsOf p) (valid-records v), ap length (records-flat p), v .short)
 
   -- its call, which answers 0 and hands on the records with the swap made
   abbrev one : Call
@@ -124,16 +125,16 @@ module _ {p : List ℕ} {t : State} (v : Valid p t) (i : ℕ) {m : List (List �
   one-swap = swapped-one i (recordsOf p) m e
 
   one-replay : replay (one .log) 0 (recordsOf p) ≡ ended 0 0 m
-  unfolding replay swapCall
+  unfolding replayFrom swapCall
   one-replay = swapped-replay one-swap [] 0
 
-  one-done : numberOf p one ≡ 0
+  one-done : callNumber p one ≡ 0
   one-done = ap (λ (r : Rewritten). r .answer .number) (call-written v one (swap-lent p i small (v .short))) ∙ ap (λ (r : Replay). r .number) one-replay
 
   one-records : recordsOf (handedOn p one) ≡ m
   one-records =
       ap recordsOf (written-program v one (swap-lent p i small (v .short)) ∙ ap (λ (r : Replay). flat (r .left)) one-replay)
-      ∙ flat-records m (swaps-moved knitting swaps .whole (valid-whole v))
+      ∙ flat-records m (swaps-moved knitting swaps .each (valid-records v))
 
   one-accepted : Accepted p one
   one-accepted = record { done = one-done; swaps = rw one-records one-swap }

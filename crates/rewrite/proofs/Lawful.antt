@@ -31,9 +31,9 @@ use Rattle.rewrite.specs.Extents.{halfColumn, extentOf, Share, meets, me
 use Rattle.rewrite.specs.Programs.{what, sameBytes, knitting, memberNeedle, Named, needle, carrier, names}
 use Rattle.rewrite.specs.Claims.{TiedExactly}
 use Rattle.rewrite.specs.Exact.{Tied}
-use Rattle.rewrite.specs.Laid.{whole}
+use Rattle.rewrite.specs.Laid.{isRecord}
 use Rattle.rewrite.proofs.Machine.{machine, had, Good}
-use Rattle.rewrite.proofs.Records.{whole-form}
+use Rattle.rewrite.proofs.Records.{record-form}
 use Rattle.rewrite.proofs.Footprints.{footprint, some-layer, share-meets, meets-share, Settled, Inside, inside, inside-meets}
 use Rattle.rewrite.proofs.Commute.{needle-eq, racking-left, number-settled, racking-applied, untied-commute}
 
@@ -142,13 +142,13 @@ lawful =
     }
 
 -- ---- the laws of the machine
-whole-in : (x : List ℕ) → whole x ≡ true → InRange (what x)
-whole-in x w = form-in (whole-form x w)
+record-in : (x : List ℕ) → isRecord x ≡ true → InRange (what x)
+record-in x w = form-in (record-form x w)
 
 racking-step : (s t : State) (x : List ℕ) → machine .step s x ≡ some t → t .racking ≡ rackingAfter (s .racking) (what x)
 racking-step s t x e =
     let h = had s t x e in
-    ap (λ (u : State). u .racking) (sym (h .state)) ∙ racking-applied s (what x) ∙ racking-left (what x) (s .racking) (whole-in x (h .is-whole))
+    ap (λ (u : State). u .racking) (sym (h .state)) ∙ racking-applied s (what x) ∙ racking-left (what x) (s .racking) (record-in x (h .is-record))
 
 -- a step after none, and none after a step
 none-after : (o : Option State) → andThen o (λ (t : State). none) ≡ none
@@ -159,9 +159,9 @@ commute : (s : State) (x y : List ℕ) → tied knitting (s .racking) x y ≡ fa
     → andThen (machine .step s x) (λ t. machine .step t y) ≡ andThen (machine .step s y) (λ t. machine .step t x)
 commute s x y t =
     let (a, b, c, d) = untied knitting (s .racking) x y t in
-    cases (whole x)
-    (λ v. cases (whole y) (λ w. simp (v, w) (untied-commute s (what x) (what y) (whole-in x v) (whole-in y w) a b c d)) (λ w. simp (v, w, none-after)))
-    (λ v. cases (whole y) (λ w. simp (v, w, none-after)) (λ w. simp (v, w)))
+    cases (isRecord x)
+    (λ v. cases (isRecord y) (λ w. simp (v, w) (untied-commute s (what x) (what y) (record-in x v) (record-in y w) a b c d)) (λ w. simp (v, w, none-after)))
+    (λ v. cases (isRecord y) (λ w. simp (v, w, none-after)) (λ w. simp (v, w)))
 
 member-each : (P : Needle → Type 0) (n : Needle) (l : List Needle) → memberNeedle n l ≡ true → Each P l → P n
 unfolding memberNeedle
@@ -183,8 +183,8 @@ named n s t u x y e f p q =
     let r = s .racking in let g = had s t x e in let h = had t u y f in
     tied-by (isRack (what x)) (isRack (what y))
     (λ a b. let kept : t .racking ≡ r = racking-step s t x e ∙ simp a in
-    named-both n r x y (number-settled s (what x) (whole-in x (g .is-whole)) (g .number))
-    (subst (λ (z : Racking). Settled z (what y)) kept (number-settled t (what y) (whole-in y (h .is-whole)) (h .number))) p q)
+    named-both n r x y (number-settled s (what x) (record-in x (g .is-record)) (g .number))
+    (subst (λ (z : Racking). Settled z (what y)) kept (number-settled t (what y) (record-in y (h .is-record)) (h .number))) p q)
 
 pub orderly : Orderly knitting machine names Good
 orderly =

@@ -7,11 +7,12 @@ use native.Mathlib.Omega.{arith}
 use native.Mathlib.Numerals.{add-one}
 use lib.ListN.{length, take, drop, getD, set, length-append, take-append-drop, List·getD-append}
 use lib.Seq.{length-take-le, take-length, take-suc, take-suc-set, take-at, drop-at, drop-drop, drop-set-lt, split-at, getD-at, getD-drop}
+use Rattle.machine.specs.Machine.{Each}
 use Rattle.run.proofs.Premises.{is}
 use Rattle.record.specs.Format.{byte, sizeOf}
 use Rattle.rewrite.specs.Programs.{flat, recordsOf, startsOf}
-use Rattle.rewrite.specs.Laid.{whole, Whole, Sound, Laid, part}
-use Rattle.rewrite.proofs.Records.{Sized, whole-size, whole-length, records-flat}
+use Rattle.rewrite.specs.Laid.{isRecord, Sound, Laid, recordAt, startAt}
+use Rattle.rewrite.proofs.Records.{each-part, Sized, record-size, records-length, records-flat}
 
 -- ---- lists of records
 pub flat-append : (u v : List (List ℕ)) → flat (u ++ v) ≡ flat u ++ flat v
@@ -30,10 +31,6 @@ starts-append at (x ∷ u) v =
     let e : at + length x + length (flat u) ≡ at + length (x ++ flat u) = omega (arith, length-append x (flat u)) in
     ap (λ (q : List ℕ). at ∷ q) (starts-append (at + length x) u v ∙ ap (λ (n : ℕ). startsOf (at + length x) u ++ startsOf n v) e)
 
-pub whole-part : (u v : List (List ℕ)) → Whole (u ++ v) → Whole u × Whole v
-whole-part [] v w = (tt, w)
-whole-part (x ∷ u) v (a, w) = let (b, c) = whole-part u v w in ((a, b), c)
-
 -- ---- a record x between others
 module _ (u : List (List ℕ)) (x : List ℕ) (v : List (List ℕ)) where
   start-between : getD (startsOf 0 (u ++ x ∷ v)) (length u) 0 ≡ length (flat u)
@@ -49,87 +46,81 @@ module _ (u : List (List ℕ)) (x : List ℕ) (v : List (List ℕ)) where
   length-between : length (flat (u ++ x ∷ v)) ≡ length (flat u) + (length x + length (flat v))
   length-between = ap length (flat-append u (x ∷ v)) ∙ omega (arith, length-append (flat u) (x ++ flat v), length-append x (flat v))
 
--- record j of a program
-abbrev pub nth : List ℕ → ℕ → List ℕ
-nth p j = getD (recordsOf p) j []
-
--- the bytes of one record more
-pub flat-next : (p : List ℕ) (j : ℕ) → j < length (recordsOf p) → length (flat (take (j + 1) (recordsOf p))) ≡ length (flat (take j (recordsOf p))) + length (nth p j)
-flat-next p j h =
+-- one start more
+pub start-next : (p : List ℕ) (j : ℕ) → j < length (recordsOf p) → startAt p (j + 1) ≡ startAt p j + length (recordAt p j)
+start-next p j h =
     let l = recordsOf p in
     ap (λ (m : List (List ℕ)). length (flat m)) (ap (λ (n : ℕ). take n l) (add-one j) ∙ take-suc l j [] h)
-    ∙ length-between (take j l) (nth p j) [] ∙ omega arith
+    ∙ length-between (take j l) (recordAt p j) [] ∙ omega arith
 
-pub record Stands (p w : List ℕ) (j : ℕ) : Type 0 where
-  pub start : getD w j 0 ≡ length (flat (take j (recordsOf p)))
-  pub is-whole : whole (nth p j) ≡ true
-  pub sized : Sized (nth p j)
-  pub ends : getD w j 0 + length (nth p j) ≤ length p
-  pub bytes : drop (getD w j 0) p ≡ nth p j ++ flat (drop (suc j) (recordsOf p))
+-- ---- record j of a program, and what stands at its start
+pub record Stands (p : List ℕ) (j : ℕ) : Type 0 where
+  pub is-record : isRecord (recordAt p j) ≡ true
+  pub sized : Sized (recordAt p j)
+  pub ends : startAt p j + length (recordAt p j) ≤ length p
+  pub bytes : drop (startAt p j) p ≡ recordAt p j ++ flat (drop (suc j) (recordsOf p))
 
-module _ (p w : List ℕ) (laid : Laid p w) where
+module _ (p : List ℕ) (sound : Sound p) where
   abbrev l : List (List ℕ)
   l = recordsOf p
 
-  pub work-length : length w ≡ length l
-  work-length = ap length (laid .starts) ∙ starts-length 0 l
-
   few : length l * 2 ≤ length p
-  few = subst (λ (q : List ℕ). length l * 2 ≤ length q) (records-flat p) (whole-length l (laid .sound .whole))
+  few = subst (λ (q : List ℕ). length l * 2 ≤ length q) (records-flat p) (records-length l (sound .records))
 
-  pub work-short : length w ≤ 16384
-  work-short = omega (arith, work-length, few, laid .sound .short)
-
-  pub stands : (j : ℕ) → j < length w → Stands p w j
+  pub stands : (j : ℕ) → j < length l → Stands p j
   stands j h =
-      let i : j < length l = omega (arith, work-length) in
-      let u = take j l in let x = nth p j in let v = drop (suc j) l in
-      let cut : l ≡ u ++ x ∷ v = split-at l j [] i in
-      let n : length u ≡ j = length-take-le j l (omega arith) in
-      let s : getD w j 0 ≡ length (flat u) =
-      ap (λ (q : List ℕ). getD q j 0) (laid .starts) ∙ (λ k. getD (startsOf 0 (cut k)) (sym n k) 0) ∙ start-between u x v in
-      let e : whole x ≡ true = whole-part u (x ∷ v) (subst Whole cut (laid .sound .whole)) .1 .0 in
-      let whole-p : p ≡ flat (u ++ x ∷ v) = sym (records-flat p) ∙ ap flat cut in
+      let u = take j l in let x = recordAt p j in let v = drop (suc j) l in
+      let cut : l ≡ u ++ x ∷ v = split-at l j [] h in
+      let e : isRecord x ≡ true = each-part (λ (x : List ℕ). isRecord x ≡ true) u (x ∷ v) (subst (Each (λ (x : List ℕ). isRecord x ≡ true)) cut (sound .records)) .1 .0 in
+      let joined : p ≡ flat (u ++ x ∷ v) = sym (records-flat p) ∙ ap flat cut in
       record {
-        start = s;
-        is-whole = e;
-        sized = whole-size x e;
-        ends = omega (arith, ap length whole-p, length-between u x v, s);
-        bytes = (λ k. drop (s k) (whole-p k)) ∙ bytes-between u x v;
+        is-record = e;
+        sized = record-size x e;
+        ends = omega (arith, ap length joined, length-between u x v);
+        bytes = ap (drop (length (flat u))) joined ∙ bytes-between u x v;
       }
 
--- what stands at a start
-module _ (p w : List ℕ) (j : ℕ) (s : Stands p w j) where
-  pub byte-at : (k : ℕ) → k < length (nth p j) → getD p (getD w j 0 + k) 0 ≡ byte (nth p j) k
-  byte-at k h = sym (getD-drop (getD w j 0) p k 0) ∙ ap (λ (q : List ℕ). getD q k 0) (s .bytes) ∙ List·getD-append (nth p j) (flat (drop (suc j) (recordsOf p))) 0 k h
+module _ (p : List ℕ) (j : ℕ) (s : Stands p j) (a : ℕ) (at : a ≡ startAt p j) where
+  pub byte-at : (k : ℕ) → k < length (recordAt p j) → getD p (a + k) 0 ≡ byte (recordAt p j) k
+  byte-at k h =
+      ap (λ (n : ℕ). getD p (n + k) 0) at ∙ sym (getD-drop (startAt p j) p k 0) ∙ ap (λ (q : List ℕ). getD q k 0) (s .bytes)
+      ∙ List·getD-append (recordAt p j) (flat (drop (suc j) (recordsOf p))) 0 k h
 
-  pub kind-at : getD p (getD w j 0) 0 ≡ byte (nth p j) 0
-  kind-at = let e : getD w j 0 ≡ getD w j 0 + 0 = omega arith in ap (λ (n : ℕ). getD p n 0) e ∙ byte-at 0 (omega (arith, s .sized .least))
+  pub kind-at : getD p a 0 ≡ byte (recordAt p j) 0
+  kind-at = let e : a ≡ a + 0 = omega arith in ap (λ (n : ℕ). getD p n 0) e ∙ byte-at 0 (omega (arith, s .sized .least))
 
-  pub part-at : (b : ℕ) → b ≡ getD w j 0 + length (nth p j) → part p (getD w j 0) b ≡ nth p j
-  part-at b e =
-      let n : b - getD w j 0 ≡ length (nth p j) = omega arith in
-      (λ k. take (n k) (s .bytes k)) ∙ take-at (nth p j) (flat (drop (suc j) (recordsOf p))) (length (nth p j)) refl
+  pub size-at : sizeOf (getD p a 0) ≡ length (recordAt p j)
+  size-at = ap sizeOf kind-at ∙ sym (s .sized .kind)
+
+  pub bytes-at : (b : ℕ) → b ≡ a + length (recordAt p j) → take (b - a) (drop a p) ≡ recordAt p j
+  bytes-at b e =
+      let n : b - a ≡ length (recordAt p j) = omega arith in
+      (λ k. take (n k) ((ap (λ (m : ℕ). drop m p) at ∙ s .bytes) k)) ∙ take-at (recordAt p j) (flat (drop (suc j) (recordsOf p))) (length (recordAt p j)) refl
+
+-- ---- the starts in the work area
+module _ (p w : List ℕ) (laid : Laid p w) where
+  pub work-length : length w ≡ length (recordsOf p)
+  work-length = ap length (laid .starts) ∙ starts-length 0 (recordsOf p)
+
+  pub work-short : length w ≤ 16384
+  work-short = omega (arith, work-length, few p (laid .sound), laid .sound .short)
+
+  pub work-start : (j : ℕ) → j < length w → getD w j 0 ≡ startAt p j
+  work-start j h =
+      let i : j < length (recordsOf p) = omega (arith, work-length) in
+      let n : length (take j (recordsOf p)) ≡ j = length-take-le j (recordsOf p) (omega arith) in
+      ap (λ (q : List ℕ). getD q j 0) (laid .starts) ∙ (λ k. getD (startsOf 0 (split-at (recordsOf p) j [] i k)) (sym n k) 0)
+      ∙ start-between (take j (recordsOf p)) (recordAt p j) (drop (suc j) (recordsOf p))
+
+  pub laid-stands : (j : ℕ) → j < length w → Stands p j
+  laid-stands j h = stands p (laid .sound) j (omega (arith, work-length))
 
 -- ---- the starts, written one after another: n are written, and the next record starts at `at`
 pub record Upto (p : List ℕ) (n at : ℕ) : Type 0 where
   pub some : n ≤ length (recordsOf p)
-  pub place : at ≡ length (flat (take n (recordsOf p)))
+  pub place : at ≡ startAt p n
 
 module _ (p : List ℕ) (sound : Sound p) (n at : ℕ) (h : Upto p n at) where
-  -- the program itself, with its starts as the work area
-  abbrev own : List ℕ
-  own = startsOf 0 (recordsOf p)
-
-  own-laid : Laid p own
-  own-laid = record { sound = sound; starts = refl }
-
-  more : n < length (recordsOf p) → Stands p own n
-  more i = stands p own own-laid n (omega (arith, starts-length 0 (recordsOf p)))
-
-  is-start : n < length (recordsOf p) → getD own n 0 ≡ at
-  is-start i = more i .start ∙ sym (h .place)
-
   -- the end is reached exactly after the last record
   not-yet : at < length p → n < length (recordsOf p)
   not-yet i =
@@ -137,39 +128,40 @@ module _ (p : List ℕ) (sound : Sound p) (n at : ℕ) (h : Upto p n at) where
       (λ e. absurd (omega (arith, h .place, all-taken e, i)))
       (λ d. omega (arith, h .some))
     where
-      all-taken : n ≡ length (recordsOf p) → length (flat (take n (recordsOf p))) ≡ length p
-      all-taken e = ap (λ (m : ℕ). length (flat (take m (recordsOf p)))) e ∙ ap (λ (l : List (List ℕ)). length (flat l)) (take-length (recordsOf p)) ∙ ap length (records-flat p)
+      all-taken : n ≡ length (recordsOf p) → startAt p n ≡ length p
+      all-taken e = ap (startAt p) e ∙ ap (λ (l : List (List ℕ)). length (flat l)) (take-length (recordsOf p)) ∙ ap length (records-flat p)
 
   pub next-entry : at < length p → n < length p / 2
-  next-entry i = omega (arith, not-yet i, few p own own-laid)
+  next-entry i = omega (arith, not-yet i, few p sound)
 
   pub all-written : length p ≤ at → n ≡ length (recordsOf p)
   all-written i =
       is n (length (recordsOf p)) (λ e. e)
-      (λ d. let s = more (omega (arith, h .some)) in absurd (omega (arith, s .ends, s .sized .least, is-start (omega (arith, h .some)))))
+      (λ d. let s = stands p sound n (omega (arith, h .some)) in absurd (omega (arith, s .ends, s .sized .least, h .place)))
 
   -- one start more
   module _ (i : at < length p) where
-    kind-next : sizeOf (getD p at 0) ≡ length (nth p n)
-    kind-next =
-        let s = more (not-yet i) in
-        ap sizeOf (ap (λ (a : ℕ). getD p a 0) (sym (is-start (not-yet i))) ∙ kind-at p own n s) ∙ sym (s .sized .kind)
+    next : Stands p n
+    next = stands p sound n (not-yet i)
+
+    next-is : sizeOf (getD p at 0) ≡ length (recordAt p n)
+    next-is = size-at p n next at (h .place)
 
     pub next-size : (2 ≤ sizeOf (getD p at 0)) × (sizeOf (getD p at 0) ≤ 6)
-    next-size = let s = more (not-yet i) in (omega (arith, kind-next, s .sized .least), omega (arith, kind-next, s .sized .most))
+    next-size = (omega (arith, next-is, next .sized .least), omega (arith, next-is, next .sized .most))
 
     pub upto-next : Upto p (n + 1) (at + sizeOf (getD p at 0))
-    upto-next =
-        let k = not-yet i in
-        record { some = omega arith; place = omega (arith, flat-next p n k, h .place, kind-next) }
+    upto-next = let k = not-yet i in record { some = omega arith; place = omega (arith, start-next p n k, h .place, next-is) }
 
     -- the work area with it
-    pub starts-next : (w : List ℕ) → n < length w → take n w ≡ take n own → take (n + 1) (set w n at) ≡ take (n + 1) own
+    pub starts-next : (w : List ℕ) → n < length w → take n w ≡ take n (startsOf 0 (recordsOf p)) → take (n + 1) (set w n at) ≡ take (n + 1) (startsOf 0 (recordsOf p))
     starts-next w j e =
-        let k = not-yet i in
+        let own = startsOf 0 (recordsOf p) in
+        let k : n < length own = omega (arith, not-yet i, starts-length 0 (recordsOf p)) in
+        let f : at ≡ getD own n 0 = h .place ∙ sym (work-start p own (record { sound = sound; starts = refl }) n k) in
         ap (λ (m : ℕ). take m (set w n at)) (add-one n) ∙ take-suc-set w n at j
-        ∙ (λ q. e q ++ sym (is-start k) q ∷ [])
-        ∙ sym (take-suc own n 0 (omega (arith, starts-length 0 (recordsOf p))))
+        ∙ (λ q. e q ++ f q ∷ [])
+        ∙ sym (take-suc own n 0 k)
         ∙ ap (λ (m : ℕ). take m own) (sym (add-one n))
 
 -- none are written at first

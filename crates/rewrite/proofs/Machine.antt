@@ -13,26 +13,26 @@ use Rattle.record.specs.declared.Record.{Record}
 use Rattle.run.specs.Step.{numberAt, applyOf}
 use Rattle.trace.specs.Machine.{Machine}
 use Rattle.rewrite.specs.Programs.{what}
-use Rattle.rewrite.specs.Laid.{whole}
+use Rattle.rewrite.specs.Laid.{isRecord}
 
 -- the step of a record, where it has one
 abbrev pub stepped : State → Record → Option State
 stepped s x = cond (eqb (numberAt s x) 0) (some (applyOf s x)) none
 
 abbrev pub machine : Machine (List ℕ) Racking State
-machine = record { step = λ s x. cond (whole x) (stepped s (what x)) none; racking = λ s. s .racking }
+machine = record { step = λ s x. cond (isRecord x) (stepped s (what x)) none; racking = λ s. s .racking }
 
 -- what a step that is had says of its record
 pub record Had (s t : State) (x : List ℕ) : Type 0 where
-  pub is-whole : whole x ≡ true
+  pub is-record : isRecord x ≡ true
   pub number : numberAt s (what x) ≡ 0
   pub state : applyOf s (what x) ≡ t
 
 pub had : (s t : State) (x : List ℕ) → machine .step s x ≡ some t → Had s t x
 had s t x e =
-    cases (whole x)
+    cases (isRecord x)
     (λ w. cases (eqb (numberAt s (what x)) 0)
-    (λ n. record { is-whole = w; number = eqb-true (numberAt s (what x)) 0 n; state = cc })
+    (λ n. record { is-record = w; number = eqb-true (numberAt s (what x)) 0 n; state = cc })
     (λ n. absurd (true≢false (cc))))
     (λ w. absurd (true≢false (cc)))
 

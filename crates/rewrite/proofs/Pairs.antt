@@ -9,18 +9,21 @@ use lib.ListN.{length, take, drop, getD, set, length-append}
 use lib.Seq.{length-take-le, take-at, drop-at, drop-append-add, split-at, drop-cons, set-at}
 use lib.Dec.{eqb}
 use borrow.Author.Tests.{eqb-true}
+use Rattle.machine.specs.declared.Racking.{Racking}
+use Rattle.machine.specs.Machine.{Each}
 use Rattle.machine.proofs.Laws.{and-two}
 use Rattle.record.specs.Format.{sizeOf, decodeOf}
 use Rattle.trace.specs.Records.{tied}
 use Rattle.trace.specs.Swaps.{no-pair, is-tied, made}
 use Rattle.trace.specs.Order.{inForce}
 use Rattle.trace.proofs.Theorems.{made-iff-untied, refused-iff-tied, no-pair-iff-short}
+use Rattle.rewrite.specs.declared.Pair.{Pair}
 use Rattle.rewrite.specs.Programs.{flat, recordsOf, startsOf, what, knitting}
 use Rattle.rewrite.specs.Rewrite.{rackingZero, swapOf}
-use Rattle.rewrite.specs.Laid.{tiedAt, whole, Whole, Laid, Between, inForceAt, exchanged, part}
+use Rattle.rewrite.specs.Laid.{tiedAt, isRecord, Laid, recordAt, startAt, pairAt, inForceAt, exchanged}
 use Rattle.rewrite.proofs.Extents.{tied-bytes}
-use Rattle.rewrite.proofs.Records.{records-flat}
-use Rattle.rewrite.proofs.Laying.{flat-append, starts-append, starts-length, whole-part, nth, flat-next, Stands, work-length, stands, kind-at, part-at}
+use Rattle.rewrite.proofs.Records.{each-part, records-flat}
+use Rattle.rewrite.proofs.Laying.{flat-append, starts-append, starts-length, start-next, Stands, size-at, bytes-at, work-length, laid-stands}
 use Rattle.rewrite.proofs.Rackings.{force-is}
 
 -- ---- a list with two neighbours, and the same with the two exchanged
@@ -72,10 +75,10 @@ module _ (u : List (List ℕ)) (x y : List ℕ) (v : List (List ℕ)) where
 -- ---- records i and i + 1 of a program that is laid
 module _ (p w : List ℕ) (laid : Laid p w) (i : ℕ) (h : i + 1 < length w) where
   abbrev pub first : List ℕ
-  first = nth p i
+  first = recordAt p i
 
   abbrev pub second : List ℕ
-  second = nth p (i + 1)
+  second = recordAt p (i + 1)
 
   abbrev front : List (List ℕ)
   front = take i (recordsOf p)
@@ -98,93 +101,96 @@ module _ (p w : List ℕ) (laid : Laid p w) (i : ℕ) (h : i + 1 < length w) whe
   front-length : length front ≡ i
   front-length = length-take-le i (recordsOf p) (omega (arith, enough))
 
-  one : Stands p w i
-  one = stands p w laid i (omega arith)
+  one : Stands p i
+  one = laid-stands p w laid i (omega arith)
 
-  two : Stands p w (i + 1)
-  two = stands p w laid (i + 1) h
+  pub two : Stands p (i + 1)
+  two = laid-stands p w laid (i + 1) h
 
-  -- where the second starts and ends
-  second-start : getD w (i + 1) 0 ≡ getD w i 0 + length first
-  second-start = omega (arith, two .start, flat-next p i (omega (arith, enough)), one .start)
+  front-records : Each (λ (x : List ℕ). isRecord x ≡ true) front
+  front-records = each-part (λ (x : List ℕ). isRecord x ≡ true) front (first ∷ second ∷ rest) (subst (Each (λ (x : List ℕ). isRecord x ≡ true)) pair-cut (laid .sound .records)) .0
 
-  pub second-size : (z : ℕ) → z ≡ sizeOf (getD p (getD w (i + 1) 0) 0) → z ≡ length second
-  second-size z e = e ∙ ap sizeOf (kind-at p w (i + 1) two) ∙ sym (two .sized .kind)
+  -- ---- where they stand
+  second-start : startAt p (i + 1) ≡ startAt p i + length first
+  second-start = start-next p i (omega (arith, enough))
 
-  pub second-end : (z : ℕ) → z ≡ sizeOf (getD p (getD w (i + 1) 0) 0) → getD w (i + 1) 0 + z ≡ getD w (i + 1) 0 + length second
-  second-end z e = ap (λ (n : ℕ). getD w (i + 1) 0 + n) (second-size z e)
+  second-end : startAt p (i + 2) ≡ startAt p (i + 1) + length second
+  second-end = let e : i + 2 ≡ i + 1 + 1 = omega arith in ap (startAt p) e ∙ start-next p (i + 1) enough
+
+  -- by the two starts and the second's kind
+  module _ (a b z : ℕ) (at-a : a ≡ startAt p i) (at-b : b ≡ startAt p (i + 1)) (size : z ≡ sizeOf (getD p b 0)) where
+    ends-at : b + z ≡ startAt p (i + 2)
+    ends-at = omega (arith, at-b, size, size-at p (i + 1) two b at-b, second-end)
+
+    pub pair-ends : b + z ≤ length p
+    pair-ends = omega (arith, ends-at, second-end, two .ends)
+
+    pub pair-is : record { first = a; second = b; end = b + z } ≡ pairAt p i
+    pair-is = λ k. record { first = at-a k; second = at-b k; end = ends-at k }
 
   -- in bounds, and short
-  pub record Placed (e : ℕ) : Type 0 where
-    pub first-long : getD w i 0 + 2 ≤ getD w (i + 1) 0
-    pub second-long : getD w (i + 1) 0 + 2 ≤ e
-    pub ends : e ≤ length p
-    pub short : e - getD w i 0 ≤ 12
+  pub record Placed (s : Pair) : Type 0 where
+    pub first-long : s .first + 2 ≤ s .second
+    pub second-long : s .second + 2 ≤ s .end
+    pub ends : s .end ≤ length p
+    pub short : s .end - s .first ≤ 12
 
-  pub placed : Placed (getD w (i + 1) 0 + length second)
-  placed =
-      record {
-        first-long = omega (arith, second-start, one .sized .least);
-        second-long = omega (arith, two .sized .least);
-        ends = two .ends;
-        short = omega (arith, second-start, one .sized .most, two .sized .most);
-      }
+  module _ (s : Pair) (at : s ≡ pairAt p i) where
+    a : s .first ≡ startAt p i
+    a = ap (λ (t : Pair). t .first) at
 
-  front-whole : Whole front
-  front-whole = whole-part front (first ∷ second ∷ rest) (subst Whole pair-cut (laid .sound .whole)) .0
+    b : s .second ≡ startAt p i + length first
+    b = ap (λ (t : Pair). t .second) at ∙ second-start
 
+    e : s .end ≡ startAt p i + length first + length second
+    e = ap (λ (t : Pair). t .end) at ∙ omega (arith, second-end, second-start)
+
+    pub placed : Placed s
+    placed =
+        record {
+          first-long = omega (arith, a, b, one .sized .least);
+          second-long = omega (arith, b, e, two .sized .least);
+          ends = omega (arith, e, second-start, two .ends);
+          short = omega (arith, a, e, one .sized .most, two .sized .most);
+        }
+
+    -- each is a record's bytes
+    pub first-bytes : take (s .second - s .first) (drop (s .first) p) ≡ first
+    first-bytes = bytes-at p i one (s .first) a (s .second) (omega (arith, a, b))
+
+    pub second-bytes : take (s .end - s .second) (drop (s .second) p) ≡ second
+    second-bytes = bytes-at p (i + 1) two (s .second) (b ∙ sym second-start) (s .end) (omega (arith, b, e))
+
+    -- what the two stores leave
+    pub pair-bytes : exchanged p (s .first) (s .second) (s .end) ≡ flat exchangedPair
+    pair-bytes = (λ k. exchanged ((sym (records-flat p) ∙ ap flat pair-cut) k) (a k) (b k) (e k)) ∙ bytes-exchanged front first second rest
+
+    pub pair-starts : set w (i + 1) (s .first + (s .end - s .second)) ≡ startsOf 0 exchangedPair
+    pair-starts =
+        let f : s .first + (s .end - s .second) ≡ startAt p i + length second = omega (arith, a, b, e) in
+        (λ k. set ((laid .starts ∙ ap (startsOf 0) pair-cut) k) (i + 1) (f k)) ∙ starts-exchanged front first second rest (i + 1) (ap (λ (n : ℕ). n + 1) front-length)
+
+  reads : (x : List ℕ) → isRecord x ≡ true → decodeOf x .number ≡ 0
+  reads x w = eqb-true (decodeOf x .number) 0 (and-two (eqb (decodeOf x .number) 0) (eqb (decodeOf x .size) (length x)) w .0)
+
+  pub first-reads : decodeOf first .number ≡ 0
+  first-reads = reads first (one .is-record)
+
+  pub second-reads : decodeOf second .number ≡ 0
+  second-reads = reads second (two .is-record)
+
+  -- ---- the swap
   swap-read : swapOf i (recordsOf p) ≡ swapOf (length front) (front ++ first ∷ second ∷ rest)
   swap-read = λ k. swapOf (sym front-length k) (pair-cut k)
 
-  module _ (e : ℕ) (at : e ≡ getD w (i + 1) 0 + length second) where
-    first-part : part p (getD w i 0) (getD w (i + 1) 0) ≡ first
-    first-part = part-at p w i one (getD w (i + 1) 0) second-start
+  tie-read : tiedAt (inForceAt p i) (what first) (what second) ≡ tied knitting (inForce knitting rackingZero front) first second
+  tie-read = tied-bytes (inForceAt p i) first second ∙ ap (λ (r : Racking). tied knitting r first second) (sym (force-is front front-records))
 
-    second-part : part p (getD w (i + 1) 0) e ≡ second
-    second-part = part-at p w (i + 1) two e at
+  pub pair-tied : tiedAt (inForceAt p i) (what first) (what second) ≡ true → swapOf i (recordsOf p) ≡ is-tied
+  pair-tied t = swap-read ∙ refused-iff-tied knitting rackingZero front first second rest .1 (sym tie-read ∙ t)
 
-    -- what the two stores leave
-    pub pair-bytes : exchanged p (getD w i 0) (getD w (i + 1) 0) e ≡ flat exchangedPair
-    pair-bytes =
-        let a : getD w i 0 ≡ length (flat front) = one .start in
-        let b : getD w (i + 1) 0 ≡ length (flat front) + length first = second-start ∙ ap (λ (n : ℕ). n + length first) a in
-        let c : e ≡ length (flat front) + length first + length second = at ∙ ap (λ (n : ℕ). n + length second) b in
-        (λ k. exchanged ((sym (records-flat p) ∙ ap flat pair-cut) k) (a k) (b k) (c k)) ∙ bytes-exchanged front first second rest
-
-    pub pair-starts : set w (i + 1) (getD w i 0 + (e - getD w (i + 1) 0)) ≡ startsOf 0 exchangedPair
-    pair-starts =
-        let a : getD w i 0 + (e - getD w (i + 1) 0) ≡ length (flat front) + length second = omega (arith, one .start, at) in
-        (λ k. set ((laid .starts ∙ ap (startsOf 0) pair-cut) k) (i + 1) (a k)) ∙ starts-exchanged front first second rest (i + 1) (ap (λ (n : ℕ). n + 1) front-length)
-
-    -- each is a record's bytes
-    reads-whole : (x : List ℕ) → whole x ≡ true → decodeOf x .number ≡ 0
-    reads-whole x w = eqb-true (decodeOf x .number) 0 (and-two (eqb (decodeOf x .number) 0) (eqb (decodeOf x .size) (length x)) w .0)
-
-    pub first-between : Between p (getD w i 0) (getD w (i + 1) 0)
-    first-between =
-        record {
-          order = omega (arith, second-start);
-          within = omega (arith, two .ends);
-          reads = ap (λ (x : List ℕ). decodeOf x .number) first-part ∙ reads-whole first (one .is-whole);
-        }
-
-    pub second-between : Between p (getD w (i + 1) 0) e
-    second-between =
-        record {
-          order = omega arith;
-          within = omega (arith, two .ends);
-          reads = ap (λ (x : List ℕ). decodeOf x .number) second-part ∙ reads-whole second (two .is-whole);
-        }
-
-    -- ---- the swap
-    tie-read : tiedAt (inForceAt p i) (what (part p (getD w i 0) (getD w (i + 1) 0))) (what (part p (getD w (i + 1) 0) e)) ≡ tied knitting (inForce knitting rackingZero front) first second
-    tie-read = tied-bytes (inForceAt p i) _ _ ∙ (λ k. tied knitting (sym (force-is front front-whole) k) (first-part k) (second-part k))
-
-    pub pair-tied : tiedAt (inForceAt p i) (what (part p (getD w i 0) (getD w (i + 1) 0))) (what (part p (getD w (i + 1) 0) e)) ≡ true → swapOf i (recordsOf p) ≡ is-tied
-    pair-tied t = swap-read ∙ refused-iff-tied knitting rackingZero front first second rest .1 (sym tie-read ∙ t)
-
-    pub pair-made : tiedAt (inForceAt p i) (what (part p (getD w i 0) (getD w (i + 1) 0))) (what (part p (getD w (i + 1) 0) e)) ≡ false → swapOf i (recordsOf p) ≡ made exchangedPair
-    pair-made t = swap-read ∙ made-iff-untied knitting rackingZero front first second rest .1 (sym tie-read ∙ t)
+  pub pair-made : tiedAt (inForceAt p i) (what first) (what second) ≡ false → swapOf i (recordsOf p) ≡ made exchangedPair
+  pair-made t = swap-read ∙ made-iff-untied knitting rackingZero front first second rest .1 (sym tie-read ∙ t)
 
 pub pair-none : (p w : List ℕ) → Laid p w → (i : ℕ) → length w ≤ i + 1 → swapOf i (recordsOf p) ≡ no-pair
 pair-none p w laid i h = no-pair-iff-short knitting rackingZero i (recordsOf p) .1 (omega (arith, work-length p w laid, add-one i))

@@ -10,6 +10,7 @@ use lib.ListN.{length, take, drop, getD, set, length-set}
 use lib.Seq.{drop-cons, take-add, getD-set-same, getD-set-other}
 use borrow.Author.Tests.{ne-eqb}
 use Rattle.machine.specs.declared.Racking.{Racking}
+use Rattle.machine.specs.Machine.{Each}
 use Rattle.record.specs.declared.Record.{Record}
 use Rattle.record.specs.Format.{Encodes, byte, signedOf}
 use Rattle.run.proofs.Premises.{is}
@@ -17,8 +18,8 @@ use Rattle.trace.specs.Order.{inForce}
 use Rattle.rewrite.specs.Extents.{isRack, rackingAfter}
 use Rattle.rewrite.specs.Programs.{recordsOf, what, knitting}
 use Rattle.rewrite.specs.Rewrite.{rackingZero}
-use Rattle.rewrite.specs.Laid.{whole, Whole, rackByte, Marked}
-use Rattle.rewrite.proofs.Records.{whole-form}
+use Rattle.rewrite.specs.Laid.{isRecord, rackByte, Marked}
+use Rattle.rewrite.proofs.Records.{record-form}
 
 -- ---- along the records
 -- the byte after one record more
@@ -46,11 +47,12 @@ pub rack-none : (l : List (List ℕ)) → 0 ≡ rackByte 0 (take 0 l)
 unfolding rackByte
 rack-none l = refl
 
--- on from record j, where it is known
-pub rack-on : (l : List (List ℕ)) (j i : ℕ) → j ≤ i → rackByte (rackByte 0 (take j l)) (take (i - j) (drop j l)) ≡ rackByte 0 (take i l)
-rack-on l j i h =
+-- on from record j, where it is r, to record i
+pub rack-on : (l : List (List ℕ)) (j i r b : ℕ) → j ≤ i → r ≡ rackByte 0 (take j l) → b ≡ rackByte r (take (i - j) (drop j l)) → b ≡ rackByte 0 (take i l)
+rack-on l j i r b h f g =
     let e : j + (i - j) ≡ i = omega arith in
-    sym (rack-append 0 (take j l) (take (i - j) (drop j l))) ∙ sym (ap (rackByte 0) (take-add j (i - j) l)) ∙ ap (λ (m : ℕ). rackByte 0 (take m l)) e
+    g ∙ ap (λ (s : ℕ). rackByte s (take (i - j) (drop j l))) f
+    ∙ sym (rack-append 0 (take j l) (take (i - j) (drop j l))) ∙ sym (ap (rackByte 0) (take-add j (i - j) l)) ∙ ap (λ (m : ℕ). rackByte 0 (take m l)) e
 
 -- ---- the byte is the racking
 abbrev pub racked : ℕ → Racking
@@ -70,20 +72,20 @@ form-kind (Encodes.xfer h i j) = refl
 form-kind (Encodes.work a c d e f g h) = refl
 form-kind (Encodes.split c d e f g h) = refl
 
-in-force : (b : ℕ) (u : List (List ℕ)) → Whole u → inForce knitting (racked b) u ≡ racked (rackByte b u)
+in-force : (b : ℕ) (u : List (List ℕ)) → Each (λ (x : List ℕ). isRecord x ≡ true) u → inForce knitting (racked b) u ≡ racked (rackByte b u)
 unfolding rackByte
 in-force b [] w = refl
-in-force b (x ∷ u) (w, v) = ap (λ (r : Racking). inForce knitting r u) (form-rack (whole-form x w) b) ∙ in-force (byteAfter b x) u v
+in-force b (x ∷ u) (w, v) = ap (λ (r : Racking). inForce knitting r u) (form-rack (record-form x w) b) ∙ in-force (byteAfter b x) u v
 
 no-rack : rackingZero ≡ racked 0
 unfolding signedOf
 no-rack = refl
 
-pub force-is : (u : List (List ℕ)) → Whole u → inForce knitting rackingZero u ≡ racked (rackByte 0 u)
+pub force-is : (u : List (List ℕ)) → Each (λ (x : List ℕ). isRecord x ≡ true) u → inForce knitting rackingZero u ≡ racked (rackByte 0 u)
 force-is u w = ap (λ (r : Racking). inForce knitting r u) no-rack ∙ in-force 0 u w
 
-pub kind-is : (x : List ℕ) → whole x ≡ true → eqb (byte x 0) 1 ≡ isRack (what x)
-kind-is x w = form-kind (whole-form x w)
+pub kind-is : (x : List ℕ) → isRecord x ≡ true → eqb (byte x 0) 1 ≡ isRack (what x)
+kind-is x w = form-kind (record-form x w)
 
 -- ---- at every 64th record
 pub record MarkedUpto (p table : List ℕ) (j : ℕ) : Type 0 where
@@ -93,12 +95,12 @@ pub record MarkedUpto (p table : List ℕ) (j : ℕ) : Type 0 where
 pub none-marked : (p table : List ℕ) → length table ≡ 256 → MarkedUpto p table 0
 none-marked p table h = record { long = h; marks = λ k i. absurd (omega arith) }
 
-pub one-more : (p table : List ℕ) (j b : ℕ) → MarkedUpto p table j → j < 256 → b ≡ rackByte 0 (take (j * 64) (recordsOf p)) → MarkedUpto p (set table j b) (j + 1)
-one-more p table j b m h e =
+pub one-more : (p table : List ℕ) (j i b : ℕ) → MarkedUpto p table j → i ≡ j * 64 → i < 16384 → b ≡ rackByte 0 (take i (recordsOf p)) → MarkedUpto p (set table j b) (j + 1)
+one-more p table j i b m at h e =
     record {
       long = length-set table j b ∙ m .long;
-      marks = λ k i. is k j
-          (λ q. ap (λ (n : ℕ). getD (set table j b) n 0) q ∙ getD-set-same table j b 0 (omega (arith, m .long)) ∙ e ∙ ap (λ (n : ℕ). rackByte 0 (take (n * 64) (recordsOf p))) (sym q))
+      marks = λ k less. is k j
+          (λ q. ap (λ (n : ℕ). getD (set table j b) n 0) q ∙ getD-set-same table j b 0 (omega (arith, m .long)) ∙ e ∙ (let f : i ≡ k * 64 = omega arith in ap (λ (n : ℕ). rackByte 0 (take n (recordsOf p))) f))
           (λ d. getD-set-other table j k b 0 d ∙ m .marks k (omega arith));
     }
 

@@ -1,4 +1,4 @@
--- A program as its records end to end: cutting and joining undo each other, and what whole records are. Assumes nothing.
+-- A program as its records end to end: cutting and joining undo each other, and what the bytes of a record are. Assumes nothing.
 use Prim.Native.Nat.{ℕ, zero, suc, _*_, _-_, _≤_}
 use mathlib.Core.Path.{_≡_, refl, sym, ap, subst, _∙_}
 use mathlib.Core.Bool.{true}
@@ -9,6 +9,7 @@ use lib.ListN.{length, take, drop, length-append, length-drop, take-append-drop}
 use lib.Seq.{take-length, take-at, drop-at}
 use borrow.Author.Tests.{eqb-true, eq-eqb, ne-eqb, le-leb}
 use Rattle.machine.specs.declared.State.{State}
+use Rattle.machine.specs.Machine.{Each}
 use Rattle.machine.proofs.Laws.{and-two}
 use Rattle.record.specs.declared.Record.{Record}
 use Rattle.record.specs.declared.Decoded.{Decoded}
@@ -19,7 +20,16 @@ use Rattle.run.specs.Run.{runOf}
 use Rattle.run.proofs.Demand.{accepts}
 use Rattle.rewrite.specs.Programs.{flat, cut, recordsOf, what}
 use Rattle.rewrite.specs.Claims.{RecordsEndToEnd}
-use Rattle.rewrite.specs.Laid.{whole, Whole}
+use Rattle.rewrite.specs.Laid.{isRecord}
+
+-- ---- lists of which each element is such
+pub each-map : {A : Type 0} {P Q : A → Type 0} → ((x : A) → P x → Q x) → (l : List A) → Each P l → Each Q l
+each-map f [] w = tt
+each-map f (x ∷ l) (w, v) = (f x w, each-map f l v)
+
+pub each-part : {A : Type 0} (P : A → Type 0) (u v : List A) → Each P (u ++ v) → Each P u × Each P v
+each-part P [] v w = (tt, w)
+each-part P (x ∷ u) v (a, w) = let (b, c) = each-part P u v w in ((a, b), c)
 
 -- ---- records that are cut and joined again
 flat-cut : (n : ℕ) (p : List ℕ) → length p ≤ n → flat (cut n p) ≡ p
@@ -34,10 +44,10 @@ flat-cut (suc n) (k ∷ p) h =
 pub records-flat : RecordsEndToEnd
 records-flat p = flat-cut (length p) p (omega arith)
 
--- ---- whole records
--- the bytes of a whole record are the form of the record that they encode, and only such are whole
-pub whole-form : (x : List ℕ) → whole x ≡ true → Encodes x (what x)
-whole-form x w =
+-- ---- the bytes of a record
+-- they are the form of the record that they encode, and only such are
+pub record-form : (x : List ℕ) → isRecord x ≡ true → Encodes x (what x)
+record-form x w =
     let (a, b) = and-two (eqb (decodeOf x .number) 0) (eqb (decodeOf x .size) (length x)) w in
     let e = eqb-true (decodeOf x .size) (length x) b in
     subst (λ (y : List ℕ). Encodes y (what x)) (ap (λ (n : ℕ). take n x) e ∙ take-length x) (decode-form x (eqb-true (decodeOf x .number) 0 a))
@@ -45,8 +55,8 @@ whole-form x w =
 form-alone : {x : List ℕ} {r : Record} → Encodes x r → decodeOf x ≡ record { number = 0; size = length x; what = r }
 form-alone {x} form = ap decodeOf (sym (append-nil x)) ∙ form-decode form []
 
-pub form-whole : {x : List ℕ} {r : Record} → Encodes x r → whole x ≡ true
-form-whole {x} form = simp (form-alone form, eq-eqb (length x) (length x) refl)
+pub form-record : {x : List ℕ} {r : Record} → Encodes x r → isRecord x ≡ true
+form-record {x} form = simp (form-alone form, eq-eqb (length x) (length x) refl)
 
 pub form-what : {x : List ℕ} {r : Record} → Encodes x r → what x ≡ r
 form-what form = ap (λ (d : Decoded). d .what) (form-alone form)
@@ -70,15 +80,15 @@ form-size (Encodes.work {kind = k} a b c d e f g) =
     }
 form-size (Encodes.split c d e f g h) = record { least = omega arith; most = omega arith; kind = refl }
 
-pub whole-size : (x : List ℕ) → whole x ≡ true → Sized x
-whole-size x w = form-size (whole-form x w)
+pub record-size : (x : List ℕ) → isRecord x ≡ true → Sized x
+record-size x w = form-size (record-form x w)
 
 -- each has two bytes at least
-pub whole-length : (l : List (List ℕ)) → Whole l → length l * 2 ≤ length (flat l)
-whole-length [] w = omega arith
-whole-length (x ∷ l) (w, v) = omega (arith, whole-size x w .least, whole-length l v, length-append x (flat l))
+pub records-length : (l : List (List ℕ)) → Each (λ (x : List ℕ). isRecord x ≡ true) l → length l * 2 ≤ length (flat l)
+records-length [] w = omega arith
+records-length (x ∷ l) (w, v) = omega (arith, record-size x w .least, records-length l v, length-append x (flat l))
 
--- ---- the records of whole records end to end
+-- ---- the records of records end to end
 cut-enough : (n m : ℕ) (p : List ℕ) → length p ≤ n → length p ≤ m → cut n p ≡ cut m p
 unfolding cut
 cut-enough zero zero p h i = refl
@@ -97,23 +107,23 @@ first-cut k b p e =
     rw (take-at b p (sizeOf k - 1) e, drop-at b p (sizeOf k - 1) e)
     (ap (λ (l : List (List ℕ)). (k ∷ b) ∷ l) (cut-enough (length (b ++ p)) (length p) p (omega (arith, length-append b p)) (omega arith)))
 
-pub records-next : (x p : List ℕ) → whole x ≡ true → recordsOf (x ++ p) ≡ x ∷ recordsOf p
-records-next x p w = go x (whole-size x w)
+pub records-next : (x p : List ℕ) → isRecord x ≡ true → recordsOf (x ++ p) ≡ x ∷ recordsOf p
+records-next x p w = go x (record-size x w)
   where
     go : (x : List ℕ) → Sized x → recordsOf (x ++ p) ≡ x ∷ recordsOf p
     go [] z = absurd (omega (arith, z .least))
     go (k ∷ b) z = first-cut k b p (omega (arith, z .kind))
 
-pub flat-records : (l : List (List ℕ)) → Whole l → recordsOf (flat l) ≡ l
+pub flat-records : (l : List (List ℕ)) → Each (λ (x : List ℕ). isRecord x ≡ true) l → recordsOf (flat l) ≡ l
 unfolding cut
 flat-records [] w = refl
 flat-records (x ∷ l) (w, v) = records-next x (flat l) w ∙ ap (λ (m : List (List ℕ)). x ∷ m) (flat-records l v)
 
--- ---- the records of a program that the run accepts are whole
-pub steps-whole : {s t : State} {p : List ℕ} → Steps s p t → Whole (recordsOf p)
+-- ---- the records of a program that the run accepts
+pub steps-records : {s t : State} {p : List ℕ} → Steps s p t → Each (λ (x : List ℕ). isRecord x ≡ true) (recordsOf p)
 unfolding cut
-steps-whole Steps.none = tt
-steps-whole (Steps.next {bytes = bytes} {rest = rest} form step more) = rw (records-next bytes rest (form-whole form)) (form-whole form, steps-whole more)
+steps-records Steps.none = tt
+steps-records (Steps.next {bytes = bytes} {rest = rest} form step more) = rw (records-next bytes rest (form-record form)) (form-record form, steps-records more)
 
-pub accepted-whole : (p : List ℕ) → runOf p .number ≡ 0 → Whole (recordsOf p)
-accepted-whole p e = let (t, v) = accepts p .0 e in steps-whole (v .steps)
+pub accepted-records : (p : List ℕ) → runOf p .number ≡ 0 → Each (λ (x : List ℕ). isRecord x ≡ true) (recordsOf p)
+accepted-records p e = let (t, v) = accepts p .0 e in steps-records (v .steps)

@@ -9,18 +9,19 @@ use native.Mathlib.Nat.{lt-of-not-le}
 use lib.Dec.{eqb}
 use lib.ListN.{length, length-append}
 use borrow.Author.Tests.{eqb-true}
+use Rattle.machine.specs.Machine.{Each}
 use Rattle.trace.specs.Records.{Records}
 use Rattle.trace.specs.Swaps.{Outcome, no-pair, is-tied, made, swapAt, Swaps, no-swap, swap-first}
 use Rattle.trace.proofs.Swaps.{Made, made-is, short-no-pair}
 use Rattle.rewrite.specs.Programs.{flat, knitting}
-use Rattle.rewrite.specs.Rewrite.{rackingZero, swapOf, Replay, ended, onOutcome, replay, writes}
-use Rattle.rewrite.specs.Laid.{Whole}
+use Rattle.rewrite.specs.Rewrite.{rackingZero, swapOf, Replay, ended, onOutcome, replayFrom, replay, writes}
+use Rattle.rewrite.specs.Laid.{isRecord}
 
--- ---- a swap moves whole records and changes none
+-- ---- a swap moves records and changes none
 pub record Moved (l m : List (List ℕ)) : Type 0 where
   pub records : length m ≡ length l
   pub bytes : length (flat m) ≡ length (flat l)
-  pub whole : Whole l → Whole m
+  pub each : Each (λ (x : List ℕ). isRecord x ≡ true) l → Each (λ (x : List ℕ). isRecord x ≡ true) m
 
 -- two neighbours change places
 neighbours : (x y : List ℕ) (l : List (List ℕ)) → Moved (x ∷ y ∷ l) (y ∷ x ∷ l)
@@ -28,7 +29,7 @@ neighbours x y l =
     record {
       records = refl;
       bytes = omega (arith, length-append x (y ++ flat l), length-append y (flat l), length-append y (x ++ flat l), length-append x (flat l));
-      whole = λ (a, (b, c)). (b, (a, c));
+      each = λ (a, (b, c)). (b, (a, c));
     }
 
 -- and behind a record that stays
@@ -37,7 +38,7 @@ stays x {l} {m} s =
     record {
       records = ap suc (s .records);
       bytes = omega (arith, s .bytes, length-append x (flat l), length-append x (flat m));
-      whole = λ (a, b). (a, s .whole b);
+      each = λ (a, b). (a, s .each b);
     }
 
 module _ {R : Type 0} (K : Records (List ℕ) R) where
@@ -46,11 +47,11 @@ module _ {R : Type 0} (K : Records (List ℕ) R) where
   made-moved (Made.there {x = x} s) = stays x (made-moved s)
 
   pub swaps-moved : {r : R} {is : List ℕ} {l m : List (List ℕ)} → Swaps K r is l m → Moved l m
-  swaps-moved no-swap = record { records = refl; bytes = refl; whole = λ w. w }
+  swaps-moved no-swap = record { records = refl; bytes = refl; each = λ w. w }
   swaps-moved {r} (swap-first {i} {is} {l} {m} {n} e t) =
       let a = made-moved (made-is K l m r i e) in
       let b = swaps-moved t in
-      record { records = b .records ∙ a .records; bytes = b .bytes ∙ a .bytes; whole = λ w. b .whole (a .whole w) }
+      record { records = b .records ∙ a .records; bytes = b .bytes ∙ a .bytes; each = λ w. b .each (a .each w) }
 
   -- a swap that is made has its two records
   pub made-pair : (l m : List (List ℕ)) (r : R) (i : ℕ) → swapAt K r i l ≡ made m → suc i < length l
@@ -58,11 +59,11 @@ module _ {R : Type 0} (K : Records (List ℕ) R) where
 
 -- ---- one log record: its swap is made, or the two are tied
 pub replay-made : (high low : ℕ) (log : List ℕ) (at : ℕ) (l m : List (List ℕ)) → swapOf (high * 256 + low) l ≡ made m → replay (64 ∷ high ∷ low ∷ log) at l ≡ replay log (at + 3) m
-unfolding replay
+unfolding replayFrom
 replay-made high low log at l m e = rw e
 
 pub replay-tied : (high low : ℕ) (log : List ℕ) (at : ℕ) (l : List (List ℕ)) → swapOf (high * 256 + low) l ≡ is-tied → replay (64 ∷ high ∷ low ∷ log) at l ≡ ended 13 at l
-unfolding replay
+unfolding replayFrom
 replay-tied high low log at l e = rw e
 
 -- ---- every replay goes through its log or stops at a log record with 12, 13 or 14
@@ -72,7 +73,7 @@ data Replayed : List ℕ → ℕ → List (List ℕ) → Replay → Type 0 where
   next : {high low at : ℕ} {log : List ℕ} {l m : List (List ℕ)} {r : Replay} → swapOf (high * 256 + low) l ≡ made m → Replayed log (at + 3) m r → Replayed (64 ∷ high ∷ low ∷ log) at l r
 
 replayed : (log : List ℕ) (at : ℕ) (l : List (List ℕ)) → Replayed log at l (replay log at l)
-unfolding replay writes
+unfolding replayFrom writes
 replayed [] at l = Replayed.through
 replayed (k ∷ []) at l = Replayed.stopped 14 (omega arith) refl
 replayed (k ∷ high ∷ []) at l = Replayed.stopped 14 (omega arith) refl

@@ -19,7 +19,7 @@ use Rattle.rewrite.specs.Programs.{flat, recordsOf, startsOf}
 use Rattle.rewrite.specs.Rewrite.{replay, lentNo, Rewritten, refused, written, rewriteOf}
 use Rattle.rewrite.specs.Exact.{Enough}
 use Rattle.rewrite.specs.Laid.{Sound, Laid, Marked}
-use Rattle.rewrite.proofs.Records.{accepted-whole, records-flat}
+use Rattle.rewrite.proofs.Records.{accepted-records, records-flat}
 use Rattle.rewrite.proofs.Laying.{starts-length}
 use Rattle.rewrite.proofs.Replays.{replay-moved, replay-within}
 
@@ -64,7 +64,7 @@ enough program log output work e =
 
 -- ---- the parts that are lent on
 pub sound-run : (p : List ℕ) → length p ≤ 32768 → runOf p .number ≡ 0 → Sound p
-sound-run p h e = record { whole = accepted-whole p e; short = h }
+sound-run p h e = record { records = accepted-records p e; short = h }
 
 -- the output after the copy
 module _ (p output o : List ℕ) (h : length p ≤ length output) (copied : o ≡ take (length p) p ++ drop (length p) output) where

@@ -4,14 +4,14 @@ use mathlib.Core.Path.{_≡_}
 use mathlib.Core.Bool.{cond}
 use mathlib.Core.List.{List, [], _∷_}
 use lib.ListN.{length, take}
+use Rattle.machine.specs.Machine.{Each}
 use Rattle.rewrite.specs.Programs.{recordsOf}
 use Rattle.rewrite.specs.Rewrite.{writes, Rewritten, rewriteOf}
 use Rattle.rewrite.specs.Exact.{Swapped}
 
 -- every element is below n
 abbrev pub Below : ℕ → List ℕ → Type 0
-Below n [] = Unit {0}
-Below n (x ∷ l) = (x < n) × Below n l
+Below n l = Each (λ (x : ℕ). x < n) l
 
 -- 'each call is lent any log, output and work area', of bytes and of 16-bit offsets
 pub record Call : Type 0 where
@@ -26,12 +26,12 @@ pub record Call : Type 0 where
 abbrev pub callOf : List ℕ → Call → Rewritten
 callOf p c = rewriteOf p (c .log) (c .output) (c .work)
 
-abbrev pub numberOf : List ℕ → Call → ℕ
-numberOf p c = callOf p c .answer .number
+abbrev pub callNumber : List ℕ → Call → ℕ
+callNumber p c = callOf p c .answer .number
 
 -- the next call's program: 'the one at the front of the output that the last call wrote'; 'after a number that writes nothing it is the same program again'
 abbrev pub handedOn : List ℕ → Call → List ℕ
-handedOn p c = cond (writes (numberOf p c)) (take (length p) (callOf p c .output)) p
+handedOn p c = cond (writes (callNumber p c)) (take (length p) (callOf p c .output)) p
 
 -- the program after a list of calls; a call more or less is another list, so that what is said of every list is said after every call
 abbrev pub after : List ℕ → List Call → List ℕ
@@ -40,7 +40,7 @@ after p (c ∷ cs) = after (handedOn p c) cs
 
 -- a call that answers 0, its log accepted swaps alone
 pub record Accepted (p : List ℕ) (c : Call) : Type 0 where
-  pub done : numberOf p c ≡ 0
+  pub done : callNumber p c ≡ 0
   pub swaps : Swapped (c .log) (recordsOf p) (recordsOf (handedOn p c))
 
 -- and a list of such calls

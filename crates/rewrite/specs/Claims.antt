@@ -1,5 +1,5 @@
 -- Demand 3, over the rewriter's own definition. The code's `rewrite` equals rewriteOf by its contract.
-use Prim.Native.Nat.{ℕ, _+_, _*_, _≤_, _<_}
+use Prim.Native.Nat.{ℕ, _+_, _≤_, _<_}
 use mathlib.Core.Path.{_≡_}
 use mathlib.Core.Bool.{true}
 use mathlib.Core.List.{List, [], _∷_, _++_}
@@ -8,16 +8,17 @@ use lib.ListN.{length, take}
 use Rattle.machine.specs.declared.Needle.{Needle}
 use Rattle.machine.specs.declared.Racking.{Racking}
 use Rattle.machine.specs.declared.State.{State}
+use Rattle.machine.specs.Machine.{Each}
 use Rattle.record.specs.declared.Record.{Record}
 use Rattle.record.specs.Format.{Encodes}
 use Rattle.run.specs.Relation.{Valid}
 use Rattle.trace.specs.Records.{tied}
 use Rattle.trace.specs.Lists.{Nth}
 use Rattle.trace.specs.Order.{SameRecords, tiedIn, SameOrder}
-use Rattle.rewrite.specs.Programs.{flat, recordsOf, what, sameBytes, knitting, needle, carrier, names, historyOf}
+use Rattle.rewrite.specs.Programs.{flat, recordsOf, logRecordSize, swapKind, positionOf, what, sameBytes, knitting, needle, carrier, names, historyOf}
 use Rattle.rewrite.specs.Rewrite.{rackingZero, ended, replay, written, rewriteOf}
 use Rattle.rewrite.specs.Exact.{Lent, RecordsAre, Tied, TiedBehind, Swapped}
-use Rattle.rewrite.specs.Calls.{Below, Call, callOf, numberOf, after, AllAccepted}
+use Rattle.rewrite.specs.Calls.{Below, Call, callOf, callNumber, after, AllAccepted}
 
 -- ---- the definitions in 01's words
 -- a program is its records 'end to end', whatever its bytes
@@ -25,12 +26,8 @@ abbrev pub RecordsEndToEnd : Type 0
 RecordsEndToEnd = (p : List ℕ) → flat (recordsOf p) ≡ p
 
 -- those of a valid program are 'whole, of known kinds and with fields in range'
-abbrev pub EachEncodes : List (List ℕ) → Type 0
-EachEncodes [] = Unit {0}
-EachEncodes (x ∷ l) = Encodes x (what x) × EachEncodes l
-
 abbrev pub RecordsEncode : Type 0
-RecordsEncode = (p : List ℕ) (t : State) → Valid p t → EachEncodes (recordsOf p)
+RecordsEncode = (p : List ℕ) (t : State) → Valid p t → Each (λ (x : List ℕ). Encodes x (what x)) (recordsOf p)
 
 -- the test for ties that the swaps of crate trace go by is the words of Exact.antt
 abbrev pub TiedExactly : Type 0
@@ -107,17 +104,17 @@ pub record ComesTo (p : List ℕ) (c : Call) (front : List ℕ) (u : List (List 
   pub before : Swapped front (recordsOf p) (u ++ x ∷ y ∷ v)
   pub high : ℕ
   pub low : ℕ
-  pub log : c .log ≡ front ++ 64 ∷ high ∷ low ∷ rest
-  pub position : length u ≡ high * 256 + low
+  pub log : c .log ≡ front ++ swapKind ∷ high ∷ low ∷ rest
+  pub position : length u ≡ positionOf high low
 
 -- it is made if the two are not tied: the call goes on behind it with the two exchanged; else it gets 13, and nothing more is made.
 -- The call answers 13 at this log record's place exactly if they are tied; 13 at a later place is another swap's.
 pub record SwapExactly (p : List ℕ) (c : Call) (place : ℕ) (u : List (List ℕ)) (x y : List ℕ) (v : List (List ℕ)) (rest : List ℕ) : Type 0 where
   pub made : (TiedBehind u x y → ⊥)
-      → callOf p c ≡ written p (replay rest (place + 3) (u ++ y ∷ x ∷ v)) (c .output) (c .work)
+      → callOf p c ≡ written p (replay rest (place + logRecordSize) (u ++ y ∷ x ∷ v)) (c .output) (c .work)
   pub refused : TiedBehind u x y
       → callOf p c ≡ written p (ended 13 place (u ++ x ∷ y ∷ v)) (c .output) (c .work)
-  pub thirteen : ((numberOf p c ≡ 13) × (callOf p c .answer .place ≡ place)) ↔ TiedBehind u x y
+  pub thirteen : ((callNumber p c ≡ 13) × (callOf p c .answer .place ≡ place)) ↔ TiedBehind u x y
 
 -- ---- the program that is handed on: 'the one at the front of the output that the last call wrote'; 'after a number that writes nothing it is the same program again'
 abbrev pub FrontHandedOn : Type 0

@@ -1,6 +1,6 @@
 -- The rewriter in one statement, in the words of document 01 ('Extents and ties', 'Calls', the table): each way in which a call ends, with number,
 -- place, state, complete, every byte of output and every entry of work.
-use Prim.Native.Nat.{ℕ, _+_, _*_, _/_, _≤_, _<_}
+use Prim.Native.Nat.{ℕ, _+_, _/_, _≤_, _<_}
 use mathlib.Core.Path.{_≡_}
 use mathlib.Core.Bool.{Bool, true}
 use mathlib.Core.List.{List, [], _∷_, _++_}
@@ -16,7 +16,7 @@ use Rattle.run.specs.Relation.{Valid}
 use Rattle.run.specs.Claims.{FirstRefusal, Complete}
 use Rattle.trace.specs.Order.{inForce}
 use Rattle.rewrite.specs.Extents.{extentOf, Share}
-use Rattle.rewrite.specs.Programs.{flat, startsOf, what, knitting, carrier, names}
+use Rattle.rewrite.specs.Programs.{flat, startsOf, logRecordSize, swapKind, positionOf, what, knitting, carrier, names}
 use Rattle.rewrite.specs.Rewrite.{rackingZero, Rewritten, refused, rewriteOf}
 
 -- ---- what is lent, by the lengths of program, log, output and work area
@@ -64,13 +64,13 @@ pub record Neighbours (l : List (List ℕ)) (i : ℕ) (u : List (List ℕ)) (x y
 -- a log that makes all its swaps, in order: 40, 'then a position in two bytes, high first. Position i swaps records i and i + 1', which are not tied
 pub data Swapped : List ℕ → List (List ℕ) → List (List ℕ) → Type 0 where
   none : {l : List (List ℕ)} → Swapped [] l l
-  swap : {high low : ℕ} {log : List ℕ} {l m u v : List (List ℕ)} {x y : List ℕ} → Neighbours l (high * 256 + low) u x y v → (TiedBehind u x y → ⊥) → Swapped log (u ++ y ∷ x ∷ v) m
-      → Swapped (64 ∷ high ∷ low ∷ log) l m
+  swap : {high low : ℕ} {log : List ℕ} {l m u v : List (List ℕ)} {x y : List ℕ} → Neighbours l (positionOf high low) u x y v → (TiedBehind u x y → ⊥) → Swapped log (u ++ y ∷ x ∷ v) m
+      → Swapped (swapKind ∷ high ∷ low ∷ log) l m
 
 -- 14, 'log kind not 40, or fewer than three bytes'
 pub data Torn (rest : List ℕ) : Type 0 where
-  other-kind : {k : ℕ} {more : List ℕ} → rest ≡ k ∷ more → (k ≡ 64 → ⊥) → Torn rest
-  few-bytes : 0 < length rest → length rest < 3 → Torn rest
+  other-kind : {k : ℕ} {more : List ℕ} → rest ≡ k ∷ more → (k ≡ swapKind → ⊥) → Torn rest
+  few-bytes : 0 < length rest → length rest < logRecordSize → Torn rest
 
 module _ (program log output work : List ℕ) where
   -- what is lent is too long, is too short, or will do
@@ -116,11 +116,11 @@ module _ (program log output work : List ℕ) where
     gone-through : {t : State} {c : Bool} {front : List ℕ} {m : List (List ℕ)} → Followed t c front [] m → Rewrites (leaving 0 0 t c m)
     torn : {t : State} {c : Bool} {front rest : List ℕ} {m : List (List ℕ)} → Followed t c front rest m → Torn rest → Rewrites (leaving 14 (length front) t c m)
     -- 12, 'position + 1 is not a record'
-    no-pair : {t : State} {c : Bool} {front rest : List ℕ} {high low : ℕ} {m : List (List ℕ)} → Followed t c front (64 ∷ high ∷ low ∷ rest) m
-        → length m ≤ high * 256 + low + 1 → Rewrites (leaving 12 (length front) t c m)
+    no-pair : {t : State} {c : Bool} {front rest : List ℕ} {high low : ℕ} {m : List (List ℕ)} → Followed t c front (swapKind ∷ high ∷ low ∷ rest) m
+        → length m ≤ positionOf high low + 1 → Rewrites (leaving 12 (length front) t c m)
     -- 13, 'the pair is tied'
-    pair-tied : {t : State} {c : Bool} {front rest : List ℕ} {high low : ℕ} {m u v : List (List ℕ)} {x y : List ℕ} → Followed t c front (64 ∷ high ∷ low ∷ rest) m
-        → Neighbours m (high * 256 + low) u x y v → TiedBehind u x y → Rewrites (leaving 13 (length front) t c m)
+    pair-tied : {t : State} {c : Bool} {front rest : List ℕ} {high low : ℕ} {m u v : List (List ℕ)} {x y : List ℕ} → Followed t c front (swapKind ∷ high ∷ low ∷ rest) m
+        → Neighbours m (positionOf high low) u x y v → TiedBehind u x y → Rewrites (leaving 13 (length front) t c m)
 
 -- a call gives and leaves this, and nothing else
 abbrev pub RewriteExactly : Type 0

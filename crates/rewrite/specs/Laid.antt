@@ -1,5 +1,5 @@
 -- How a program is laid in the lent areas between swaps: what the rewriter's private functions ask and promise. No part of the claims.
-use Prim.Native.Nat.{ℕ, _-_, _*_, _≤_, _<_}
+use Prim.Native.Nat.{ℕ, _+_, _-_, _*_, _≤_, _<_}
 use mathlib.Core.Path.{_≡_}
 use mathlib.Core.Bool.{Bool, true, cond, _&&_, _||_}
 use mathlib.Core.List.{List, [], _∷_, _++_}
@@ -8,11 +8,16 @@ use lib.Dec.{eqb, ltb}
 use lib.ListN.{length, take, drop, getD}
 use Rattle.machine.specs.declared.Column.{Column}
 use Rattle.machine.specs.declared.Racking.{Racking}
+use Rattle.machine.specs.Machine.{Each}
 use Rattle.record.specs.declared.Record.{Record}
 use Rattle.record.specs.Format.{byte, signedOf, decodeOf}
 use Rattle.trace.specs.Swaps.{Outcome, no-pair, is-tied, made}
 use Rattle.rewrite.specs.Extents.{extentOf, meets, shareCarrier, isRack}
-use Rattle.rewrite.specs.Programs.{recordsOf, startsOf}
+use Rattle.rewrite.specs.declared.Pair.{Pair}
+use Rattle.rewrite.specs.declared.LogRecord.{LogRecord}
+use Rattle.rewrite.specs.declared.LogRecord.the-variants.{Torn, Swap}
+use Rattle.rewrite.specs.Programs.{flat, recordsOf, startsOf}
+use Rattle.rewrite.specs.Rewrite.{swapOf}
 
 -- a tie in two parts: whatever the racking, and by extents at a racking; of their bytes it is crate trace's `tied` over `knitting`
 unfoldable pub boundTo : Record → Record → Bool
@@ -26,16 +31,12 @@ unfoldable pub farApart : Column → Column → Bool
 farApart a b = ltb 1 (natAbs (a .0 -ℤ b .0))
 
 -- a record's bytes and no more: known kind, fields in range
-abbrev pub whole : List ℕ → Bool
-whole x = eqb (decodeOf x .number) 0 && eqb (decodeOf x .size) (length x)
+abbrev pub isRecord : List ℕ → Bool
+isRecord x = eqb (decodeOf x .number) 0 && eqb (decodeOf x .size) (length x)
 
-abbrev pub Whole : List (List ℕ) → Type 0
-Whole [] = Unit {0}
-Whole (x ∷ l) = (whole x ≡ true) × Whole l
-
--- a short program of whole records
+-- a short program of records
 pub record Sound (program : List ℕ) : Type 0 where
-  pub whole : Whole (recordsOf program)
+  pub records : Each (λ (x : List ℕ). isRecord x ≡ true) (recordsOf program)
   pub short : length program ≤ 32768
 
 -- the racking in force after records, as the byte that a rack gave it
@@ -53,19 +54,20 @@ pub record Marked (program table : List ℕ) : Type 0 where
   pub long : length table ≡ 256
   pub marks : (j : ℕ) → j * 64 < length (recordsOf program) → getD table j 0 ≡ rackByte 0 (take (j * 64) (recordsOf program))
 
--- what lies from a to b
-abbrev pub part : List ℕ → ℕ → ℕ → List ℕ
-part o a b = take (b - a) (drop a o)
+-- record i of a program, and where it starts
+abbrev pub recordAt : List ℕ → ℕ → List ℕ
+recordAt program i = getD (recordsOf program) i []
+
+abbrev pub startAt : List ℕ → ℕ → ℕ
+startAt program i = length (flat (take i (recordsOf program)))
+
+-- where records i and i + 1 stand
+abbrev pub pairAt : List ℕ → ℕ → Pair
+pairAt program i = record { first = startAt program i; second = startAt program (i + 1); end = startAt program (i + 2) }
 
 -- the racking in force at record i
 abbrev pub inForceAt : List ℕ → ℕ → Racking
 inForceAt program i = record { 0 = signedOf (rackByte 0 (take i (recordsOf program))) }
-
--- a record's bytes lie from a to b
-pub record Between (program : List ℕ) (a b : ℕ) : Type 0 where
-  pub order : a ≤ b
-  pub within : b ≤ length program
-  pub reads : decodeOf (part program a b) .number ≡ 0
 
 -- what a swap answers and leaves
 unfoldable pub swapNo : Outcome (List ℕ) → ℕ
@@ -77,6 +79,19 @@ unfoldable pub leftBy : Outcome (List ℕ) → List (List ℕ) → List (List �
 leftBy no-pair l = l
 leftBy is-tied l = l
 leftBy (made m) l = m
+
+-- what a log record answers and leaves; its position is one of two bytes
+abbrev pub InTwoBytes : LogRecord → Type 0
+InTwoBytes Torn = Unit {0}
+InTwoBytes (Swap i) = i < 65536
+
+unfoldable pub followNo : LogRecord → List (List ℕ) → ℕ
+followNo Torn l = 14
+followNo (Swap i) l = swapNo (swapOf i l)
+
+unfoldable pub leftAfter : LogRecord → List (List ℕ) → List (List ℕ)
+leftAfter Torn l = l
+leftAfter (Swap i) l = leftBy (swapOf i l) l
 
 -- the records from a to b and from b to e change places
 unfoldable pub exchanged : List ℕ → ℕ → ℕ → ℕ → List ℕ

@@ -1,5 +1,5 @@
--- A program as a list of records, each by its bytes, and the theory of swaps (crate trace) over them.
-use Prim.Native.Nat.{ℕ, zero, suc, _+_, _-_}
+-- A program as a list of records, each by its bytes, the form of a log's, and the theory of swaps (crate trace) over them.
+use Prim.Native.Nat.{ℕ, zero, suc, _+_, _-_, _*_}
 use mathlib.Core.Bool.{Bool, true, false, _&&_, _||_}
 use mathlib.Core.List.{List, [], _∷_, _++_}
 use lib.Dec.{eqb}
@@ -33,6 +33,16 @@ recordsOf p = cut (length p) p
 unfoldable pub startsOf : ℕ → List (List ℕ) → List ℕ
 startsOf at [] = []
 startsOf at (x ∷ l) = at ∷ startsOf (at + length x) l
+
+-- 'The log is three-byte records: 40, then a position in two bytes, high first', 40 hexadecimal
+abbrev pub logRecordSize : ℕ
+logRecordSize = 3
+
+abbrev pub swapKind : ℕ
+swapKind = 64
+
+abbrev pub positionOf : ℕ → ℕ → ℕ
+positionOf high low = high * 256 + low
 
 -- the record that bytes encode
 abbrev pub what : List ℕ → Record

@@ -1,5 +1,5 @@
 -- The rewriter as a definition that computes (document 01, 'Calls'), which its contract cites: answer, output and work area, for every program, log and loan.
-use Prim.Native.Nat.{ℕ, _+_, _*_, _/_}
+use Prim.Native.Nat.{ℕ, zero, suc, _+_, _-_, _/_}
 use mathlib.Core.Bool.{Bool, cond, _||_}
 use mathlib.Core.List.{List, [], _∷_, _++_}
 use lib.Dec.{eqb, ltb}
@@ -10,7 +10,9 @@ use Rattle.machine.specs.Machine.{emptyState}
 use Rattle.run.specs.declared.Answer.{Answer}
 use Rattle.run.specs.Run.{reached, answerOf, runOf}
 use Rattle.trace.specs.Swaps.{Outcome, no-pair, is-tied, made, swapAt}
-use Rattle.rewrite.specs.Programs.{flat, recordsOf, startsOf, knitting}
+use Rattle.rewrite.specs.declared.LogRecord.{LogRecord}
+use Rattle.rewrite.specs.declared.LogRecord.the-variants.{Torn, Swap}
+use Rattle.rewrite.specs.Programs.{flat, recordsOf, startsOf, logRecordSize, swapKind, positionOf, knitting}
 
 -- racking 0, where every program starts
 abbrev pub rackingZero : Racking
@@ -35,12 +37,26 @@ onOutcome no-pair at l more = ended 12 at l
 onOutcome is-tied at l more = ended 13 at l
 onOutcome (made m) at l more = more m
 
--- 'makes the swaps in order': a log that stands at a place, three bytes a record, 40 hexadecimal and a position high byte first; else 14 (torn log)
-unfoldable pub replay : List ℕ → ℕ → List (List ℕ) → Replay
-replay [] at l = ended 0 0 l
-replay (k ∷ []) at l = ended 14 at l
-replay (k ∷ high ∷ []) at l = ended 14 at l
-replay (k ∷ high ∷ low ∷ log) at l = cond (eqb k 64) (onOutcome (swapOf (high * 256 + low) l) at l (λ m. replay log (at + 3) m)) (ended 14 at l)
+-- the log record that bytes begin with; another kind, or fewer than three bytes, is torn
+abbrev pub logRecordOf : List ℕ → LogRecord
+logRecordOf [] = Torn
+logRecordOf (k ∷ []) = Torn
+logRecordOf (k ∷ high ∷ []) = Torn
+logRecordOf (k ∷ high ∷ low ∷ rest) = cond (eqb k swapKind) (Swap (positionOf high low)) Torn
+
+-- 14 (torn log), or what its swap does
+abbrev pub onRecord : LogRecord → ℕ → List (List ℕ) → (List (List ℕ) → Replay) → Replay
+onRecord Torn at l more = ended 14 at l
+onRecord (Swap i) at l more = onOutcome (swapOf i l) at l more
+
+-- 'makes the swaps in order': a log that stands at a place, of which the first bytes are skipped that a log record before has read
+unfoldable pub replayFrom : ℕ → List ℕ → ℕ → List (List ℕ) → Replay
+replayFrom skip [] at l = ended 0 0 l
+replayFrom zero (k ∷ log) at l = onRecord (logRecordOf (k ∷ log)) at l (λ m. replayFrom (logRecordSize - 1) log (at + logRecordSize) m)
+replayFrom (suc skip) (k ∷ log) at l = replayFrom skip log at l
+
+abbrev pub replay : List ℕ → ℕ → List (List ℕ) → Replay
+replay log at l = replayFrom 0 log at l
 
 -- 1 (too long), 2 (01: no bench), or 0, by the lengths of program, log, output and work area
 unfoldable pub lentNo : ℕ → ℕ → ℕ → ℕ → ℕ

@@ -1,12 +1,12 @@
 // The rewriter: extents and ties, starts, and swaps made in the lent output only where the rule lets them.
 ghost use mathlib.Core.Path.{_≡_};
-ghost use mathlib.Core.List.{_++_};
-ghost use Prim.Native.Nat.{_+_, _-_, _*_, _/_, _≤_, _<_};
-ghost use lib.ListN.{length, take, drop, getD};
+ghost use mathlib.Core.List.{List, _++_};
+ghost use Prim.Native.Nat.{ℕ, _+_, _-_, _*_, _/_, _≤_, _<_};
+ghost use lib.ListN.{length, take, drop};
 ghost use Rattle.rewrite.specs.Extents.{halfColumn, layerOf, narrow, broad, formExtent, extentOf, meets, shareCarrier};
 ghost use Rattle.rewrite.specs.Programs.{flat, recordsOf, startsOf, what};
-ghost use Rattle.rewrite.specs.Rewrite.{swapOf, replay, lentNo, writes, rewriteOf};
-ghost use Rattle.rewrite.specs.Laid.{boundTo, tiedAt, farApart, Sound, Laid, Marked, Between, rackByte, inForceAt, swapNo, leftBy, exchanged, part};
+ghost use Rattle.rewrite.specs.Rewrite.{swapOf, logRecordOf, replay, lentNo, writes, rewriteOf};
+ghost use Rattle.rewrite.specs.Laid.{boundTo, tiedAt, farApart, Sound, Laid, Marked, recordAt, startAt, pairAt, rackByte, inForceAt, swapNo, leftBy, InTwoBytes, followNo, leftAfter, exchanged};
 use machine::Column;
 use machine::Needle;
 use machine::Racking;
@@ -23,6 +23,19 @@ pub struct Extent {
     pub high: u8,
 }
 
+// Where two neighbours stand: the one from first to second, the other from there to end.
+struct Pair {
+    first: usize,
+    second: usize,
+    end: usize,
+}
+
+// A record of a log: not one, or a swap of records i and i + 1.
+enum LogRecord {
+    Torn,
+    Swap(usize),
+}
+
 // The numbers of refusals, besides those of the run; 01's word for 2 is no bench.
 pub const NO_PAIR: u8 = 12;
 
@@ -33,10 +46,10 @@ pub const TORN_LOG: u8 = 14;
 // The layer of the back bed; the front bed's is 0, carriers lie between.
 pub const BACK: u8 = 11;
 
-// A log: its kind, the length of its records, and its bytes at most.
+// A log: the kind of its swaps, the length of its records, and its bytes at most.
 pub const SWAP: u8 = 64;
 
-pub const SWAP_SIZE: usize = 3;
+pub const LOG_RECORD: usize = 3;
 
 pub const LOG_MOST: usize = 32768;
 
@@ -182,12 +195,15 @@ fn meet(x: Record, y: Record, r: Racking) -> bool
     e.meets(extent_of(y, r))
 }
 
-// Whether records i and i + 1 of the output, from a to b and from b to e, are tied. The racking in force is looked for
-// only where it matters.
-fn tied(output: &[u8], work: &[u16], table: &[u8], i: usize, a: usize, b: usize, e: usize) -> bool
-    requires { ⌜ (Laid (now output) (now work)) × (Marked (now output) (now table)) × (i < length (now work)) × (Between (now output) a b) × (Between (now output) b e) ⌝ }
-    ensures { λ t. ⌜ t ≡ tiedAt (inForceAt (now (output .entry)) i) (what (part (now (output .entry)) a b)) (what (part (now (output .entry)) b e)) ⌝ }
+// Whether records i and i + 1 of the output, which stand there, are tied. The racking in force is looked for only where
+// it matters.
+fn tied(output: &[u8], work: &[u16], table: &[u8], i: usize, there: Pair) -> bool
+    requires { ⌜ (Laid (now output) (now work)) × (Marked (now output) (now table)) × (i + 1 < length (now work)) × (there ≡ pairAt (now output) i) ⌝ }
+    ensures { λ t. ⌜ t ≡ tiedAt (inForceAt (now (output .entry)) i) (what (recordAt (now (output .entry)) i)) (what (recordAt (now (output .entry)) (i + 1))) ⌝ }
 {
+    let a = there.first;
+    let b = there.second;
+    let e = there.end;
     let x = record::outline(&output[a..b]);
     let y = record::outline(&output[b..e]);
     if bound(x, y) {
@@ -253,6 +269,25 @@ fn starts(program: &[u8], work: &mut [u16]) -> usize
     n
 }
 
+// Where record i starts in the program whose starts these are. All starts are read here.
+fn start(work: &[u16], i: usize) -> usize
+    requires { ⌜ i < length (now work) ⌝ }
+    ensures { λ a. ⌜ ((program : List ℕ) → Laid program (now (work .entry)) → a ≡ startAt program i) ⌝ }
+{
+    work[i] as usize
+}
+
+// Where records i and i + 1 stand.
+fn pair_at(program: &[u8], work: &[u16], i: usize) -> Pair
+    requires { ⌜ (Laid (now program) (now work)) × (i + 1 < length (now work)) ⌝ }
+    ensures { λ s. ⌜ s ≡ pairAt (now (program .entry)) i ⌝ }
+{
+    let first = start(work, i);
+    let second = start(work, i + 1);
+    let end = second + record::size_of(program[second]);
+    Pair { first, second, end }
+}
+
 // The racking byte after the records from i to n, where it was r before them.
 fn racking_after(program: &[u8], work: &[u16], i: usize, n: usize, r: u8) -> u8
     requires { ⌜ (Laid (now program) (now work)) × (i ≤ n) × (n ≤ length (now work)) ⌝ }
@@ -261,7 +296,7 @@ fn racking_after(program: &[u8], work: &[u16], i: usize, n: usize, r: u8) -> u8
     let mut b = r;
     let mut j = i;
     while j < n {
-        let at = work[j] as usize;
+        let at = start(work, j);
         if program[at] == 1 {
             b = program[at + 1];
         }
@@ -310,14 +345,12 @@ fn swap(output: &mut [u8], work: &mut [u16], table: &[u8], i: usize) -> u8
     if work.len() <= i + 1 {
         return NO_PAIR;
     }
-    let a = work[i] as usize;
-    let b = work[i + 1] as usize;
-    let e = b + record::size_of(output[b]);
-    if tied(output, work, table, i, a, b, e) {
+    let there = pair_at(output, work, i);
+    if tied(output, work, table, i, there) {
         return TIED;
     }
-    exchange(output, a, b, e);
-    work[i + 1] = (a + (e - b)) as u16;
+    exchange(output, there.first, there.second, there.end);
+    work[i + 1] = (there.first + (there.end - there.second)) as u16;
     0
 }
 
@@ -328,15 +361,34 @@ fn wide(b: u8) -> usize
     b as usize
 }
 
-// The position in a log record, high byte first.
-fn position(log: &[u8], at: usize) -> usize
-    requires { ⌜ at + 2 < length (now log) ⌝ }
-    ensures { λ i. ⌜ (i ≡ getD (now (log .entry)) (at + 1) 0 * 256 + getD (now (log .entry)) (at + 2) 0) × (i < 65536) ⌝ }
+// The log record at a place: its kind, then a position, high byte first. All log records are read here.
+fn log_record(log: &[u8], at: usize) -> LogRecord
+    requires { ⌜ at < length (now log) ⌝ }
+    ensures { λ x. ⌜ (x ≡ logRecordOf (drop at (now (log .entry)))) × (InTwoBytes x) ⌝ }
 {
-    wide(log[at + 1]) * 256 + wide(log[at + 2])
+    if log.len() - at < LOG_RECORD {
+        return LogRecord::Torn;
+    }
+    if log[at] != SWAP {
+        return LogRecord::Torn;
+    }
+    LogRecord::Swap(wide(log[at + 1]) * 256 + wide(log[at + 2]))
 }
 
-// Makes the swaps of a log in order, up to the first that it refuses.
+// Does what a log record asks, or answers why not.
+fn follow(x: LogRecord, output: &mut [u8], work: &mut [u16], table: &[u8]) -> u8
+    requires { ⌜ (Laid (now output) (now work)) × (Marked (now output) (now table)) × (InTwoBytes x) ⌝ }
+    ensures number { λ k. ⌜ k ≡ followNo x (recordsOf (now (output .entry))) ⌝ }
+    ensures bytes { λ _. ⌜ now (output .exit) ≡ flat (leftAfter x (recordsOf (now (output .entry)))) ⌝ }
+    ensures starts { λ _. ⌜ now (work .exit) ≡ startsOf 0 (leftAfter x (recordsOf (now (output .entry)))) ⌝ }
+{
+    match x {
+        LogRecord::Torn => TORN_LOG,
+        LogRecord::Swap(i) => swap(output, work, table, i),
+    }
+}
+
+// Follows the records of a log in order, up to the first that it refuses.
 fn replay(log: &[u8], output: &mut [u8], work: &mut [u16], table: &[u8]) -> Ended
     requires { ⌜ (Laid (now output) (now work)) × (Marked (now output) (now table)) ⌝ }
     ensures number { λ d. ⌜ (d .number ≡ replay (now (log .entry)) 0 (recordsOf (now (output .entry))) .number) × (d .place ≡ replay (now (log .entry)) 0 (recordsOf (now (output .entry))) .place) ⌝ }
@@ -345,18 +397,11 @@ fn replay(log: &[u8], output: &mut [u8], work: &mut [u16], table: &[u8]) -> Ende
 {
     let mut at: usize = 0;
     while at < log.len() {
-        if log.len() - at < SWAP_SIZE {
-            return run::end_at(TORN_LOG, at);
-        }
-        if log[at] != SWAP {
-            return run::end_at(TORN_LOG, at);
-        }
-        let i = position(log, at);
-        let number = swap(output, work, table, i);
+        let number = follow(log_record(log, at), output, work, table);
         if number != 0 {
             return run::end_at(number, at);
         }
-        at += SWAP_SIZE;
+        at += LOG_RECORD;
     }
     run::end_at(0, 0)
 }

@@ -8,8 +8,8 @@ use lib.ListN.{take, drop, getD}
 use borrow.Author.Tests.{eq-eqb, ne-eqb}
 use Rattle.record.specs.Format.{byte}
 use Rattle.rewrite.specs.Programs.{recordsOf}
-use Rattle.rewrite.specs.Laid.{rackByte}
-use Rattle.rewrite.proofs.Laying.{Stands, nth, work-length, stands, byte-at, kind-at}
+use Rattle.rewrite.specs.Laid.{recordAt, startAt, rackByte}
+use Rattle.rewrite.proofs.Laying.{Stands, byte-at, kind-at, work-length, laid-stands}
 use Rattle.rewrite.proofs.Rackings.{byteAfter, rack-next, rack-end}
 use borrow.Author.Needs.{needs}
 use Rattle.rewrite.proofs.racking_after.Statement.{statement}
@@ -22,38 +22,31 @@ Inv-loop program work i n r b₀ j₀ b j =
 abbrev μ-loop : tie.MeasureT-loop
 μ-loop program work i n r b₀ j₀ b j = n - j
 
--- the byte after record j, as the two branches leave it
-module _ (p w : List ℕ) (j : ℕ) (s : Stands p w j) (b c : ℕ) where
-  at-rack : getD p (getD w j 0) 0 ≡ 1 → c ≡ getD p (getD w j 0 + 1) 0 → c ≡ byteAfter b (nth p j)
-  at-rack e f = f ∙ byte-at p w j s 1 (omega (arith, s .sized .least)) ∙ sym (simp (eq-eqb (byte (nth p j) 0) 1 (sym (kind-at p w j s) ∙ e)))
+-- the byte after record j, which starts at a, as the two branches leave it
+module _ (p : List ℕ) (j : ℕ) (s : Stands p j) (a : ℕ) (at : a ≡ startAt p j) (b c : ℕ) where
+  at-rack : getD p a 0 ≡ 1 → c ≡ getD p (a + 1) 0 → c ≡ byteAfter b (recordAt p j)
+  at-rack e f = f ∙ byte-at p j s a at 1 (omega (arith, s .sized .least)) ∙ sym (simp (eq-eqb (byte (recordAt p j) 0) 1 (sym (kind-at p j s a at) ∙ e)))
 
-  at-other : (getD p (getD w j 0) 0 ≡ 1 → ⊥) → c ≡ b → c ≡ byteAfter b (nth p j)
-  at-other d f = f ∙ sym (simp (ne-eqb (byte (nth p j) 0) 1 (λ e. d (kind-at p w j s ∙ e))))
+  at-other : (getD p a 0 ≡ 1 → ⊥) → c ≡ b → c ≡ byteAfter b (recordAt p j)
+  at-other d f = f ∙ sym (simp (ne-eqb (byte (recordAt p j) 0) 1 (λ e. d (kind-at p j s a at ∙ e))))
 
 loop-holds : tie.Need-loop-holds Inv-loop μ-loop
-loop-holds c = (c .pre .1, omega arith, refl)
+loop-holds c = (c .before .before .pre .1, omega arith, refl)
 
-mul-at : tie.Need-mul-at Inv-loop μ-loop
-mul-at c = search needs
-
-shared-slice-read-at : tie.Need-shared-slice-read-at Inv-loop μ-loop
-shared-slice-read-at c = search needs
-
-cast-at : tie.Need-cast-at Inv-loop μ-loop
-cast-at c = let k = c .before .before .before in let s = stands (k .args .program .now) (k .args .work .now) (k .pre .0) (c .before .before .loop .j) (search needs) in
-    omega (arith, s .ends, k .pre .0 .sound .short)
+start-requires : tie.Need-start-requires Inv-loop μ-loop
+start-requires c κs = search needs
 
 shared-slice-read-if1 : tie.Need-shared-slice-read-if1 Inv-loop μ-loop
-shared-slice-read-if1 c = let k = c .before .before .before .before in let s = stands (k .args .program .now) (k .args .work .now) (k .pre .0) (c .before .before .before .loop .j) (search needs) in
-    omega (arith, s .ends, s .sized .least)
+shared-slice-read-if1 c = let k = c .before .before .before .before .before .before in let s = laid-stands (k .args .program .now) (k .args .work .now) (k .pre .0) (c .before .before .before .loop .j) (search needs) in
+    omega (arith, c .before .start .ensures _ (k .pre .0), s .ends, s .sized .least)
 
 add-b : tie.Need-add-b Inv-loop μ-loop
-add-b c = let k = c .before .before .before .before .before in let s = stands (k .args .program .now) (k .args .work .now) (k .pre .0) (c .before .before .before .before .loop .j) (search needs) in
-    omega (arith, s .ends, s .sized .least, k .pre .0 .sound .short)
+add-b c = let k = c .before .before .before .before .before .before .before in let s = laid-stands (k .args .program .now) (k .args .work .now) (k .pre .0) (c .before .before .before .before .loop .j) (search needs) in
+    omega (arith, c .before .before .start .ensures _ (k .pre .0), s .ends, s .sized .least, k .pre .0 .sound .short)
 
 shared-slice-read-b : tie.Need-shared-slice-read-b Inv-loop μ-loop
-shared-slice-read-b c = let k = c .before .before .before .before .before .before in let s = stands (k .args .program .now) (k .args .work .now) (k .pre .0) (c .before .before .before .before .before .loop .j) (search needs) in
-    omega (arith, s .ends, s .sized .least)
+shared-slice-read-b c = let k = c .before .before .before .before .before .before .before .before in let s = laid-stands (k .args .program .now) (k .args .work .now) (k .pre .0) (c .before .before .before .before .before .loop .j) (search needs) in
+    omega (arith, c .before .before .before .start .ensures _ (k .pre .0), s .ends, s .sized .least)
 
 add-j : tie.Need-add-j Inv-loop μ-loop
 add-j c = search needs
@@ -62,19 +55,19 @@ loop-less : tie.Need-loop-less Inv-loop μ-loop
 loop-less c = omega (arith, c .before .before .before .loop-test .taken)
 
 loop-again : tie.Need-loop-again Inv-loop μ-loop
-loop-again c = let k = c .before .before .before .before .before in let v = c .before .before .before .before .loop in
-    let p = k .args .program .now in let w = k .args .work .now in
-    let s = stands p w (k .pre .0) (v .j) (search needs) in
-    let e : c .if1 .b ≡ byteAfter (v .b) (nth p (v .j)) =
-    ⊎-elim {C = c .if1 .b ≡ byteAfter (v .b) (nth p (v .j))} (λ u. at-rack p w (v .j) s (v .b) (c .if1 .b) (u .0 .taken) (u .2)) (λ u. at-other p w (v .j) s (v .b) (c .if1 .b) (u .0 .left) (u .1)) (c .if1 .came) in (
+loop-again c = let k = c .before .before .before .before .before .before .before in let v = c .before .before .before .before .loop in
+    let p = k .args .program .now in let w = k .args .work .now in let g = k .pre .0 in
+    let s = laid-stands p w g (v .j) (search needs) in let a = c .before .before .start .ensures p g in
+    let e : c .if1 .b ≡ byteAfter (v .b) (recordAt p (v .j)) =
+    ⊎-elim {C = c .if1 .b ≡ byteAfter (v .b) (recordAt p (v .j))} (λ u. at-rack p (v .j) s _ a (v .b) (c .if1 .b) (u .0 .taken) (u .2)) (λ u. at-other p (v .j) s _ a (v .b) (c .if1 .b) (u .0 .left) (u .1)) (c .if1 .came) in (
       omega (arith, c .before .before .before .loop-test .taken),
       omega (arith, v .inv .1),
-      v .inv .2 ∙ rack-next (v .b) (recordsOf p) (v .j) (k .args .n) (c .before .before .before .loop-test .taken) (omega (arith, k .pre .2, work-length p w (k .pre .0)))
+      v .inv .2 ∙ rack-next (v .b) (recordsOf p) (v .j) (k .args .n) (c .before .before .before .loop-test .taken) (omega (arith, k .pre .2, work-length p w g))
           ∙ ap (λ (b : ℕ). rackByte b (take (k .args .n - (v .j + 1)) (drop (v .j + 1) (recordsOf p)))) (sym e),
     )
 
 returns : tie.Need-returns Inv-loop μ-loop
-returns c = let k = c .before .before in let v = c .before .loop in
+returns c = let k = c .before .before .before .before in let v = c .before .loop in
     sym (v .inv .2 ∙ rack-end (v .b) (recordsOf (k .args .program .now)) (v .j) (k .args .n) (c .loop-test .left))
 
 pub racking-after-spec : {M : Type 1} → statement M
@@ -84,9 +77,7 @@ racking-after-spec =
     Inv-loop
     μ-loop
     loop-holds
-    mul-at
-    shared-slice-read-at
-    cast-at
+    start-requires
     shared-slice-read-if1
     add-b
     shared-slice-read-b

@@ -1,13 +1,11 @@
 -- On from the last mark. Assumes nothing.
-use Prim.Native.Nat.{ℕ, _*_, _/_, _-_, _≤_}
+use Prim.Native.Nat.{_*_, _/_}
 use native.Mathlib.Omega.{arith}
 use mathlib.Core.Path.{ap, _∙_}
-use lib.ListN.{take, drop}
 use lib.IntN.{ℤ}
 use mir.Syntax.{w8}
 use Rattle.machine.proofs.Signed.{back}
 use Rattle.rewrite.specs.Programs.{recordsOf}
-use Rattle.rewrite.specs.Laid.{rackByte}
 use Rattle.rewrite.proofs.Laying.{work-length, work-short}
 use Rattle.rewrite.proofs.Rackings.{racked, rack-on}
 use borrow.Author.Needs.{needs}
@@ -28,12 +26,9 @@ signed-requires : tie.Need-signed-requires
 signed-requires c κs = search needs
 
 returns : tie.Need-returns
-returns c = let k = c .before .before .before .before .before .before in let p = k .args .program .now in let w = k .args .work .now in let i = k .args .i in
-    let low : i / 64 * 64 ≤ i = omega arith in
+returns c = let k = c .before .before .before .before .before .before in let p = k .args .program .now in let i = k .args .i in
     ap (λ (z : ℤ). record { 0 = z }) (back w8 (c .signed .result) (c .signed .ok) ∙ c .signed .ensures)
-    ∙ (ap racked (c .before .racking-after .ensures
-    ∙ ap (λ (b : ℕ). rackByte b (take (i - i / 64 * 64) (drop (i / 64 * 64) (recordsOf p)))) (k .pre .1 .marks (i / 64) (omega (arith, k .pre .2, work-length p w (k .pre .0))))
-    ∙ rack-on (recordsOf p) (i / 64 * 64) i low))
+    ∙ ap racked (rack-on (recordsOf p) (i / 64 * 64) i _ _ (omega arith) (k .pre .1 .marks (i / 64) (omega (arith, k .pre .2, work-length p (k .args .work .now) (k .pre .0)))) (c .before .racking-after .ensures))
 
 pub racking-at-spec : {M : Type 1} → statement M
 racking-at-spec = tie.close (tie.spec mul-racking-after shared-slice-read-racking-after racking-after-requires signed-requires returns)

@@ -8,7 +8,7 @@ use Rattle.rewrite.specs.Programs.{flat, recordsOf, startsOf}
 use Rattle.rewrite.specs.Rewrite.{swapOf}
 use Rattle.rewrite.specs.Laid.{Laid, swapNo, leftBy}
 use Rattle.rewrite.proofs.Records.{records-flat}
-use Rattle.rewrite.proofs.Pairs.{second-size, second-end, placed, first-between, second-between, pair-bytes, pair-starts, pair-tied, pair-made, pair-none}
+use Rattle.rewrite.proofs.Pairs.{placed, pair-bytes, pair-starts, pair-tied, pair-made, pair-none}
 use borrow.Author.Needs.{needs}
 use Rattle.rewrite.proofs.swap.Statement.{statement}
 use Rattle.rewrite.proofs.swap.Tie as tie
@@ -38,46 +38,14 @@ add-if1 c = search needs
 
 returns : tie.Need-returns
 unfolding Left
-returns c = let k = c .before .before .before .before in let p = k .args .output .now in let w = k .args .work .now in let i = k .args .i in
-    none-left p w (k .pre .0) i (pair-none p w (k .pre .0) i (c .if1 .taken))
+returns c = let k = c .before .before .before .before in let p = k .args .output .now in let w = k .args .work .now in let g = k .pre .0 in let i = k .args .i in
+    none-left p w g i (pair-none p w g i (c .if1 .taken))
 
-mul-a : tie.Need-mul-a
-mul-a c = search needs
-
-slice-read-a : tie.Need-slice-read-a
-slice-read-a c = search needs
-
-cast-a : tie.Need-cast-a
-cast-a c = let k = c .before .before .before .before .before in let p = k .args .output .now in let w = k .args .work .now in let i = k .args .i in let g = k .pre .0 in let h = c .before .if1 .left in let q = placed p w g i h in
-    omega (arith, q .first-long, q .second-long, q .ends, g .sound .short)
-
-add-b : tie.Need-add-b
-add-b c = search needs
-
-mul-b : tie.Need-mul-b
-mul-b c = search needs
-
-slice-read-b : tie.Need-slice-read-b
-slice-read-b c = search needs
-
-cast-b : tie.Need-cast-b
-cast-b c = let k = c .before .before .before .before .before .before in let p = k .args .output .now in let w = k .args .work .now in let i = k .args .i in let g = k .pre .0 in let h = c .before .before .if1 .left in let q = placed p w g i h in
-    omega (arith, q .second-long, q .ends, g .sound .short)
-
-slice-read-size-of : tie.Need-slice-read-size-of
-slice-read-size-of c = let k = c .before .before .before .before .before .before .before in let p = k .args .output .now in let w = k .args .work .now in let i = k .args .i in let g = k .pre .0 in let h = c .before .before .before .if1 .left in let q = placed p w g i h in
-    omega (arith, q .second-long, q .ends)
-
-size-of-requires : tie.Need-size-of-requires
-size-of-requires c κs = search needs
-
-add-e : tie.Need-add-e
-add-e c = let k = c .before .before .before .before .before .before .before .before in let p = k .args .output .now in let w = k .args .work .now in let i = k .args .i in let g = k .pre .0 in let h = c .before .before .before .before .if1 .left in let q = placed p w g i h in
-    omega (arith, second-size p w g i h _ (c .size-of .ensures), q .ends, g .sound .short)
+pair-at-requires : tie.Need-pair-at-requires
+pair-at-requires c κs = search needs
 
 tied-requires : tie.Need-tied-requires
-tied-requires c κs = let k = c .before .before .before .before .before .before .before .before .before .before in let p = k .args .output .now in let w = k .args .work .now in let i = k .args .i in let g = k .pre .0 in let h = c .before .before .before .before .before .before .if1 .left in let e = second-end p w g i h _ (c .before .before .size-of .ensures) in
-    (g, k .pre .1, omega arith, first-between p w g i h _ e, second-between p w g i h _ e)
+tied-requires c κs = search needs
 
 same-length : tie.Need-same-length
 same-length c = search needs
@@ -87,23 +55,24 @@ same-length-2 c = search needs
 
 returns-2 : tie.Need-returns-2
 unfolding Left
-returns-2 c = let k = c .before .before .before .before .before .before .before .before .before .before .before .before in let p = k .args .output .now in let w = k .args .work .now in let i = k .args .i in let g = k .pre .0 in let h = c .before .before .before .before .before .before .before .before .if1 .left in let e = second-end p w g i h _ (c .before .before .before .before .size-of .ensures) in
-    tied-left p w g i (pair-tied p w g i h _ e (sym (c .before .tied .ensures) ∙ c .if2 .taken))
+returns-2 c = let k = c .before .before .before .before .before .before .before .before .before .before .before in let p = k .args .output .now in let w = k .args .work .now in let g = k .pre .0 in let h = c .before .before .before .before .before .before .before .if1 .left in let i = k .args .i in
+    tied-left p w g i (pair-tied p w g i h (sym (c .before .tied .ensures) ∙ c .if2 .taken))
 
 exchange-requires : tie.Need-exchange-requires
-exchange-requires c κs = let k = c .before .before .before .before .before .before .before .before .before .before .before .before .before in let p = k .args .output .now in let w = k .args .work .now in let i = k .args .i in let g = k .pre .0 in let h = c .before .before .before .before .before .before .before .before .before .if1 .left in let q = placed p w g i h in let e = second-end p w g i h _ (c .before .before .before .before .before .size-of .ensures) in
-    (omega (arith, q .first-long), omega (arith, e, q .second-long), omega (arith, e, q .ends), omega (arith, e, q .short))
+exchange-requires c κs = let k = c .before .before .before .before .before .before .before .before .before .before .before .before in let p = k .args .output .now in let w = k .args .work .now in let g = k .pre .0 in let h = c .before .before .before .before .before .before .before .before .if1 .left in let s = placed p w g (k .args .i) h _ (c .before .before .before .before .before .pair-at .ensures) in
+    (omega (arith, s .first-long), omega (arith, s .second-long), omega (arith, s .second-long, s .ends), omega (arith, s .second-long, s .short))
 
 sub-work : tie.Need-sub-work
-sub-work c = search needs
+sub-work c = let k = c .before .before .before .before .before .before .before .before .before .before .before .before .before .before .before .before in let p = k .args .output .now in let w = k .args .work .now in let g = k .pre .0 in let h = c .before .before .before .before .before .before .before .before .before .before .before .before .if1 .left in let s = placed p w g (k .args .i) h _ (c .before .before .before .before .before .before .before .before .before .pair-at .ensures) in
+    omega (arith, s .second-long)
 
 add-work : tie.Need-add-work
-add-work c = let k = c .before .before .before .before .before .before .before .before .before .before .before .before .before .before .before .before in let p = k .args .output .now in let w = k .args .work .now in let i = k .args .i in let g = k .pre .0 in let h = c .before .before .before .before .before .before .before .before .before .before .before .before .if1 .left in let q = placed p w g i h in
-    omega (arith, second-size p w g i h _ (c .before .before .before .before .before .before .before .before .size-of .ensures), q .first-long, q .ends, g .sound .short)
+add-work c = let k = c .before .before .before .before .before .before .before .before .before .before .before .before .before .before .before .before .before in let p = k .args .output .now in let w = k .args .work .now in let g = k .pre .0 in let h = c .before .before .before .before .before .before .before .before .before .before .before .before .before .if1 .left in let s = placed p w g (k .args .i) h _ (c .before .before .before .before .before .before .before .before .before .before .pair-at .ensures) in
+    omega (arith, s .first-long, s .ends, g .sound .short)
 
 cast-work : tie.Need-cast-work
-cast-work c = let k = c .before .before .before .before .before .before .before .before .before .before .before .before .before .before .before .before in let p = k .args .output .now in let w = k .args .work .now in let i = k .args .i in let g = k .pre .0 in let h = c .before .before .before .before .before .before .before .before .before .before .before .before .if1 .left in let q = placed p w g i h in
-    omega (arith, second-size p w g i h _ (c .before .before .before .before .before .before .before .before .size-of .ensures), q .first-long, q .ends, g .sound .short)
+cast-work c = let k = c .before .before .before .before .before .before .before .before .before .before .before .before .before .before .before .before .before in let p = k .args .output .now in let w = k .args .work .now in let g = k .pre .0 in let h = c .before .before .before .before .before .before .before .before .before .before .before .before .before .if1 .left in let s = placed p w g (k .args .i) h _ (c .before .before .before .before .before .before .before .before .before .before .pair-at .ensures) in
+    omega (arith, s .first-long, s .ends, g .sound .short)
 
 add-work-2 : tie.Need-add-work-2
 add-work-2 c = search needs
@@ -122,9 +91,8 @@ same-length-4 c = search needs
 
 returns-3 : tie.Need-returns-3
 unfolding Left
-returns-3 c = let k = c .before .before .before .before .before .before .before .before .before .before .before .before .before .before .before .before in let p = k .args .output .now in let w = k .args .work .now in let i = k .args .i in let g = k .pre .0 in let h = c .before .before .before .before .before .before .before .before .before .before .before .before .if1 .left in let e = second-end p w g i h _ (c .before .before .before .before .before .before .before .before .size-of .ensures) in
-    made-left p w g i (pair-made p w g i h _ e (sym (c .before .before .before .before .before .tied .ensures) ∙ c .before .before .before .before .if2 .left))
-    (c .before .before .exchange .ensures ∙ pair-bytes p w g i h _ e) (pair-starts p w g i h _ e)
+returns-3 c = let k = c .before .before .before .before .before .before .before .before .before .before .before .before .before .before .before .before .before in let p = k .args .output .now in let w = k .args .work .now in let g = k .pre .0 in let h = c .before .before .before .before .before .before .before .before .before .before .before .before .before .if1 .left in let i = k .args .i in let at = c .before .before .before .before .before .before .before .before .before .before .pair-at .ensures in
+    made-left p w g i (pair-made p w g i h (sym (c .before .before .before .before .before .before .before .tied .ensures) ∙ c .before .before .before .before .before .before .if2 .left)) (c .before .before .before .before .exchange .ensures ∙ pair-bytes p w g i h _ at) (pair-starts p w g i h _ at)
 
 pub swap-spec : {M : Type 1} → statement M
 swap-spec =
@@ -132,16 +100,7 @@ swap-spec =
     (tie.spec
     add-if1
     returns
-    mul-a
-    slice-read-a
-    cast-a
-    add-b
-    mul-b
-    slice-read-b
-    cast-b
-    slice-read-size-of
-    size-of-requires
-    add-e
+    pair-at-requires
     tied-requires
     same-length
     same-length-2
