@@ -1,6 +1,7 @@
 //! One panel call through its C entry, compared with the model in every field and entry.
 
 use crate::draft::Random;
+use crate::layout::*;
 use crate::lend::{behind, Lent};
 use crate::machine::*;
 use crate::panel::{list_carriers, step_first};
@@ -53,7 +54,7 @@ impl Panel {
     /// Lends a state, with anything in its padding.
     pub fn lend_state(&mut self, state: &RawState) {
         let (padding, behind) = (self.random.byte(), behind(&mut self.random));
-        self.state.lend(&state.bytes(padding), behind);
+        self.state.lend(&state_bytes(state, padding), behind);
         self.coverage.note(Event::StateGuarded, behind == 0);
         self.coverage.note(Event::StateMarked, behind > 0);
     }
@@ -157,8 +158,8 @@ impl Panel {
         if call.given != call.expected {
             differ(call, "number or length");
         }
-        let found = RawState::of_bytes(self.state.bytes());
-        if let Some(what) = wanted.difference(&found) {
+        let found = state_of(self.state.bytes());
+        if let Some(what) = state_difference(wanted, &found) {
             differ(call, &what);
         }
         if !self.state.marks_stand() {
@@ -178,10 +179,10 @@ impl Panel {
         let at = if null { std::ptr::null_mut() } else { lent };
         let mut entries: Vec<RawCarrier> = contents
             .chunks_exact(CARRIER_BYTES)
-            .map(RawCarrier::of_bytes)
+            .map(carrier_of)
             .collect();
         let call = self.list_at(state, &mut entries, at.cast(), true, from);
-        let wanted: Vec<u8> = entries.iter().flat_map(RawCarrier::bytes).collect();
+        let wanted: Vec<u8> = entries.iter().flat_map(carrier_bytes).collect();
         if let Some(what) = list_difference(&wanted, self.list.bytes()) {
             differ(&call, &what);
         }
@@ -197,7 +198,7 @@ impl Panel {
 
     /// Lists into memory that has no guard page behind it, for counts over any that can be lent.
     pub fn wide_list(&mut self, source: Source, state: &RawState, count: usize, from: &str) {
-        let filler = RawCarrier::of_bytes(&[0; CARRIER_BYTES].map(|_| self.random.byte()));
+        let filler = carrier_of(&[0; CARRIER_BYTES].map(|_| self.random.byte()));
         let mut wanted = vec![filler; count];
         let mut found = vec![filler; count];
         let call = self.list_at(state, &mut wanted, found.as_mut_ptr(), false, from);
@@ -252,7 +253,7 @@ impl Panel {
 fn list_difference(wanted: &[u8], found: &[u8]) -> Option<String> {
     let at = (0..wanted.len()).find(|&at| wanted[at] != found[at])?;
     let entry = at / CARRIER_BYTES;
-    let of = |bytes: &[u8]| RawCarrier::of_bytes(&bytes[entry * CARRIER_BYTES..]);
+    let of = |bytes: &[u8]| carrier_of(&bytes[entry * CARRIER_BYTES..]);
     Some(format!(
         "entry {entry} of the list, {:?} and {:?}",
         of(wanted),
@@ -266,7 +267,7 @@ fn differ(call: &Call, what: &str) -> ! {
     for (name, served) in [("model", call.expected), ("library", call.given)] {
         println!("{name}: number {} length {}", served.number, served.length);
     }
-    show("state before", &call.before.bytes(0));
+    show("state before", &state_bytes(call.before, 0));
     show("bytes", call.bytes);
     fail("a panel service of the library differs from the model")
 }

@@ -2,6 +2,7 @@
 
 use crate::draft::Random;
 use crate::generate::whole_program;
+use crate::layout::*;
 use crate::machine::*;
 use crate::raw_state::*;
 
@@ -226,7 +227,7 @@ pub fn random_bytes(random: &mut Random) -> RawState {
     let bound = random.pick(&[2, 3, 9, 256, 256]);
     let mut bytes = [0; STATE_BYTES];
     bytes.fill_with(|| random.below(bound) as u8);
-    let mut state = RawState::of_bytes(&bytes);
+    let mut state = state_of(&bytes);
     if random.percent(30) {
         state.racking = random.racking() as i8;
         state.loops = any_loops(random);
