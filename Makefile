@@ -26,10 +26,12 @@ archive:
 $(LIB): $(SOURCES)
 	$(MAKE) archive
 
-# The library against the Rust model.
+# The library against the Rust model. The model is a crate of its own, so that it cannot name the comparison.
 model: $(LIB)
 	@mkdir -p $(OUT)
-	rustc --edition 2021 -O -D warnings -o $(OUT)/model model/main.rs -L native=target/staticlib -l static=banthewig
+	rustc --edition 2021 -O -D warnings --crate-type rlib --crate-name model -o $(OUT)/libmodel.rlib model/machine/lib.rs
+	rustc --edition 2021 -O -D warnings -o $(OUT)/model model/compare/main.rs --extern model=$(OUT)/libmodel.rlib \
+		-L native=target/staticlib -l static=banthewig
 	$(OUT)/model
 
 $(OUT)/%: examples/%.c include/banthewig.h $(LIB)

@@ -24,8 +24,8 @@ fn join(folder: &[u8], file: &[u8], path: &mut [u8]) -> usize
 
 // Writes out the listing of two files.
 fn show(program_path: &[u8], log_path: &[u8]) {
-    let mut text = [0u8; list::LONGEST];
-    let n = list::list_files(program_path, log_path, &mut text);
+    let mut text = [0u8; listing_text::LONGEST];
+    let n = listing_text::list_files(program_path, log_path, &mut text);
     io::write_all(STDOUT_FILENO, &text[..n]);
 }
 
@@ -41,7 +41,7 @@ fn case(name: &[u8]) {
     show(&program[..program_length], &log[..log_length]);
 }
 
-// Missing files, and files at and over their limits. (2, no bench, cannot happen: LentIsEnough of crate list.)
+// Missing files, and files at and over their limits. (2, no bench, cannot happen: LentIsEnough of crate listing_text.)
 fn files() {
     case(b"empty");
     case(b"missing");

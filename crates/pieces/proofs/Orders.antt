@@ -2,9 +2,10 @@
 use mathlib.Core.Path.{refl}
 use Rattle.machine.specs.Machine.{emptyState, completeOf, all, inactiveCarrier, movedTo, attachedAt, sameNeedle}
 use Rattle.machine.specs.Geometry.{eqZ, columnOf, entryOf, exitOf, sameColumn, withinFloat}
-use Rattle.record.specs.Format.{sizeOf, decodeOf, whole, ranged, refusedAs, rackOk, needleOk, workOk, signedOf}
-use Rattle.record.specs.Names.{needleCount, carrierCount, needlesOf, carriersOf}
-use Rattle.run.specs.Step.{lookOf, seeOf, parkedNo, floatNo, carrierNo, oppositeNo, firstAfter, secondAfter, roomNo, decidedNo, edit, actOf, acted, moveAttachments, rackingAfter, numberAt, applyOf}
+use Rattle.record.specs.Kinds.{byKind}
+use Rattle.record.specs.Format.{decodeOf, readAs, fieldsOk, recordAt, refusedAs, rackOk, needleOk, workOk, signedOf}
+use Rattle.record.specs.Names.{needlesOf, carriersOf}
+use Rattle.run.specs.Step.{lookOf, seeOf, parkedNo, floatNo, carrierNo, oppositeNo, firstAfter, secondAfter, roomNo, decidedNo, edit, actOf, acted, moveAttachments, numberAt, applyOf}
 use Rattle.run.specs.Run.{stepOf, turn, runFrom, answerOf, runOf}
 use Rattle.rewrite.specs.Extents.{halfColumn, layerOf, extentOf, meets, member, common}
 use Rattle.rewrite.specs.Programs.{cut, sameBytes, memberNeedle}

@@ -1,0 +1,236 @@
+//! Lent states for the panel's services: random ones in range, and values at and past their limits.
+
+use crate::draft::Random;
+use crate::generate::whole_program;
+use crate::layout::*;
+use crate::machine::*;
+use crate::raw_state::*;
+
+// Random states in range.
+
+#[derive(Clone, Copy)]
+pub enum Status {
+    Inactive,
+    Unattached,
+    Attached,
+}
+
+pub const STATUSES: [Status; 3] = [Status::Inactive, Status::Unattached, Status::Attached];
+
+fn any_loops(random: &mut Random) -> [u8; HOOKS] {
+    let choices: [&[u8]; 5] = [
+        &[0],
+        &[8],
+        &[0, 1, 7, 8],
+        &[0, 0, 0, 0, 0, 0, 0, 0, 0, 0, 1, 2],
+        &[0, 1, 2, 3, 4, 5, 6, 7, 8],
+    ];
+    let counts = random.pick(&choices);
+    let mut loops = [0; HOOKS];
+    if counts.len() == 1 {
+        loops.fill(counts[0]);
+    } else {
+        loops.fill_with(|| random.pick(counts));
+    }
+    loops
+}
+
+fn any_slot(random: &mut Random) -> i16 {
+    match random.below(5) {
+        0 => random.pick(&[-8, -7, 0, 249, 250, 257, 258]),
+        1 => 0,
+        _ => random.between(LEAST_SLOT.into(), MOST_SLOT.into()) as i16,
+    }
+}
+
+/// A needle at an end of its bed, about 20 columns from the slot or less, or anywhere.
+fn any_needle(random: &mut Random, slot: i16) -> u16 {
+    match random.below(5) {
+        0 => random.pick(&[0, 249]),
+        1 => 0,
+        2 | 3 => (i32::from(slot) + random.between(-22, 22)).clamp(0, 249) as u16,
+        _ => random.below(NEEDLES) as u16,
+    }
+}
+
+pub fn any_carrier(random: &mut Random, status: Status) -> RawCarrier {
+    let mut carrier = RawCarrier::default();
+    if !matches!(status, Status::Inactive) {
+        carrier.active = 1;
+        carrier.slot = any_slot(random);
+    }
+    if matches!(status, Status::Attached) {
+        carrier.side = random.pick(&[1, 2]);
+        carrier.bed = random.pick(&[0, 1]);
+        carrier.needle = any_needle(random, carrier.slot);
+    }
+    carrier
+}
+
+/// Any state in range.
+pub fn random_state(random: &mut Random) -> RawState {
+    let mut state = RawState::empty();
+    state.racking = random.racking() as i8;
+    state.loops = any_loops(random);
+    for carrier in &mut state.carriers {
+        let status = random.pick(&STATUSES);
+        *carrier = any_carrier(random, status);
+    }
+    state
+}
+
+/// A state that a run ends in.
+pub fn reached_state(random: &mut Random) -> RawState {
+    RawState::of(&run(&whole_program(random)).state)
+}
+
+/// A state in range: reached by a run, random, or empty.
+pub fn sound_state(random: &mut Random) -> RawState {
+    match random.below(10) {
+        0..=3 => reached_state(random),
+        4 => RawState::empty(),
+        _ => random_state(random),
+    }
+}
+
+// One value of a state changed.
+
+/// A field of a state; those of a carrier come with the carrier's index.
+#[derive(Clone, Copy)]
+pub enum Field {
+    Racking,
+    Loops(usize),
+    Active(usize),
+    Side(usize),
+    Slot(usize),
+    Bed(usize),
+    Needle(usize),
+}
+
+pub const CARRIER_FIELDS: [fn(usize) -> Field; 5] = [
+    Field::Active,
+    Field::Side,
+    Field::Slot,
+    Field::Bed,
+    Field::Needle,
+];
+
+impl Field {
+    /// The values just in range and just out of it, those that a narrower number would mistake, the
+    /// least and the most; of loops, every value on some hook.
+    pub fn values(self) -> Vec<i32> {
+        match self {
+            Field::Racking => (-128..=127).collect(),
+            Field::Loops(hook) => vec![8, 9, 10 + (hook % 245) as i32, 255],
+            Field::Active(_) => vec![0, 1, 2, 3, 127, 128, 254, 255],
+            Field::Side(_) => vec![0, 1, 2, 3, 4, 127, 128, 129, 255],
+            Field::Slot(_) => vec![
+                -32_768, -32_767, -300, -257, -256, -255, -248, -10, -9, -8, -7, -1, 0, 1, 255,
+                256, 257, 258, 259, 260, 264, 511, 512, 32_512, 32_767,
+            ],
+            Field::Bed(_) => vec![0, 1, 2, 3, 255, 256, 257, 32_768, 32_769, 65_535],
+            Field::Needle(_) => vec![
+                0, 1, 248, 249, 250, 251, 255, 256, 257, 499, 500, 505, 506, 32_768, 65_280, 65_535,
+            ],
+        }
+    }
+
+    pub fn set(self, state: &mut RawState, value: i32) {
+        match self {
+            Field::Racking => state.racking = value as i8,
+            Field::Loops(hook) => state.loops[hook] = value as u8,
+            Field::Active(k) => state.carriers[k].active = value as u8,
+            Field::Side(k) => state.carriers[k].side = value as u8,
+            Field::Slot(k) => state.carriers[k].slot = value as i16,
+            Field::Bed(k) => state.carriers[k].bed = value as u16,
+            Field::Needle(k) => state.carriers[k].needle = value as u16,
+        }
+    }
+}
+
+/// A field to change; for a carrier's field, what the carrier is before.
+#[derive(Clone, Copy)]
+pub struct Change {
+    pub field: Field,
+    pub value: i32,
+    pub before: Option<(usize, Status)>,
+}
+
+fn changes_of(field: Field, before: Option<(usize, Status)>) -> impl Iterator<Item = Change> {
+    field.values().into_iter().map(move |value| Change {
+        field,
+        value,
+        before,
+    })
+}
+
+/// Every value of every field, with every status of a carrier.
+pub fn every_change() -> Vec<Change> {
+    let mut changes: Vec<Change> = changes_of(Field::Racking, None).collect();
+    for hook in 0..HOOKS {
+        changes.extend(changes_of(Field::Loops(hook), None));
+    }
+    for carrier in 0..CARRIERS {
+        for status in STATUSES {
+            for field in CARRIER_FIELDS {
+                changes.extend(changes_of(field(carrier), Some((carrier, status))));
+            }
+        }
+    }
+    changes
+}
+
+impl Change {
+    /// Gives the carrier its status; the state stays in range.
+    pub fn prepare(&self, random: &mut Random, state: &mut RawState) {
+        let Some((carrier, status)) = self.before else {
+            return;
+        };
+        let entry = &mut state.carriers[carrier];
+        *entry = any_carrier(random, status);
+        if random.percent(25) {
+            (entry.slot, entry.bed, entry.needle) = (0, 0, 0);
+        }
+    }
+}
+
+// Several values changed, and random bytes.
+
+fn any_field(random: &mut Random) -> Field {
+    match random.below(8) {
+        0 => Field::Racking,
+        1 => Field::Loops(random.below(HOOKS)),
+        _ => random.pick(&CARRIER_FIELDS)(random.below(CARRIERS)),
+    }
+}
+
+/// Sets two to five fields to values from their lists.
+pub fn change_several(random: &mut Random, state: &mut RawState) {
+    for _ in 0..2 + random.below(4) {
+        let field = any_field(random);
+        let value = random.pick(&field.values());
+        field.set(state, value);
+    }
+}
+
+/// Sets each field of a carrier to a value from its list.
+pub fn change_carrier(random: &mut Random, state: &mut RawState) {
+    let carrier = random.below(CARRIERS);
+    for field in CARRIER_FIELDS {
+        let value = random.pick(&field(carrier).values());
+        field(carrier).set(state, value);
+    }
+}
+
+/// A state of random bytes, at times only in the carriers or only of small ones.
+pub fn random_bytes(random: &mut Random) -> RawState {
+    let bound = random.pick(&[2, 3, 9, 256, 256]);
+    let mut bytes = [0; STATE_BYTES];
+    bytes.fill_with(|| random.below(bound) as u8);
+    let mut state = state_of(&bytes);
+    if random.percent(30) {
+        state.racking = random.racking() as i8;
+        state.loops = any_loops(random);
+    }
+    state
+}
