@@ -18,23 +18,18 @@ use Rattle.machine.proofs.Ranges.{bed-ok}
 use Rattle.record.specs.declared.Record.{Record}
 use Rattle.record.specs.declared.Decoded.{Decoded}
 use Rattle.record.specs.Kinds.{IN, KNIT, byKind, sizeOf, hooksWorked, carriersNamed}
-use Rattle.record.specs.Format.{Encodes, signedOf, rackOk, needleOk, workOk, needle, noNeedle, recordOf, workRecord, byte, carried, fieldsOk, recordAt, refusedAs, readAs, decodeOf, acrossOf}
-use Rattle.record.proofs.Shapes.{Known, in-work, known-size, sized-known, work-size}
+use Rattle.record.specs.Format.{Encodes, signedOf, rackOk, needleOk, workOk, needle, noNeedle, recordOf, workRecord, byte, workFieldsOk, fieldsOk, recordFrom, refusedAs, readAs, decodeOf, acrossOf}
+use Rattle.record.proofs.Shapes.{Known, cond-cases, in-work, known-size, sized-known, work-size}
 use Rattle.record.proofs.Ranges.{InRange, needle-bed, needle-number, work-right, work-bed, work-number, work-low, work-high}
-
--- a choice by a test
-pub cond-cases : {A : Type 0} (P : A → Type 0) (b : Bool) {x y : A} → (b ≡ true → P x) → (b ≡ false → P y) → P (cond b x y)
-cond-cases P true f g = f refl
-cond-cases P false f g = g refl
 
 -- ---- kinds 4 to 8 are read as one
 module _ (l : List ℕ) (h : IN ≤ byte l 0) (j : byte l 0 ≤ KNIT) where
-  pub work-fields : fieldsOk l ≡ carried l
+  pub work-fields : fieldsOk l ≡ workFieldsOk l
   unfolding fieldsOk
   work-fields = simp (ne-eqb (byte l 0) 1 (λ q. omega arith), ne-eqb (byte l 0) 2 (λ q. omega arith), ne-eqb (byte l 0) 3 (λ q. omega arith), ne-eqb (byte l 0) 9 (λ q. omega arith))
 
-  pub work-record : recordAt l ≡ workRecord (byte l 0) (eqb (byte l 1) 1) (needle (byte l 2) (byte l 3)) (byte l 4)
-  unfolding recordAt
+  pub work-record : recordFrom l ≡ workRecord (byte l 0) (eqb (byte l 1) 1) (needle (byte l 2) (byte l 3)) (byte l 4)
+  unfolding recordFrom
   work-record = simp (ne-eqb (byte l 0) 1 (λ q. omega arith), ne-eqb (byte l 0) 2 (λ q. omega arith), ne-eqb (byte l 0) 3 (λ q. omega arith), ne-eqb (byte l 0) 9 (λ q. omega arith))
 
 -- ---- a form decodes to its record, whatever follows it
@@ -54,10 +49,10 @@ record Formed (bytes l : List ℕ) (x : Record) : Type 0 where
   size : sizeOf (byte l 0) ≡ length bytes
   some : 2 ≤ length bytes
   fields : fieldsOk l ≡ true
-  reads : recordAt l ≡ x
+  reads : recordFrom l ≡ x
 
 formed : {bytes : List ℕ} {x : Record} → Encodes bytes x → (rest : List ℕ) → Formed bytes (bytes ++ rest) x
-unfolding byKind fieldsOk recordAt rackOk
+unfolding byKind fieldsOk recordFrom rackOk
 formed (Encodes.rack {b = b} h) rest = record { size = refl; some = omega arith; fields = le-leb (natAbs (signedOf b)) rackingMost h; reads = refl }
 formed (Encodes.drop {bed = bed} {n = n} h i) rest = record { size = refl; some = omega arith; fields = needle-in bed n h i; reads = refl }
 formed (Encodes.xfer {bed = bed} {n = n} {m = m} h i j) rest =
@@ -69,7 +64,7 @@ formed (Encodes.split {right = right} {bed = bed} {n = n} {k = k} {m = m} c d e 
     record { size = refl; some = omega arith; fields = simp (work-in right bed n k c d e f g) (le-leb m lastNeedle h); reads = refl }
 
 -- bytes with a known kind, and with as many as it needs
-pub decode-known : (l : List ℕ) → 0 < length l → (sizeOf (byte l 0) ≡ 0 → ⊥) → decodeOf l ≡ readAs l (sizeOf (byte l 0)) (fieldsOk l) (recordAt l)
+pub decode-known : (l : List ℕ) → 0 < length l → (sizeOf (byte l 0) ≡ 0 → ⊥) → decodeOf l ≡ readAs l (sizeOf (byte l 0)) (fieldsOk l) (recordFrom l)
 unfolding decodeOf
 decode-known l h k = simp (ne-eqb (length l) 0 (λ q. omega arith), ne-eqb (sizeOf (byte l 0)) 0 k)
 
@@ -92,7 +87,7 @@ form-decode {bytes} {x} form rest =
     let f = formed form rest in
     let long = length-append bytes rest in
     let l = bytes ++ rest in
-    decode-known l (omega (arith, f .some)) (λ q. omega (arith, f .some, f .size)) ∙ read-long l (sizeOf (byte l 0)) (fieldsOk l) (recordAt l) (omega (arith, f .size))
+    decode-known l (omega (arith, f .some)) (λ q. omega (arith, f .some, f .size)) ∙ read-long l (sizeOf (byte l 0)) (fieldsOk l) (recordFrom l) (omega (arith, f .size))
     ∙ simp (f .fields, f .size, f .reads)
 
 -- ---- every list of bytes is one of five
@@ -102,7 +97,7 @@ pub data Reads (l : List ℕ) : Decoded → Type 0 where
   short : (sizeOf (byte l 0) ≡ 0 → ⊥) → 0 < length l → length l < sizeOf (byte l 0) → Reads l (refusedAs 4)
   outside : (sizeOf (byte l 0) ≡ 0 → ⊥) → sizeOf (byte l 0) ≤ length l → fieldsOk l ≡ false → Reads l (refusedAs 5)
   done : (sizeOf (byte l 0) ≡ 0 → ⊥) → sizeOf (byte l 0) ≤ length l → fieldsOk l ≡ true
-      → Reads l (record { number = 0; size = sizeOf (byte l 0); what = recordAt l })
+      → Reads l (record { number = 0; size = sizeOf (byte l 0); what = recordFrom l })
 
 pub reads : (l : List ℕ) → Reads l (decodeOf l)
 unfolding decodeOf readAs
@@ -124,18 +119,18 @@ module _ (l : List ℕ) where
   kept n i h = getD-take n l i 0 h
 
   abbrev Alike : ℕ → Type 0
-  Alike n = (fieldsOk (take n l) ≡ fieldsOk l) × (recordAt (take n l) ≡ recordAt l)
+  Alike n = (fieldsOk (take n l) ≡ fieldsOk l) × (recordFrom (take n l) ≡ recordFrom l)
 
   rack-alike : byte l 0 ≡ 1 → Alike 2
-  unfolding fieldsOk recordAt
+  unfolding fieldsOk recordFrom
   rack-alike e = let b = kept 2 0 (omega arith) in let c = kept 2 1 (omega arith) in (simp (b, c, e), simp (b, c, e))
 
   drop-alike : byte l 0 ≡ 2 → Alike 3
-  unfolding fieldsOk recordAt
+  unfolding fieldsOk recordFrom
   drop-alike e = let b = kept 3 0 (omega arith) in let c = kept 3 1 (omega arith) in let d = kept 3 2 (omega arith) in (simp (b, c, d, e), simp (b, c, d, e))
 
   xfer-alike : byte l 0 ≡ 3 → Alike 4
-  unfolding fieldsOk recordAt
+  unfolding fieldsOk recordFrom
   xfer-alike e =
       let b = kept 4 0 (omega arith) in let c = kept 4 1 (omega arith) in let d = kept 4 2 (omega arith) in let f = kept 4 3 (omega arith) in
       (simp (b, c, d, f, e), simp (b, c, d, f, e))
@@ -149,7 +144,7 @@ module _ (l : List ℕ) where
       (work-fields (take 5 l) low high ∙ simp (c, d, e, f) (sym (work-fields l h j)), work-record (take 5 l) low high ∙ simp (b, c, d, e, f) (sym (work-record l h j)))
 
   split-alike : byte l 0 ≡ 9 → Alike 6
-  unfolding fieldsOk recordAt
+  unfolding fieldsOk recordFrom
   split-alike e =
       let b = kept 6 0 (omega arith) in let c = kept 6 1 (omega arith) in let d = kept 6 2 (omega arith) in let f = kept 6 3 (omega arith) in
       let g = kept 6 4 (omega arith) in let h = kept 6 5 (omega arith) in
@@ -177,10 +172,10 @@ module _ (l : List ℕ) where
       let long = length-take-le n l h in
       let some : sizeOf (byte l 0) ≡ 0 → ⊥ = λ q. omega arith in
       let (f, x) = alike (sized-known (byte l 0) some) in
-      decode-known (take n l) (omega arith) (λ q. some (ap sizeOf (sym b) ∙ q)) ∙ ap (λ (k : ℕ). readAs (take n l) (sizeOf k) (fieldsOk (take n l)) (recordAt (take n l))) b
-      ∙ read-long (take n l) n (fieldsOk (take n l)) (recordAt (take n l)) (omega arith)
+      decode-known (take n l) (omega arith) (λ q. some (ap sizeOf (sym b) ∙ q)) ∙ ap (λ (k : ℕ). readAs (take n l) (sizeOf k) (fieldsOk (take n l)) (recordFrom (take n l))) b
+      ∙ read-long (take n l) n (fieldsOk (take n l)) (recordFrom (take n l)) (omega arith)
       ∙ (λ i. cond (f i) (record { number = 0; size = n; what = x i }) (refusedAs 5))
-      ∙ sym (read-long l n (fieldsOk l) (recordAt l) h) ∙ sym (decode-known l (omega arith) some)
+      ∙ sym (read-long l n (fieldsOk l) (recordFrom l) h) ∙ sym (decode-known l (omega arith) some)
 
 -- without a byte, with an unknown kind, with too few bytes
 pub decode-none : (l : List ℕ) → length l ≡ 0 → decodeOf l ≡ refusedAs 4
@@ -192,7 +187,7 @@ unfolding decodeOf
 decode-strange l h z = simp (ne-eqb (length l) 0 (λ q. omega arith), z)
 
 pub decode-short : (l : List ℕ) → 0 < length l → length l < sizeOf (byte l 0) → decodeOf l ≡ refusedAs 4
-decode-short l h z = decode-known l h (λ q. omega arith) ∙ read-cut l (sizeOf (byte l 0)) (fieldsOk l) (recordAt l) z
+decode-short l h z = decode-known l h (λ q. omega arith) ∙ read-cut l (sizeOf (byte l 0)) (fieldsOk l) (recordFrom l) z
 
 -- ---- the form at the front of the bytes
 bytesFrom : ℕ → ℕ → List ℕ → List ℕ
@@ -207,18 +202,18 @@ front (suc n) i l h = ap (take (suc n)) (drop-cons l i 0 (omega arith)) ∙ ap (
 -- bytes whose fields are in range are a form
 module _ (l : List ℕ) (t : fieldsOk l ≡ true) where
   abbrev Form : ℕ → Type 0
-  Form n = Encodes (bytesFrom n 0 l) (recordAt l)
+  Form n = Encodes (bytesFrom n 0 l) (recordFrom l)
 
   rack-form : byte l 0 ≡ 1 → Form 2
-  unfolding fieldsOk recordAt rackOk bytesFrom
+  unfolding fieldsOk recordFrom rackOk bytesFrom
   rack-form e = simp e (Encodes.rack (leb-true (natAbs (signedOf (byte l 1))) rackingMost (simp e at t)))
 
   drop-form : byte l 0 ≡ 2 → Form 3
-  unfolding fieldsOk recordAt bytesFrom
+  unfolding fieldsOk recordFrom bytesFrom
   drop-form e = let u = simp e at t in simp e (Encodes.drop (needle-bed (byte l 1) (byte l 2) u) (needle-number (byte l 1) (byte l 2) u))
 
   xfer-form : byte l 0 ≡ 3 → Form 4
-  unfolding fieldsOk recordAt bytesFrom
+  unfolding fieldsOk recordFrom bytesFrom
   xfer-form e =
       let (p, q) = and-two (needleOk (byte l 1) (byte l 2)) (numberOk (byte l 3)) (simp e at t) in
       simp e (Encodes.xfer (needle-bed (byte l 1) (byte l 2) p) (needle-number (byte l 1) (byte l 2) p) (leb-true (byte l 3) lastNeedle q))
@@ -231,9 +226,9 @@ module _ (l : List ℕ) (t : fieldsOk l ≡ true) where
       (work-number (byte l 1) (byte l 2) (byte l 3) (byte l 4) p) (work-low (byte l 1) (byte l 2) (byte l 3) (byte l 4) p) (work-high (byte l 1) (byte l 2) (byte l 3) (byte l 4) p))
 
   split-form : byte l 0 ≡ 9 → Form 6
-  unfolding fieldsOk recordAt bytesFrom
+  unfolding fieldsOk recordFrom bytesFrom
   split-form e =
-      let (p, q) = and-two (carried l) (numberOk (byte l 5)) (simp e at t) in
+      let (p, q) = and-two (workFieldsOk l) (numberOk (byte l 5)) (simp e at t) in
       simp e (Encodes.split (work-right (byte l 1) (byte l 2) (byte l 3) (byte l 4) p) (work-bed (byte l 1) (byte l 2) (byte l 3) (byte l 4) p)
       (work-number (byte l 1) (byte l 2) (byte l 3) (byte l 4) p) (work-low (byte l 1) (byte l 2) (byte l 3) (byte l 4) p) (work-high (byte l 1) (byte l 2) (byte l 3) (byte l 4) p)
       (leb-true (byte l 5) lastNeedle q))
@@ -263,7 +258,7 @@ pub record Decodes (l : List ℕ) (d : Decoded) : Type 0 where
   pub long : d .size ≤ length l
   pub kind : d .size ≡ sizeOf (byte l 0)
   pub known : Known (byte l 0)
-  pub what : d .what ≡ recordAt l
+  pub what : d .what ≡ recordFrom l
   pub form : Encodes (take (d .size) l) (d .what)
 
 read-done : {l : List ℕ} {d : Decoded} → Reads l d → d .number ≡ 0 → Decodes l d
@@ -279,7 +274,7 @@ read-done {l} (Reads.done f a b) e =
       kind = refl;
       known = k;
       what = refl;
-      form = subst (λ (t : List ℕ). Encodes t (recordAt l)) (sym (front (sizeOf (byte l 0)) 0 l (omega arith))) (fields-form l b k);
+      form = subst (λ (t : List ℕ). Encodes t (recordFrom l)) (sym (front (sizeOf (byte l 0)) 0 l (omega arith))) (fields-form l b k);
     }
 
 module _ (l : List ℕ) (e : decodeOf l .number ≡ 0) where

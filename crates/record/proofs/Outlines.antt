@@ -6,7 +6,7 @@ use native.Mathlib.Omega.{arith}
 use lib.ListN.{length}
 use Rattle.record.specs.declared.Record.{Record}
 use Rattle.record.specs.Kinds.{RACK, DROP, XFER, IN, KNIT, SPLIT, byKind, sizeOf}
-use Rattle.record.specs.Format.{byte, needle, noNeedle, recordAt, decodeOf}
+use Rattle.record.specs.Format.{byte, needle, noNeedle, recordFrom, decodeOf}
 use Rattle.record.specs.Names.{outlineAt, outlineOf}
 use Rattle.record.proofs.Shapes.{Known}
 use Rattle.record.proofs.Forms.{Decodes, decodes, work-record}
@@ -18,12 +18,12 @@ module _ (l : List ℕ) where
     bare : DROP ≤ byte l 0 → byte l 0 ≤ XFER → 3 ≤ length l → outlineAt (byte l 0) (needle (byte l 1) (byte l 2)) 0 ≡ x → Outlined x
     carried : XFER < byte l 0 → 5 ≤ length l → outlineAt (byte l 0) (needle (byte l 2) (byte l 3)) (byte l 4) ≡ x → Outlined x
 
-  work-outline : IN ≤ byte l 0 → byte l 0 ≤ KNIT → outlineAt (byte l 0) (needle (byte l 2) (byte l 3)) (byte l 4) ≡ outlineOf (recordAt l)
+  work-outline : IN ≤ byte l 0 → byte l 0 ≤ KNIT → outlineAt (byte l 0) (needle (byte l 2) (byte l 3)) (byte l 4) ≡ outlineOf (recordFrom l)
   unfolding outlineOf
   work-outline h j = simp (work-record l h j)
 
-  outline-at : Known (byte l 0) → sizeOf (byte l 0) ≤ length l → Outlined (outlineOf (recordAt l))
-  unfolding byKind outlineOf recordAt
+  outline-at : Known (byte l 0) → sizeOf (byte l 0) ≤ length l → Outlined (outlineOf (recordFrom l))
+  unfolding byKind outlineOf recordFrom
   outline-at (Known.rack e) h = Outlined.rack e (simp e)
   outline-at (Known.drop e) h = Outlined.bare (omega arith) (omega arith) (simp e at h) (simp e)
   outline-at (Known.xfer e) h = let k : 4 ≤ length l = simp e at h in Outlined.bare (omega arith) (omega arith) (omega arith) (simp e)

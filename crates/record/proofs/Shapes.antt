@@ -2,9 +2,10 @@
 use borrow.Table.Steps.{cases}
 use Prim.Native.Nat.{ℕ, _≤_, _<_}
 use mathlib.Core.Path.{_≡_, refl, sym, subst}
+use mathlib.Core.Bool.{Bool, true, false, cond}
 use native.Mathlib.Omega.{arith}
-use lib.Dec.{eqb}
-use borrow.Author.Tests.{eqb-true, eqb-false, ne-eqb}
+use lib.Dec.{eqb, leb}
+use borrow.Author.Tests.{eqb-true, eqb-false, ne-eqb, leb-true, leb-false}
 use Rattle.record.specs.Kinds.{RACK, DROP, XFER, IN, OUT, MISS, TUCK, KNIT, SPLIT, byKind, sizeOf, hooksWorked, carriersNamed, loopsFormed}
 
 -- a known kind, by its name
@@ -19,7 +20,11 @@ pub data Known (k : ℕ) : Type 0 where
   knit : k ≡ KNIT → Known k
   split : k ≡ SPLIT → Known k
 
--- a case by a kind
+-- a choice by a test, and a case by a number
+pub cond-cases : {A : Type 0} (P : A → Type 0) (b : Bool) {x y : A} → (b ≡ true → P x) → (b ≡ false → P y) → P (cond b x y)
+cond-cases P true f g = f refl
+cond-cases P false f g = g refl
+
 pub is : {G : Type 0} (k n : ℕ) → (k ≡ n → G) → ((k ≡ n → ⊥) → G) → G
 is k n f g = cases (eqb k n) (λ t. f (eqb-true k n t)) (λ t. g (eqb-false k n t))
 
@@ -47,6 +52,14 @@ named k =
     none a b c d f g h i j (Known.tuck e) = h e
     none a b c d f g h i j (Known.knit e) = i e
     none a b c d f g h i j (Known.split e) = j e
+
+-- what holds of the value of each kind, and of 0, holds of every number's
+pub any-kind : (P : ℕ → Type 0) {a b c d f g h i j : ℕ} → P a → P b → P c → P d → P f → P g → P h → P i → P j → P 0 → (k : ℕ) → P (byKind a b c d f g h i j k)
+unfolding byKind
+any-kind P pa pb pc pd pf pg ph pi pj p0 k =
+    cond-cases P (eqb k RACK) (λ e. pa) (λ e. cond-cases P (eqb k DROP) (λ e. pb) (λ e. cond-cases P (eqb k XFER) (λ e. pc) (λ e. cond-cases P (eqb k IN) (λ e. pd)
+    (λ e. cond-cases P (eqb k OUT) (λ e. pf) (λ e. cond-cases P (eqb k MISS) (λ e. pg) (λ e. cond-cases P (eqb k TUCK) (λ e. ph) (λ e. cond-cases P (eqb k KNIT) (λ e. pi)
+    (λ e. cond-cases P (eqb k SPLIT) (λ e. pj) (λ e. p0)))))))))
 
 -- what holds at each named kind holds at every known one
 pub at-known : (P : ℕ → Type 0) → P RACK → P DROP → P XFER → P IN → P OUT → P MISS → P TUCK → P KNIT → P SPLIT → {k : ℕ} → Known k → P k
@@ -85,6 +98,39 @@ unfolding byKind
 carrying =
     at-known (λ (k : ℕ). IN ≤ k → 1 ≤ carriersNamed k) (λ h. omega arith) (λ h. omega arith) (λ h. omega arith) (λ h. omega arith) (λ h. omega arith) (λ h. omega arith)
     (λ h. omega arith) (λ h. omega arith) (λ h. omega arith)
+
+pub carrier-named : (k : ℕ) → IN ≤ k → k ≤ SPLIT → carriersNamed k ≡ 1
+unfolding byKind
+carrier-named k h j =
+    is k IN (λ e. simp e) (λ a. is k OUT (λ e. simp e) (λ b. is k MISS (λ e. simp e) (λ c. is k TUCK (λ e. simp e) (λ d. is k KNIT (λ e. simp e)
+    (λ f. let e : k ≡ SPLIT = omega arith in simp e)))))
+
+pub carrier-unnamed : (k : ℕ) → (IN ≤ k → k ≤ SPLIT → ⊥) → carriersNamed k ≡ 0
+unfolding byKind
+carrier-unnamed k w =
+    is k RACK (λ e. simp e) (λ a. is k DROP (λ e. simp e) (λ b. is k XFER (λ e. simp e)
+    (λ c. simp (
+      ne-eqb k 1 a,
+      ne-eqb k 2 b,
+      ne-eqb k 3 c,
+      ne-eqb k 4 (λ e. w (omega arith) (omega arith)),
+      ne-eqb k 5 (λ e. w (omega arith) (omega arith)),
+      ne-eqb k 6 (λ e. w (omega arith) (omega arith)),
+      ne-eqb k 7 (λ e. w (omega arith) (omega arith)),
+      ne-eqb k 8 (λ e. w (omega arith) (omega arith)),
+      ne-eqb k 9 (λ e. w (omega arith) (omega arith)),
+    ))))
+
+-- one or none
+at-most-one : (k : ℕ) → carriersNamed k ≤ 1
+at-most-one =
+    any-kind (λ (n : ℕ). n ≤ 1) (omega arith) (omega arith) (omega arith) (omega arith) (omega arith) (omega arith) (omega arith) (omega arith) (omega arith) (omega arith)
+
+pub one-carrier : (k : ℕ) → leb 1 (carriersNamed k) ≡ true → carriersNamed k ≡ 1
+one-carrier k e = omega (arith, at-most-one k, leb-true 1 (carriersNamed k) e)
+
+pub no-carrier : (k : ℕ) → leb 1 (carriersNamed k) ≡ false → carriersNamed k ≡ 0
+no-carrier k e = omega (arith, leb-false 1 (carriersNamed k) e)
 
 -- ---- kinds by what they do
 -- those that form a loop
@@ -174,6 +220,40 @@ forms-none k h =
       ne-eqb k 8 (λ e. h (omega arith) (omega arith)),
       ne-eqb k 9 (λ e. h (omega arith) (omega arith)),
     )))))))
+
+-- what forms a loop works a hook, a tuck does
+pub formed-works : (k : ℕ) → 1 ≤ loopsFormed k → 1 ≤ hooksWorked k
+unfolding byKind
+formed-works k h = go (named k)
+  where
+    at-split : TUCK ≤ k → k ≤ SPLIT → Known k
+    at-split p q = is k TUCK Known.tuck (λ a. is k KNIT Known.knit (λ b. Known.split (omega arith)))
+
+    go : Named k → 1 ≤ hooksWorked k
+    go (Named.known a) = at-known (λ (n : ℕ). 1 ≤ loopsFormed n → 1 ≤ hooksWorked n) (λ q. omega arith) (λ q. omega arith) (λ q. omega arith) (λ q. omega arith) (λ q. omega arith)
+        (λ q. omega arith) (λ q. omega arith) (λ q. omega arith) (λ q. omega arith) a h
+    go (Named.unknown d z) = absurd (omega (arith, h, forms-none k (λ p q. d (at-split p q))))
+
+pub tuck-works : {k : ℕ} → k ≡ TUCK → 1 ≤ hooksWorked k
+unfolding byKind
+tuck-works e = simp e (omega arith)
+
+-- a kind that names no carrier
+pub record Uncarried (k : ℕ) : Type 0 where
+  pub not-in : k ≡ IN → ⊥
+  pub not-out : k ≡ OUT → ⊥
+  pub not-miss : k ≡ MISS → ⊥
+  pub forms-none : loopsFormed k ≡ 0
+
+pub uncarried : (k : ℕ) → carriersNamed k ≡ 0 → Uncarried k
+uncarried k e =
+    let out : IN ≤ k → k ≤ SPLIT → ⊥ = λ h j. omega (arith, e, carrier-named k h j) in
+    record {
+      not-in = λ q. out (omega arith) (omega arith);
+      not-out = λ q. out (omega arith) (omega arith);
+      not-miss = λ q. out (omega arith) (omega arith);
+      forms-none = forms-none k (λ h j. out (omega arith) j);
+    }
 
 -- ---- kinds 4 to 8 have a four-byte body
 pub above-bare : (k : ℕ) → 1 ≤ k → (k ≡ RACK → ⊥) → (k ≡ DROP → ⊥) → (k ≡ XFER → ⊥) → IN ≤ k

@@ -72,19 +72,19 @@ abbrev pub byte : List ℕ → ℕ → ℕ
 byte l i = getD l i 0
 
 -- of bytes with a known kind, as many as it needs: whether the fields are in range, and the record
-abbrev pub carried : List ℕ → Bool
-carried l = workOk (byte l 1) (byte l 2) (byte l 3) (byte l 4)
+abbrev pub workFieldsOk : List ℕ → Bool
+workFieldsOk l = workOk (byte l 1) (byte l 2) (byte l 3) (byte l 4)
 
 unfoldable pub fieldsOk : List ℕ → Bool
 fieldsOk l =
     cond (eqb (byte l 0) RACK) (rackOk (byte l 1))
     (cond (eqb (byte l 0) DROP) (needleOk (byte l 1) (byte l 2))
     (cond (eqb (byte l 0) XFER) (needleOk (byte l 1) (byte l 2) && numberOk (byte l 3))
-    (cond (eqb (byte l 0) SPLIT) (carried l && numberOk (byte l 5))
-    (carried l))))
+    (cond (eqb (byte l 0) SPLIT) (workFieldsOk l && numberOk (byte l 5))
+    (workFieldsOk l))))
 
-unfoldable pub recordAt : List ℕ → Record
-recordAt l =
+unfoldable pub recordFrom : List ℕ → Record
+recordFrom l =
     cond (eqb (byte l 0) RACK) (rackRecord (signedOf (byte l 1)))
     (cond (eqb (byte l 0) DROP) (dropRecord (needle (byte l 1) (byte l 2)))
     (cond (eqb (byte l 0) XFER) (xferRecord (needle (byte l 1) (byte l 2)) (needle (1 - byte l 1) (byte l 3)))
@@ -103,7 +103,7 @@ unfoldable pub decodeOf : List ℕ → Decoded
 decodeOf l =
     cond (eqb (length l) 0) (refusedAs 4)
     (cond (eqb (sizeOf (byte l 0)) 0) (refusedAs 3)
-    (readAs l (sizeOf (byte l 0)) (fieldsOk l) (recordAt l)))
+    (readAs l (sizeOf (byte l 0)) (fieldsOk l) (recordFrom l)))
 
 -- a record read so far, with its second needle, of this number and on the other bed
 unfoldable pub acrossOf : Decoded → ℕ → Decoded

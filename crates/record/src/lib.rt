@@ -1,10 +1,10 @@
 // The byte format: the kinds and lengths of records, their fields, and a record decoded.
 ghost use mathlib.Core.Path.{_≡_};
 ghost use Prim.Native.Nat.{_≤_, _<_};
-ghost use lib.Dec.{eqb};
+ghost use lib.Dec.{eqb, leb};
 ghost use lib.ListN.{length, getD};
-ghost use Rattle.record.specs.Kinds.{RACK, sizeOf};
-ghost use Rattle.record.specs.Format.{signedOf, rackOk, needleOk, workOk, needle, noNeedle, rackRecord, bareRecord, workRecord, byte, carried, refusedAs, readAs, decodeOf, acrossOf};
+ghost use Rattle.record.specs.Kinds.{RACK, sizeOf, carriersNamed};
+ghost use Rattle.record.specs.Format.{signedOf, rackOk, needleOk, workOk, needle, noNeedle, rackRecord, bareRecord, workRecord, byte, workFieldsOk, refusedAs, readAs, decodeOf, acrossOf};
 ghost use Rattle.record.specs.Names.{outlineOf};
 use machine::Needle;
 use machine::Racking;
@@ -61,6 +61,16 @@ pub fn size_of(kind: u8) -> usize
         IN..=KNIT => 5,
         SPLIT => 6,
         _ => 0,
+    }
+}
+
+// Whether a record of this kind names a carrier.
+pub fn names_carrier(kind: u8) -> bool
+    ensures { λ b. ⌜ b ≡ leb 1 (carriersNamed kind) ⌝ }
+{
+    match kind {
+        IN..=SPLIT => true,
+        _ => false,
     }
 }
 
@@ -182,7 +192,7 @@ fn bare(kind: u8, l: &[u8]) -> Decoded
 // needle more.
 fn work(kind: u8, l: &[u8]) -> Decoded
     requires { ⌜ 5 ≤ sizeOf kind ⌝ }
-    ensures { λ d. ⌜ d ≡ readAs (now (l .entry)) (sizeOf kind) (carried (now (l .entry))) (workRecord kind (eqb (byte (now (l .entry)) 1) 1) (needle (byte (now (l .entry)) 2) (byte (now (l .entry)) 3)) (byte (now (l .entry)) 4)) ⌝ }
+    ensures { λ d. ⌜ d ≡ readAs (now (l .entry)) (sizeOf kind) (workFieldsOk (now (l .entry))) (workRecord kind (eqb (byte (now (l .entry)) 1) 1) (needle (byte (now (l .entry)) 2) (byte (now (l .entry)) 3)) (byte (now (l .entry)) 4)) ⌝ }
 {
     let size = size_of(kind);
     if l.len() < size {

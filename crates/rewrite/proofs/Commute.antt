@@ -8,23 +8,23 @@ use mathlib.Core.Option.{Option, none}
 use native.Mathlib.Omega.{arith}
 use lib.ListN.{getD}
 use lib.Dec.{eqb, leb}
-use borrow.Author.Tests.{eq-eqb, ne-eqb, eqb-true, eqb-false, leb-false, lt-leb, le-leb}
+use borrow.Author.Tests.{eq-eqb, ne-eqb, eqb-true, eqb-false, leb-true}
 use Rattle.machine.specs.declared.Needle.{Needle}
 use Rattle.machine.specs.declared.Racking.{Racking}
 use Rattle.machine.specs.declared.Carrier.{Carrier}
 use Rattle.machine.specs.declared.State.{State}
-use Rattle.machine.specs.Machine.{inactive, hookOf, sameNeedle, attachedAt, movedTo}
+use Rattle.machine.specs.Machine.{inactive, changed, hookOf, sameNeedle, attachedAt, movedTo}
 use Rattle.machine.specs.Geometry.{columnOf, sameColumn}
 use Rattle.machine.proofs.Signed.{eqZ-true}
 use Rattle.machine.proofs.Laws.{and-two}
 use Rattle.record.specs.declared.Record.{Record}
-use Rattle.record.specs.Names.{needleCount}
+use Rattle.record.specs.Kinds.{IN, OUT, MISS, TUCK, byKind, hooksWorked, carriersNamed, loopsFormed}
+use Rattle.record.specs.Names.{isRack, rackingAfter}
 use Rattle.record.proofs.Ranges.{InRange}
 use Rattle.run.specs.Step.{lookOf, Seen, seeOf, orNumber, carrierNo, oppositeNo, firstAfter, secondAfter, roomNo, decidedNo, edit, stored, Act, actOf, acted, moveAttachments, numberAt, applyOf}
-use Rattle.run.specs.Step.{rackingAfter as rackingLeft}
-use Rattle.run.proofs.Premises.{is}
+use Rattle.record.proofs.Shapes.{is, one-carrier, no-carrier, uncarried, formed-works, tuck-works}
 use Rattle.trace.specs.Machine.{andThen}
-use Rattle.rewrite.specs.Extents.{extentOf, meets, shareCarrier, isRack, rackingAfter}
+use Rattle.rewrite.specs.Extents.{extentOf, meets, shareCarrier}
 use Rattle.rewrite.proofs.Machine.{stepped}
 use Rattle.rewrite.proofs.Edits.{Away, Apart, apart-sym, edit-other, edit-edit, map-at, map-edit, map-map}
 use Rattle.rewrite.proofs.Footprints.{hooksOf, placesOf, first-hook, second-hook, carrier-place, Settled, hooks-apart, carriers-apart}
@@ -32,46 +32,46 @@ use Rattle.rewrite.proofs.Footprints.{hooksOf, placesOf, first-hook, se
 -- ---- a decision rests on what the record works and names
 record Agree (x : Record) (a b : Seen) : Type 0 where
   racking : a .racking ≡ b .racking
-  here : 1 ≤ needleCount (x .kind) → a .here ≡ b .here
-  there : needleCount (x .kind) ≡ 2 → a .there ≡ b .there
-  look : leb (x .kind) 3 ≡ false → a .look ≡ b .look
+  limit : a .limit ≡ b .limit
+  here : 1 ≤ hooksWorked (x .kind) → a .here ≡ b .here
+  there : hooksWorked (x .kind) ≡ 2 → a .there ≡ b .there
+  look : carriersNamed (x .kind) ≡ 1 → a .look ≡ b .look
 
--- tuck, knit and split work a hook
-forms : (k : ℕ) → 7 ≤ k → 1 ≤ needleCount k
-unfolding needleCount
-forms k h =
-    simp (lt-leb k 1 (omega arith), ne-eqb k 2 (λ e. omega arith), ne-eqb k 3 (λ e. omega arith), lt-leb k 6 (omega arith))
-    (cases (leb k 8) (λ e. simp e (omega arith)) (λ e. simp e (omega arith)))
+-- a record that names no carrier asks nothing of one
+unasked : (x : Record) (v : Seen) → carriersNamed (x .kind) ≡ 0 → carrierNo x (v .racking) (v .look) ≡ 0
+unfolding carrierNo
+unasked x v e =
+    let u = uncarried (x .kind) e in
+    simp (ne-eqb (x .kind) IN (u .not-in), ne-eqb (x .kind) OUT (u .not-out), ne-eqb (x .kind) MISS (u .not-miss), ap (leb 1) (u .forms-none))
 
 module _ (x : Record) (a b : Seen) (g : Agree x a b) where
   same-carrier : carrierNo x (a .racking) (a .look) ≡ carrierNo x (b .racking) (b .look)
   unfolding carrierNo
-  same-carrier = cases (leb (x .kind) 3) (λ e. rw e) (λ e. let l = g .look e in rw (e, l, g .racking))
+  same-carrier =
+      cases (leb 1 (carriersNamed (x .kind))) (λ e. let l = g .look (one-carrier (x .kind) e) in rw (l, g .racking))
+      (λ e. let z = no-carrier (x .kind) e in unasked x a z ∙ sym (unasked x b z))
 
   same-first : firstAfter (x .kind) (a .here) ≡ firstAfter (x .kind) (b .here)
   unfolding firstAfter
   same-first =
-      cases (eqb (x .kind) 7) (λ e. let h = g .here (forms (x .kind) (omega (arith, eqb-true (x .kind) 7 e))) in rw (e, h)) (λ e. rw e)
+      cases (eqb (x .kind) TUCK) (λ e. let h = g .here (tuck-works (eqb-true (x .kind) TUCK e)) in rw (e, h)) (λ e. rw e)
 
   same-second : secondAfter (x .kind) (a .here) (a .there) ≡ secondAfter (x .kind) (b .here) (b .there)
   unfolding secondAfter
   same-second =
-      cases (eqb (needleCount (x .kind)) 2)
-      (λ e. let t = eqb-true (needleCount (x .kind)) 2 e in let h = g .here (omega arith) in let k = g .there t in rw (e, h, k))
+      cases (eqb (hooksWorked (x .kind)) 2)
+      (λ e. let t = eqb-true (hooksWorked (x .kind)) 2 e in let h = g .here (omega arith) in let k = g .there t in rw (e, h, k))
       (λ e. rw e)
 
   same-number : decidedNo x a ≡ decidedNo x b
   unfolding decidedNo roomNo
-  same-number = cc (same-carrier, same-first, same-second, g .racking)
+  same-number = cc (same-carrier, same-first, same-second, g .racking, g .limit)
 
 -- the state after a record, by what it saw
 abbrev after : State → Record → Seen → State
 after s x v =
-    record {
-      racking = rackingLeft x (v .racking);
-      loops = edit stored 0 (hooksOf x) (firstAfter (x .kind) (v .here) ∷ secondAfter (x .kind) (v .here) (v .there) ∷ []) (s .loops);
-      carriers = edit acted inactive (placesOf x) (actOf x (v .racking) ∷ []) (moveAttachments x (s .carriers));
-    }
+    changed s (rackingAfter (v .racking) x) (edit stored 0 (hooksOf x) (firstAfter (x .kind) (v .here) ∷ secondAfter (x .kind) (v .here) (v .there) ∷ []) (s .loops))
+    (edit acted inactive (placesOf x) (actOf x (v .racking) ∷ []) (moveAttachments x (s .carriers)))
 
 after-is : (s : State) (x : Record) → applyOf s x ≡ after s x (seeOf s x)
 unfolding applyOf seeOf
@@ -121,13 +121,13 @@ moved-moved a b c d p q w k =
     (λ g. let h : sameNeedle (k .needle) c ≡ false = ap (λ (n : Needle). sameNeedle n c) (needle-eq (k .needle) a g) ∙ p in simp (t, g, h, w))
     (λ g. cases (sameNeedle (k .needle) c) (λ h. simp (t, g, h, q)) (λ h. simp (t, g, h))))
 
-act-free : (x : Record) (r : Racking) (a : Needle) → (1 ≤ needleCount (x .kind) → sameNeedle (x .at) a ≡ false) → Free a (actOf x r)
+act-free : (x : Record) (r : Racking) (a : Needle) → (1 ≤ hooksWorked (x .kind) → sameNeedle (x .at) a ≡ false) → Free a (actOf x r)
 unfolding actOf
 act-free x r a h =
-    cases (leb (x .kind) 4) (λ e. rw e (λ k. refl))
-    (λ e. cases (eqb (x .kind) 5) (λ f. rw (e, f) (λ k. refl))
-    (λ f. cases (eqb (x .kind) 6) (λ g. rw (e, f, g) (λ k. absurd (true≢false k)))
-    (λ g. rw (e, f, g) (λ k. rw (h (forms (x .kind) (omega (arith, leb-false (x .kind) 4 e, eqb-false (x .kind) 5 f, eqb-false (x .kind) 6 g)))) (and-false (not (eqb (cond (x .right) 2 1) 0)))))))
+    cases (leb 1 (loopsFormed (x .kind)))
+    (λ e. rw e (λ k. rw (h (formed-works (x .kind) (leb-true 1 (loopsFormed (x .kind)) e))) (and-false (not (eqb (cond (x .right) 2 1) 0)))))
+    (λ e. cases (eqb (x .kind) OUT) (λ f. rw (e, f) (λ k. refl))
+    (λ f. cases (eqb (x .kind) MISS) (λ g. rw (e, f, g) (λ k. absurd (true≢false k))) (λ g. rw (e, f, g) (λ k. refl))))
 
 inactive-moved : (a b : Needle) → movedTo a b inactive ≡ inactive
 unfolding movedTo attachedAt
@@ -135,25 +135,25 @@ inactive-moved a b = refl
 
 -- ---- records apart at a racking
 record Clear (r : Racking) (x y : Record) : Type 0 where
-  racking : rackingLeft y r ≡ r
-  opposite : needleCount (y .kind) ≡ 2 → columnOf (y .at) r ≡ columnOf (y .to) r
+  racking : rackingAfter r y ≡ r
+  opposite : hooksWorked (y .kind) ≡ 2 → columnOf (y .at) r ≡ columnOf (y .to) r
   hooks : Apart (hooksOf x) (hooksOf y)
   carriers : Apart (placesOf x) (placesOf y)
 
 module _ (s : State) (x y : Record) (C : Clear (s .racking) x y) where
   -- hooks of x are none of y's
-  first-away : 1 ≤ needleCount (x .kind) → Away (hookOf (x .at)) (hooksOf y)
+  first-away : 1 ≤ hooksWorked (x .kind) → Away (hookOf (x .at)) (hooksOf y)
   first-away t = first-hook (λ (i : ℕ). Away i (hooksOf y)) x (C .hooks) t
 
-  second-away : needleCount (x .kind) ≡ 2 → Away (hookOf (x .to)) (hooksOf y)
+  second-away : hooksWorked (x .kind) ≡ 2 → Away (hookOf (x .to)) (hooksOf y)
   second-away t = second-hook (λ (i : ℕ). Away i (hooksOf y)) x (C .hooks) t
 
   look-kept : (cs : List Carrier) (i : ℕ) → lookOf (s .racking) (getD (moveAttachments y cs) i inactive) ≡ lookOf (s .racking) (getD cs i inactive)
   unfolding moveAttachments
   look-kept cs i =
-      cases (eqb (needleCount (y .kind)) 2)
+      cases (eqb (hooksWorked (y .kind)) 2)
       (λ e. rw e (ap (lookOf (s .racking)) (map-at acted inactive (movedTo (y .at) (y .to)) (inactive-moved (y .at) (y .to)) cs i)
-      ∙ look-moved (s .racking) (y .at) (y .to) (getD cs i inactive) (C .opposite (eqb-true (needleCount (y .kind)) 2 e))))
+      ∙ look-moved (s .racking) (y .at) (y .to) (getD cs i inactive) (C .opposite (eqb-true (hooksWorked (y .kind)) 2 e))))
       (λ e. rw e)
 
   -- after y, x sees what it saw
@@ -162,6 +162,7 @@ module _ (s : State) (x y : Record) (C : Clear (s .racking) x y) where
   still-seen =
       record {
         racking = C .racking;
+        limit = refl;
         here = λ t. edit-other stored 0 (hooksOf y) _ (s .loops) (hookOf (x .at)) (first-away t);
         there = λ t. edit-other stored 0 (hooksOf y) _ (s .loops) (hookOf (x .to)) (second-away t);
         look = λ t. rw (
@@ -177,8 +178,8 @@ module _ (s : State) (x y : Record) (C : Clear (s .racking) x y) where
       → moveAttachments y (edit acted inactive (placesOf x) (actOf x (s .racking) ∷ []) cs) ≡ edit acted inactive (placesOf x) (actOf x (s .racking) ∷ []) (moveAttachments y cs)
   unfolding moveAttachments
   moves-edit cs =
-      cases (eqb (needleCount (y .kind)) 2)
-      (λ e. let t = eqb-true (needleCount (y .kind)) 2 e in
+      cases (eqb (hooksWorked (y .kind)) 2)
+      (λ e. let t = eqb-true (hooksWorked (y .kind)) 2 e in
       rw e (map-edit acted inactive (movedTo (y .at) (y .to)) (inactive-moved (y .at) (y .to)) (placesOf x) (actOf x (s .racking) ∷ []) cs (
         moved-acted (y .at) (y .to) (actOf x (s .racking)) (act-free x (s .racking) (y .at)
             (λ u. other-needle (x .at) (y .at) (first-hook (λ (j : ℕ). hookOf (x .at) ≡ j → ⊥) y (first-away u) (omega arith)))),
@@ -189,9 +190,9 @@ module _ (s : State) (x y : Record) (C : Clear (s .racking) x y) where
   moves-moves : (cs : List Carrier) → moveAttachments x (moveAttachments y cs) ≡ moveAttachments y (moveAttachments x cs)
   unfolding moveAttachments
   moves-moves cs =
-      cases (eqb (needleCount (x .kind)) 2)
-      (λ e. cases (eqb (needleCount (y .kind)) 2)
-      (λ f. let t = eqb-true (needleCount (x .kind)) 2 e in let u = eqb-true (needleCount (y .kind)) 2 f in
+      cases (eqb (hooksWorked (x .kind)) 2)
+      (λ e. cases (eqb (hooksWorked (y .kind)) 2)
+      (λ f. let t = eqb-true (hooksWorked (x .kind)) 2 e in let u = eqb-true (hooksWorked (y .kind)) 2 f in
       let first = first-away (omega arith) in let second = second-away t in
       rw (e, f) (map-map (movedTo (x .at) (x .to)) (movedTo (y .at) (y .to))
       (moved-moved (x .at) (x .to) (y .at) (y .to)
@@ -259,14 +260,8 @@ module _ (s : State) (x y : Record) (C : Clear (s .racking) x y) (D : Clear (s .
       (λ f. cases (eqb (numberAt s y) 0) (λ g. simp (f, g, q)) (λ g. simp (f, g)))
 
 -- ---- what a record that has its step is
-pub racking-left : (x : Record) (r : Racking) → InRange x → rackingLeft x r ≡ rackingAfter r x
-unfolding rackingLeft
-racking-left x r h =
-    cases (eqb (x .kind) 1) (λ e. rw (e, le-leb (x .kind) 1 (omega (arith, eqb-true (x .kind) 1 e))))
-    (λ e. rw (e, lt-leb (x .kind) 1 (omega (arith, h .low, eqb-false (x .kind) 1 e))))
-
-kept-racking : (x : Record) (r : Racking) → InRange x → isRack x ≡ false → rackingLeft x r ≡ r
-kept-racking x r h e = racking-left x r h ∙ simp e
+kept-racking : (x : Record) (r : Racking) → isRack x ≡ false → rackingAfter r x ≡ r
+kept-racking x r e = simp e
 
 or-left : (a b : ℕ) → orNumber a b ≡ 0 → a ≡ 0
 or-left a b e = cases (eqb a 0) (λ h. eqb-true a 0 h) (λ h. sym (simp h) ∙ e)
@@ -279,11 +274,11 @@ number-opposite : (s : State) (x : Record) → numberAt s x ≡ 0 → oppositeNo
 unfolding numberAt decidedNo seeOf
 number-opposite s x e = or-left (oppositeNo x (s .racking)) _ (or-right (carrierNo x (s .racking) (seeOf s x .look)) _ e)
 
-opposite-columns : (x : Record) (r : Racking) → oppositeNo x r ≡ 0 → needleCount (x .kind) ≡ 2 → columnOf (x .at) r ≡ columnOf (x .to) r
+opposite-columns : (x : Record) (r : Racking) → oppositeNo x r ≡ 0 → hooksWorked (x .kind) ≡ 2 → columnOf (x .at) r ≡ columnOf (x .to) r
 unfolding oppositeNo sameColumn
 opposite-columns x r e t =
     cases (sameColumn (columnOf (x .at) r) (columnOf (x .to) r)) (λ q. let z = eqZ-true (columnOf (x .at) r .0) (columnOf (x .to) r .0) q in λ i. record { 0 = z i })
-    (λ q. absurd (ten (sym (simp (eq-eqb (needleCount (x .kind)) 2 t, q)) ∙ e)))
+    (λ q. absurd (ten (sym (simp (eq-eqb (hooksWorked (x .kind)) 2 t, q)) ∙ e)))
   where
     ten : _≡_ {A = ℕ} 10 0 → ⊥
     ten e = omega arith
@@ -298,11 +293,11 @@ number-settled s x h e = settled (s .racking) x h (number-opposite s x e)
 refused : (s : State) (x : Record) (r : Racking) → s .racking ≡ r → (oppositeNo x r ≡ 0 → ⊥) → stepped s x ≡ none
 refused s x r e h = simp (ne-eqb (numberAt s x) 0 (λ q. h (sym (ap (oppositeNo x) e) ∙ number-opposite s x q)))
 
-pub racking-applied : (s : State) (x : Record) → applyOf s x .racking ≡ rackingLeft x (s .racking)
+pub racking-applied : (s : State) (x : Record) → applyOf s x .racking ≡ rackingAfter (s .racking) x
 unfolding applyOf
 racking-applied s x = refl
 
-refused-both : (s : State) (x y : Record) → rackingLeft y (s .racking) ≡ s .racking → (oppositeNo x (s .racking) ≡ 0 → ⊥)
+refused-both : (s : State) (x y : Record) → rackingAfter (s .racking) y ≡ s .racking → (oppositeNo x (s .racking) ≡ 0 → ⊥)
     → andThen (stepped s x) (λ t. stepped t y) ≡ andThen (stepped s y) (λ t. stepped t x)
 refused-both s x y q h =
     let a = refused s x (s .racking) refl h in
@@ -316,7 +311,7 @@ pub untied-commute : (s : State) (x y : Record) → InRange x → InRange y → 
     → andThen (stepped s x) (λ t. stepped t y) ≡ andThen (stepped s y) (λ t. stepped t x)
 untied-commute s x y g h a b c d =
     let r = s .racking in
-    let keep-x = kept-racking x r g a in let keep-y = kept-racking y r h b in
+    let keep-x = kept-racking x r a in let keep-y = kept-racking y r b in
     is (oppositeNo x r) 0
     (λ p. is (oppositeNo y r) 0
     (λ q. let S = settled r x g p in let T = settled r y h q in

@@ -9,6 +9,7 @@ use native.Mathlib.Omega.{arith}
 use lib.Dec.{eqb, leb, ltb}
 use lib.ListN.{length, drop, getD}
 use borrow.Author.Tests.{eqb-true, eqb-false, ne-eqb, leb-true, leb-false, ltb-true, ltb-false}
+use Rattle.machine.specs.Limits.{programMost, logMost}
 use Rattle.machine.specs.declared.State.{State}
 use Rattle.machine.specs.Machine.{emptyState}
 use Rattle.machine.proofs.Laws.{empty-is-complete}
@@ -172,32 +173,32 @@ module _ (p log output work : List ℕ) where
   long-number : Long p log output work → number ≡ 1
   long-number (TooLong.long-program h) = program-long _ _ _ _ h
   long-number (TooLong.long-log h) =
-      cases (ltb 32768 (length p)) (λ t. program-long _ _ _ _ (ltb-true 32768 (length p) t)) (λ t. log-long _ _ _ _ (ltb-false 32768 (length p) t) h)
+      cases (ltb programMost (length p)) (λ t. program-long _ _ _ _ (ltb-true programMost (length p) t)) (λ t. log-long _ _ _ _ (ltb-false programMost (length p) t) h)
 
   -- what is lent is too long, too short, or will do
   by-lengths : {G : Type 0} → (Long p log output work → G) → ((Long p log output work → ⊥) → Short p log output work → G) → (Lent p log output work → G) → G
   by-lengths f g h =
-      cases (ltb 32768 (length p)) (λ t. f (TooLong.long-program (ltb-true 32768 (length p) t))) λ a.
-      cases (ltb 32768 (length log)) (λ t. f (TooLong.long-log (ltb-true 32768 (length log) t))) λ b.
-      let short = ltb-false 32768 (length p) a in
-      let log-short = ltb-false 32768 (length log) b in
+      cases (ltb programMost (length p)) (λ t. f (TooLong.long-program (ltb-true programMost (length p) t))) λ a.
+      cases (ltb logMost (length log)) (λ t. f (TooLong.long-log (ltb-true logMost (length log) t))) λ b.
+      let short = ltb-false programMost (length p) a in
+      let log-short = ltb-false logMost (length log) b in
       cases (ltb (length output) (length p)) (λ t. g (not-long short log-short) (NoBench.short-output (ltb-true (length output) (length p) t))) λ c.
       cases (ltb (length work) (length p / 2)) (λ t. g (not-long short log-short) (NoBench.few-entries (ltb-true (length work) (length p / 2) t))) λ d.
       h (record { short = short; log-short = log-short; room = ltb-false (length output) (length p) c; entries = ltb-false (length work) (length p / 2) d })
     where
-      not-long : length p ≤ 32768 → length log ≤ 32768 → Long p log output work → ⊥
+      not-long : length p ≤ programMost → length log ≤ logMost → Long p log output work → ⊥
       not-long h i (TooLong.long-program k) = omega arith
       not-long h i (TooLong.long-log k) = omega arith
 
   short-number : (Long p log output work → ⊥) → Short p log output work → number ≡ 2
   short-number d s =
-      by-lengths (λ l. absurd (d l)) (λ e k. go (shorter 32768 (length p) (λ h. d (TooLong.long-program h))) (shorter 32768 (length log) (λ h. d (TooLong.long-log h))) k)
+      by-lengths (λ l. absurd (d l)) (λ e k. go (shorter programMost (length p) (λ h. d (TooLong.long-program h))) (shorter logMost (length log) (λ h. d (TooLong.long-log h))) k)
       (λ l. absurd (none l s))
     where
       shorter : (n m : ℕ) → (n < m → ⊥) → m ≤ n
       shorter n m d = cases (ltb n m) (λ t. absurd (d (ltb-true n m t))) (λ t. ltb-false n m t)
 
-      go : length p ≤ 32768 → length log ≤ 32768 → Short p log output work → number ≡ 2
+      go : length p ≤ programMost → length log ≤ logMost → Short p log output work → number ≡ 2
       go h i (NoBench.short-output k) = output-short _ _ _ _ h i k
       go h i (NoBench.few-entries k) =
           cases (ltb (length output) (length p)) (λ t. output-short _ _ _ _ h i (ltb-true (length output) (length p) t)) (λ t. work-short _ _ _ _ h i (ltb-false (length output) (length p) t) k)

@@ -4,7 +4,7 @@ use Prim.Native.Nat.{ℕ, _+_, _≤_, _<_}
 use mathlib.Core.Path.{_≡_, refl, sym, ap, _∙_}
 use mathlib.Core.Bool.{Bool, true, false, _&&_, _||_, or-false, or-assoc}
 use native.Mathlib.Omega.{arith}
-use mathlib.Core.List.{List}
+use mathlib.Core.List.{List, [], _∷_}
 use lib.IntN.{ℤ, pos, negsuc, _+ℤ_, _-ℤ_, natAbs}
 use lib.Signed.{leZ, ltZ, mag}
 use mir.Syntax.{w32}
@@ -16,11 +16,13 @@ use Rattle.machine.proofs.Laws.{and-two}
 use Rattle.machine.specs.Geometry.{columnOf}
 use Rattle.machine.specs.declared.Racking.{Racking}
 use Rattle.record.specs.declared.Record.{Record}
-use Rattle.record.specs.Names.{carriersOf, outlineOf}
-use Rattle.record.proofs.Forms.{cond-cases}
+use Rattle.record.specs.Kinds.{RACK, DROP, XFER, IN, OUT, MISS, TUCK, KNIT}
+use Rattle.record.specs.Names.{carriersOf, isRack, outlineOf}
+use Rattle.record.proofs.Shapes.{is}
+use Rattle.record.proofs.Shapes.{cond-cases}
 use Rattle.trace.specs.Records.{tied}
 use Rattle.rewrite.specs.declared.Extent.{Extent}
-use Rattle.rewrite.specs.Extents.{halfColumn, layerOf, narrow, broad, formExtent, extentOf, meets, shareCarrier, isRack}
+use Rattle.rewrite.specs.Extents.{halfColumn, layerOf, narrow, broad, formExtent, extentOf, meets, member, shareCarrier}
 use Rattle.rewrite.specs.Programs.{what, knitting}
 use Rattle.rewrite.specs.Laid.{boundTo, tiedAt, farApart}
 use Rattle.rewrite.proofs.Signed.{le-from, le-trans, le-self, le-next, le-before}
@@ -29,31 +31,36 @@ module _ (r : Racking) (x : Record) where
   abbrev h : ℤ
   h = halfColumn (x .at) r
 
-  pub drop-extent : x .kind ≡ 2 → extentOf r x ≡ narrow h (layerOf (x .at)) (layerOf (x .at))
+  pub drop-extent : x .kind ≡ DROP → extentOf r x ≡ narrow h (layerOf (x .at)) (layerOf (x .at))
   unfolding extentOf
   drop-extent e = simp e
 
-  pub xfer-extent : x .kind ≡ 3 → extentOf r x ≡ narrow h 0 11
+  pub xfer-extent : x .kind ≡ XFER → extentOf r x ≡ narrow h 0 11
   unfolding extentOf
   xfer-extent e = simp e
 
-  pub pass-extent : 4 ≤ x .kind → x .kind ≤ 6 → extentOf r x ≡ broad h (x .carrier) (x .carrier)
-  unfolding extentOf
-  pass-extent a b = simp (ne-eqb (x .kind) 2 (λ e. omega arith), ne-eqb (x .kind) 3 (λ e. omega arith), le-leb 4 (x .kind) a, le-leb (x .kind) 6 b)
+  pub pass-extent : IN ≤ x .kind → x .kind ≤ MISS → extentOf r x ≡ broad h (x .carrier) (x .carrier)
+  unfolding extentOf member
+  pass-extent a b = is (x .kind) IN (λ e. simp e) (λ c. is (x .kind) OUT (λ e. simp e) (λ d. let e : x .kind ≡ MISS = omega arith in simp e))
 
-  pub form-extent : 7 ≤ x .kind → x .kind ≤ 8 → extentOf r x ≡ formExtent h (x .at) (x .carrier)
-  unfolding extentOf
-  form-extent a b =
-      simp (ne-eqb (x .kind) 2 (λ e. omega arith), ne-eqb (x .kind) 3 (λ e. omega arith), le-leb 4 (x .kind) (omega arith), lt-leb (x .kind) 6 (omega arith), le-leb 7 (x .kind) a, le-leb (x .kind) 8 b)
+  pub form-extent : TUCK ≤ x .kind → x .kind ≤ KNIT → extentOf r x ≡ formExtent h (x .at) (x .carrier)
+  unfolding extentOf member
+  form-extent a b = is (x .kind) TUCK (λ e. simp e) (λ c. let e : x .kind ≡ KNIT = omega arith in simp e)
 
-  pub below-extent : x .kind < 2 → extentOf r x ≡ broad h 0 11
-  unfolding extentOf
-  below-extent a = simp (ne-eqb (x .kind) 2 (λ e. omega arith), ne-eqb (x .kind) 3 (λ e. omega arith), lt-leb 4 (x .kind) (omega arith), lt-leb 7 (x .kind) (omega arith))
-
-  pub split-extent : 8 < x .kind → extentOf r x ≡ broad h 0 11
-  unfolding extentOf
-  split-extent a =
-      simp (ne-eqb (x .kind) 2 (λ e. omega arith), ne-eqb (x .kind) 3 (λ e. omega arith), le-leb 4 (x .kind) (omega arith), lt-leb (x .kind) 6 (omega arith), le-leb 7 (x .kind) (omega arith), lt-leb (x .kind) 8 a)
+  -- a rack, a split, and what is no kind
+  pub other-extent : (x .kind ≡ DROP → ⊥) → (x .kind ≡ XFER → ⊥) → (IN ≤ x .kind → x .kind ≤ KNIT → ⊥) → extentOf r x ≡ broad h 0 11
+  unfolding extentOf member
+  other-extent a b w =
+      let k = x .kind in
+      simp (
+        ne-eqb k DROP a,
+        ne-eqb k XFER b,
+        ne-eqb k IN (λ e. w (omega arith) (omega arith)),
+        ne-eqb k OUT (λ e. w (omega arith) (omega arith)),
+        ne-eqb k MISS (λ e. w (omega arith) (omega arith)),
+        ne-eqb k TUCK (λ e. w (omega arith) (omega arith)),
+        ne-eqb k KNIT (λ e. w (omega arith) (omega arith)),
+      )
 
 -- a comparison of 32-bit values, as code reads them back
 module _ (a b : ℤ) (h : mag a < 2147483648) (k : mag b < 2147483648) where
@@ -88,17 +95,17 @@ module _ (a b : Extent) where
 
 -- the tests of a tie: whatever the racking, then by extents
 module _ (x y : Record) where
-  pub rack-first : x .kind ≡ 1 → boundTo x y ≡ true
+  pub rack-first : x .kind ≡ RACK → boundTo x y ≡ true
   unfolding boundTo
-  rack-first e = simp (eq-eqb (x .kind) 1 e)
+  rack-first e = simp (eq-eqb (x .kind) RACK e)
 
-  pub rack-second : (x .kind ≡ 1 → ⊥) → y .kind ≡ 1 → boundTo x y ≡ true
+  pub rack-second : (x .kind ≡ RACK → ⊥) → y .kind ≡ RACK → boundTo x y ≡ true
   unfolding boundTo
-  rack-second d e = simp (ne-eqb (x .kind) 1 d, eq-eqb (y .kind) 1 e)
+  rack-second d e = simp (ne-eqb (x .kind) RACK d, eq-eqb (y .kind) RACK e)
 
-  pub carriers-only : (x .kind ≡ 1 → ⊥) → (y .kind ≡ 1 → ⊥) → boundTo x y ≡ shareCarrier x y
+  pub carriers-only : (x .kind ≡ RACK → ⊥) → (y .kind ≡ RACK → ⊥) → boundTo x y ≡ shareCarrier x y
   unfolding boundTo
-  carriers-only d e = simp (ne-eqb (x .kind) 1 d, ne-eqb (y .kind) 1 e)
+  carriers-only d e = simp (ne-eqb (x .kind) RACK d, ne-eqb (y .kind) RACK e)
 
   pub bound-tied : (r : Racking) → boundTo x y ≡ true → tiedAt r x y ≡ true
   unfolding tiedAt
@@ -122,8 +129,8 @@ outline-bound x y = refl
 spread : (r : Racking) (x : Record) → (leZ (halfColumn (x .at) r -ℤ pos 1) (extentOf r x .left) ≡ true) × (leZ (extentOf r x .right) (halfColumn (x .at) r +ℤ pos 1) ≡ true)
 unfolding extentOf
 spread r x =
-    cond-cases P (eqb (x .kind) 2) (λ e. one) (λ e. cond-cases P (eqb (x .kind) 3) (λ e. one)
-    (λ e. cond-cases P (leb 4 (x .kind) && leb (x .kind) 6) (λ e. three) (λ e. cond-cases P (leb 7 (x .kind) && leb (x .kind) 8)
+    cond-cases P (eqb (x .kind) DROP) (λ e. one) (λ e. cond-cases P (eqb (x .kind) XFER) (λ e. one)
+    (λ e. cond-cases P (member (x .kind) (IN ∷ OUT ∷ MISS ∷ [])) (λ e. three) (λ e. cond-cases P (member (x .kind) (TUCK ∷ KNIT ∷ []))
     (λ e. cond-cases P (eqb (x .at .0) 0) (λ e. three) (λ e. three)) (λ e. three))))
   where
     h : ℤ

@@ -13,13 +13,16 @@ use borrow.Author.Tests.{ne-eqb, eqb-false, leb-true, leb-false, le-leb, lt-leb}
 use Rattle.machine.specs.declared.Needle.{Needle}
 use Rattle.machine.specs.declared.Column.{Column}
 use Rattle.machine.specs.declared.Racking.{Racking}
+use Rattle.machine.specs.Limits.{carrierCount}
 use Rattle.machine.specs.Machine.{OnBed, hookOf, Each}
 use Rattle.machine.specs.Geometry.{columnOf}
 use Rattle.machine.proofs.Laws.{and-two}
 use Rattle.record.specs.declared.Record.{Record}
-use Rattle.record.specs.Names.{needleCount, carrierCount, needlesOf, carriersOf}
+use Rattle.record.specs.Kinds.{byKind, hooksWorked, carriersNamed}
+use Rattle.record.specs.Names.{needlesOf, carriersOf}
+use Rattle.record.proofs.Shapes.{Known, Named, named, any-kind, one-carrier, no-carrier}
 use Rattle.record.proofs.Ranges.{InRange}
-use Rattle.record.proofs.Forms.{cond-cases}
+use Rattle.record.proofs.Shapes.{cond-cases}
 use Rattle.rewrite.specs.declared.Extent.{Extent}
 use Rattle.rewrite.specs.Extents.{halfColumn, layerOf, narrow, broad, formExtent, extentOf, Covers, Share, meets, member, common, shareCarrier}
 use Rattle.rewrite.proofs.Edits.{Away, Apart}
@@ -62,18 +65,33 @@ pub data Footprint (h : ℤ) (n : Needle) (k : ℕ) : ℕ → Extent → Type 0 
   split : Footprint h n k 2 (broad h 0 11)
 
 module _ (r : Racking) (x : Record) where
-  pub footprint : Footprint (halfColumn (x .at) r) (x .at) (x .carrier) (needleCount (x .kind)) (extentOf r x)
-  unfolding needleCount extentOf
-  footprint =
-      let k = x .kind in
-      cases (leb k 1)
-      (λ a. let h = leb-true k 1 a in simp (a, ne-eqb k 2 (λ q. omega arith), ne-eqb k 3 (λ q. omega arith), lt-leb 4 k (omega arith), lt-leb 7 k (omega arith)) rack)
-      (λ a. cases (eqb k 2) (λ b. simp (a, b) drop)
-      (λ b. cases (eqb k 3) (λ c. simp (a, b, c) xfer)
-      (λ c. let low = le-leb 4 k (omega (arith, leb-false k 1 a, eqb-false k 2 b, eqb-false k 3 c)) in
-      cases (leb k 6) (λ d. simp (a, b, c, low, d) pass)
-      (λ d. let next = le-leb 7 k (omega (arith, leb-false k 6 d)) in
-      cases (leb k 8) (λ e. simp (a, b, c, low, d, next, e) form) (λ e. simp (a, b, c, low, d, next, e) split)))))
+  pub footprint : Footprint (halfColumn (x .at) r) (x .at) (x .carrier) (hooksWorked (x .kind)) (extentOf r x)
+  unfolding byKind extentOf member
+  footprint = go (named (x .kind))
+    where
+      go : Named (x .kind) → Footprint (halfColumn (x .at) r) (x .at) (x .carrier) (hooksWorked (x .kind)) (extentOf r x)
+      go (Named.known (Known.rack e)) = simp e rack
+      go (Named.known (Known.drop e)) = simp e drop
+      go (Named.known (Known.xfer e)) = simp e xfer
+      go (Named.known (Known.carrier-in e)) = simp e pass
+      go (Named.known (Known.carrier-out e)) = simp e pass
+      go (Named.known (Known.miss e)) = simp e pass
+      go (Named.known (Known.tuck e)) = simp e form
+      go (Named.known (Known.knit e)) = simp e form
+      go (Named.known (Known.split e)) = simp e split
+      go (Named.unknown d z) =
+          let k = x .kind in
+          simp (
+            ne-eqb k 1 (λ e. d (Known.rack e)),
+            ne-eqb k 2 (λ e. d (Known.drop e)),
+            ne-eqb k 3 (λ e. d (Known.xfer e)),
+            ne-eqb k 4 (λ e. d (Known.carrier-in e)),
+            ne-eqb k 5 (λ e. d (Known.carrier-out e)),
+            ne-eqb k 6 (λ e. d (Known.miss e)),
+            ne-eqb k 7 (λ e. d (Known.tuck e)),
+            ne-eqb k 8 (λ e. d (Known.knit e)),
+            ne-eqb k 9 (λ e. d (Known.split e)),
+          ) rack
 
 on-narrow : (h : ℤ) {low high layer : ℕ} → low ≤ layer → layer ≤ high → Covers (narrow h low high) h layer
 on-narrow h a b = record { left = le-self h; right = le-self h; low = a; high = b }
@@ -86,13 +104,13 @@ unfolding layerOf
 layer-high n = cond-cases (λ (m : ℕ). m ≤ 11) (eqb (n .0) 0) (λ e. omega arith) (λ e. omega arith)
 
 -- a tuck or knit covers its needle's bed
-on-form : (h : ℤ) (n : Needle) (k : ℕ) → k ≤ 10 → Covers (formExtent h n k) h (layerOf n)
+on-form : (h : ℤ) (n : Needle) (k : ℕ) → k ≤ carrierCount → Covers (formExtent h n k) h (layerOf n)
 unfolding layerOf
 on-form h n k le = cases (eqb (n .0) 0) (λ e. simp e (on-broad h (omega arith) (omega arith))) (λ e. simp e (on-broad h (omega arith) (omega arith)))
 
 module _ {h : ℤ} {n : Needle} {k : ℕ} where
   -- every extent covers something
-  pub some-layer : {m : ℕ} {e : Extent} → Footprint h n k m e → k ≤ 10 → (layer : ℕ) × Covers e h layer
+  pub some-layer : {m : ℕ} {e : Extent} → Footprint h n k m e → k ≤ carrierCount → (layer : ℕ) × Covers e h layer
   some-layer rack le = (0, on-broad h (omega arith) (omega arith))
   some-layer drop le = (layerOf n, on-narrow h (omega arith) (omega arith))
   some-layer xfer le = (0, on-narrow h (omega arith) (omega arith))
@@ -101,7 +119,7 @@ module _ {h : ℤ} {n : Needle} {k : ℕ} where
   some-layer split le = (0, on-broad h (omega arith) (omega arith))
 
   -- that of a record which works a hook covers its first needle; that of one which works two covers both beds
-  first-covered : {m : ℕ} {e : Extent} → Footprint h n k m e → k ≤ 10 → 1 ≤ m → Covers e h (layerOf n)
+  first-covered : {m : ℕ} {e : Extent} → Footprint h n k m e → k ≤ carrierCount → 1 ≤ m → Covers e h (layerOf n)
   first-covered rack le t = absurd (omega arith)
   first-covered drop le t = on-narrow h (omega arith) (omega arith)
   first-covered xfer le t = on-narrow h (omega arith) (layer-high n)
@@ -123,14 +141,8 @@ data Count : ℕ → Type 0 where
   one : Count 1
   two : Count 2
 
-count : (kind : ℕ) → Count (needleCount kind)
-unfolding needleCount
-count k =
-    cond-cases Count (leb k 1) (λ a. none)
-    (λ a. cond-cases Count (eqb k 2) (λ b. one)
-    (λ b. cond-cases Count (eqb k 3) (λ c. two)
-    (λ c. cond-cases Count (leb k 6) (λ d. none)
-    (λ d. cond-cases Count (leb k 8) (λ e. one) (λ e. two)))))
+count : (kind : ℕ) → Count (hooksWorked kind)
+count = any-kind Count none one two none none none one one two none
 
 each-counted : {A : Type 0} (P : A → Type 0) (a b : A) {n : ℕ} → Count n → (1 ≤ n → P a) → (n ≡ 2 → P b) → Each P (take n (a ∷ b ∷ []))
 each-counted P a b none f g = tt
@@ -155,23 +167,23 @@ abbrev pub placesOf : Record → List ℕ
 placesOf x = map (λ (k : ℕ). k - 1) (carriersOf x)
 
 module _ (P : ℕ → Type 0) (x : Record) where
-  pub first-hook : Each P (hooksOf x) → 1 ≤ needleCount (x .kind) → P (hookOf (x .at))
+  pub first-hook : Each P (hooksOf x) → 1 ≤ hooksWorked (x .kind) → P (hookOf (x .at))
   unfolding needlesOf
   first-hook e t = first-counted hookOf P (x .at) (x .to) (count (x .kind)) e t
 
-  pub second-hook : Each P (hooksOf x) → needleCount (x .kind) ≡ 2 → P (hookOf (x .to))
+  pub second-hook : Each P (hooksOf x) → hooksWorked (x .kind) ≡ 2 → P (hookOf (x .to))
   unfolding needlesOf
   second-hook e t = second-counted hookOf P (x .at) (x .to) (count (x .kind)) e t
 
-  pub carrier-place : leb (x .kind) 3 ≡ false → Each P (placesOf x) → P (x .carrier - 1)
-  unfolding carriersOf carrierCount
+  pub carrier-place : carriersNamed (x .kind) ≡ 1 → Each P (placesOf x) → P (x .carrier - 1)
+  unfolding carriersOf
   carrier-place t = simp t (λ e. e .0)
 
 -- ---- the law of footprints
 -- fields in range, and two needles opposite: what a record must have before the state is looked at
 pub record Settled (r : Racking) (x : Record) : Type 0 where
   pub in-range : InRange x
-  pub opposite : needleCount (x .kind) ≡ 2 → columnOf (x .at) r ≡ columnOf (x .to) r
+  pub opposite : hooksWorked (x .kind) ≡ 2 → columnOf (x .at) r ≡ columnOf (x .to) r
 
 -- a needle inside an extent
 pub record Inside (r : Racking) (e : Extent) (n : Needle) : Type 0 where
@@ -179,7 +191,7 @@ pub record Inside (r : Racking) (e : Extent) (n : Needle) : Type 0 where
   covered : Covers e (halfColumn n r) (layerOf n)
 
 module _ (r : Racking) (x : Record) (S : Settled r x) where
-  to-covered : needleCount (x .kind) ≡ 2 → Covers (extentOf r x) (halfColumn (x .to) r) (layerOf (x .to))
+  to-covered : hooksWorked (x .kind) ≡ 2 → Covers (extentOf r x) (halfColumn (x .to) r) (layerOf (x .to))
   unfolding halfColumn
   to-covered t =
       subst (λ (z : Column). Covers (extentOf r x) (z .0 +ℤ z .0) (layerOf (x .to))) (S .opposite t)
@@ -230,8 +242,9 @@ abbrev Numbered : List ℕ → Type 0
 Numbered l = Each (λ (k : ℕ). 1 ≤ k) l
 
 numbered : (x : Record) → InRange x → Numbered (carriersOf x)
-unfolding carriersOf carrierCount
-numbered x h = cases (leb (x .kind) 3) (λ e. simp e tt) (λ e. simp e (h .carrier-low (omega (arith, leb-false (x .kind) 3 e)), tt))
+unfolding carriersOf
+numbered x h =
+    cases (leb 1 (carriersNamed (x .kind))) (λ e. simp (one-carrier (x .kind) e) (h .carrier-low (leb-true 1 (carriersNamed (x .kind)) e), tt)) (λ e. simp (no-carrier (x .kind) e) tt)
 
 member-away : (i : ℕ) (l : List ℕ) → 1 ≤ i → Numbered l → member i l ≡ false → Away (i - 1) (map (λ (k : ℕ). k - 1) l)
 unfolding member

@@ -9,11 +9,12 @@ use lib.Dec.{ltb}
 use lib.ListN.{length, take, drop, replicate, length-replicate}
 use lib.Seq.{take-at}
 use borrow.Author.Tests.{ne-eqb, le-ltb}
+use Rattle.machine.specs.Limits.{programMost, logMost}
 use Rattle.machine.specs.declared.State.{State}
 use Rattle.machine.specs.Machine.{Each}
 use Rattle.run.specs.Relation.{Valid}
 use Rattle.run.specs.Run.{answerOf}
-use Rattle.run.proofs.Premises.{is}
+use Rattle.record.proofs.Shapes.{is}
 use Rattle.run.proofs.Demand.{final}
 use Rattle.trace.specs.Swaps.{made, Swaps, no-swap, swap-first}
 use Rattle.rewrite.specs.Programs.{flat, recordsOf, knitting}
@@ -34,7 +35,7 @@ lent p c = lentNo (length p) (length (c .log)) (length (c .output)) (length (c .
 lent-number : (p : List ℕ) (c : Call) → lent p c ≤ 2
 unfolding lentNo
 lent-number p c =
-    cases (ltb 32768 (length p) || ltb 32768 (length (c .log))) (λ a. simp a (omega arith))
+    cases (ltb programMost (length p) || ltb logMost (length (c .log))) (λ a. simp a (omega arith))
     (λ a. cases (ltb (length (c .output)) (length p) || ltb (length (c .work)) (length p / 2)) (λ b. simp (a, b) (omega arith)) (λ b. simp (a, b) (omega arith)))
 
 -- 1 and 2 hand the same program on
@@ -101,12 +102,12 @@ swapCall n i h =
       work-offsets = zeros-below 65536 n (omega arith);
     }
 
-swap-lent : (p : List ℕ) (i : ℕ) (h : i < 65536) → length p ≤ 32768 → lent p (swapCall (length p) i h) ≡ 0
+swap-lent : (p : List ℕ) (i : ℕ) (h : i < 65536) → length p ≤ programMost → lent p (swapCall (length p) i h) ≡ 0
 unfolding lentNo swapCall
 swap-lent p i h k =
     let n = length p in
     let a : length (replicate {A = ℕ} n 0) ≡ n = length-replicate n 0 in
-    simp (le-ltb 32768 n k, a, le-ltb n n (omega arith), le-ltb n (n / 2) (omega arith))
+    simp (le-ltb programMost n k, a, le-ltb n n (omega arith), le-ltb n (n / 2) (omega arith))
 
 module _ {p : List ℕ} {t : State} (v : Valid p t) (i : ℕ) {m : List (List ℕ)} (e : swapOf i (recordsOf p) ≡ made m) where
   -- a position is a 16-bit number: a program has at most 16,384 records

@@ -1,6 +1,6 @@
 -- Which records enter a needle's history and a carrier's, and that a history is the list of them. Assumes nothing.
 use borrow.Table.Steps.{cases}
-use Prim.Native.Nat.{ℕ, _≤_}
+use Prim.Native.Nat.{ℕ}
 use mathlib.Core.Path.{_≡_, refl, sym, ap, subst, _∙_}
 use mathlib.Core.Bool.{Bool, true, true≢false}
 use mathlib.Core.List.{List, [], _∷_}
@@ -12,8 +12,10 @@ use Rattle.machine.specs.declared.Needle.{Needle}
 use Rattle.machine.specs.Machine.{Each, sameNeedle}
 use Rattle.record.specs.declared.Record.{Record}
 use Rattle.record.specs.Format.{Encodes}
-use Rattle.record.specs.Names.{needleCount, carrierCount, needlesOf, carriersOf}
-use Rattle.run.proofs.Premises.{is}
+use Rattle.record.specs.Kinds.{byKind, hooksWorked, carriersNamed}
+use Rattle.record.specs.Names.{needlesOf, carriersOf}
+use Rattle.record.proofs.Shapes.{Known, one-carrier, no-carrier}
+use Rattle.record.proofs.Forms.{form-in}
 use Rattle.rewrite.specs.Extents.{member}
 use Rattle.trace.specs.Lists.{keep}
 use Rattle.rewrite.specs.Programs.{memberNeedle, recordsOf, needle, carrier, names, historyOf}
@@ -22,14 +24,6 @@ use Rattle.rewrite.specs.Claims.{Enters, EntersExactly, Carries, Carrier
 use Rattle.rewrite.proofs.Commute.{needle-eq}
 use Rattle.rewrite.proofs.Records.{form-what}
 use Rattle.rewrite.proofs.Exact.{are-records}
-
--- the kind of a record that bytes encode
-form-kind : {bytes : List ℕ} {x : Record} → Encodes bytes x → x .kind ≤ 9
-form-kind (Encodes.rack h) = omega arith
-form-kind (Encodes.drop h i) = omega arith
-form-kind (Encodes.xfer h i j) = omega arith
-form-kind (Encodes.work a b c d e f g) = omega arith
-form-kind (Encodes.split c d e f g h) = omega arith
 
 -- ---- members of lists of one and of two
 same-needle : (n m : Needle) → m ≡ n → sameNeedle n m ≡ true
@@ -61,35 +55,34 @@ module _ (n : Needle) (x : Record) where
   abbrev Named : Type 0
   Named = memberNeedle n (needlesOf x) ≡ true
 
-  works-none : needleCount (x .kind) ≡ 0 → Named → ⊥
+  works-none : hooksWorked (x .kind) ≡ 0 → Named → ⊥
   unfolding needlesOf
   works-none c e = member-none n (x .at) (x .to) (subst (λ (l : List Needle). memberNeedle n l ≡ true) (simp c) e)
 
-  works-one : needleCount (x .kind) ≡ 1 → Named ↔ (x .at ≡ n)
+  works-one : hooksWorked (x .kind) ≡ 1 → Named ↔ (x .at ≡ n)
   unfolding needlesOf
   works-one c = let e : needlesOf x ≡ x .at ∷ [] = simp c in subst (λ (l : List Needle). (memberNeedle n l ≡ true) ↔ (x .at ≡ n)) (sym e) (one-member n (x .at) (x .to))
 
-  works-two : needleCount (x .kind) ≡ 2 → Named ↔ ((x .at ≡ n) ⊎ (x .to ≡ n))
+  works-two : hooksWorked (x .kind) ≡ 2 → Named ↔ ((x .at ≡ n) ⊎ (x .to ≡ n))
   unfolding needlesOf
   works-two c =
       let e : needlesOf x ≡ x .at ∷ x .to ∷ [] = simp c in
       subst (λ (l : List Needle). (memberNeedle n l ≡ true) ↔ ((x .at ≡ n) ⊎ (x .to ≡ n))) (sym e) (two-members n (x .at) (x .to))
 
-  named-enters : x .kind ≤ 9 → Named → Enters n x
-  unfolding needleCount
-  named-enters h e =
-      let k = x .kind in
-      cases (leb k 1) (λ a. absurd (works-none (simp a) e)) λ a.
-      cases (eqb k 2) (λ b. Enters.by-drop (eqb-true k 2 b) (works-one (simp (a, b)) .0 e)) λ b.
-      cases (eqb k 3) (λ c. let q = eqb-true k 3 c in ⊎-elim (Enters.xfer-from q) (Enters.xfer-to q) (works-two (simp (a, b, c)) .0 e)) λ c.
-      cases (leb k 6) (λ d. absurd (works-none (simp (a, b, c, d)) e)) λ d.
-      cases (leb k 8)
-      (λ f. let at = works-one (simp (a, b, c, d, f)) .0 e in
-      is k 7 (λ q. Enters.by-tuck q at) (λ q. Enters.by-knit (omega (arith, leb-false k 6 d, leb-true k 8 f, q)) at)) λ f.
-      let q : k ≡ 9 = omega (arith, leb-false k 8 f, h) in ⊎-elim (Enters.split-from q) (Enters.split-to q) (works-two (simp (a, b, c, d, f)) .0 e)
+  named-enters : Known (x .kind) → Named → Enters n x
+  unfolding byKind
+  named-enters (Known.rack k) e = absurd (works-none (simp k) e)
+  named-enters (Known.drop k) e = Enters.by-drop k (works-one (simp k) .0 e)
+  named-enters (Known.xfer k) e = ⊎-elim (Enters.xfer-from k) (Enters.xfer-to k) (works-two (simp k) .0 e)
+  named-enters (Known.carrier-in k) e = absurd (works-none (simp k) e)
+  named-enters (Known.carrier-out k) e = absurd (works-none (simp k) e)
+  named-enters (Known.miss k) e = absurd (works-none (simp k) e)
+  named-enters (Known.tuck k) e = Enters.by-tuck k (works-one (simp k) .0 e)
+  named-enters (Known.knit k) e = Enters.by-knit k (works-one (simp k) .0 e)
+  named-enters (Known.split k) e = ⊎-elim (Enters.split-from k) (Enters.split-to k) (works-two (simp k) .0 e)
 
   enters-named : Enters n x → Named
-  unfolding needleCount
+  unfolding byKind
   enters-named (Enters.by-drop k e) = works-one (simp k) .1 e
   enters-named (Enters.xfer-from k e) = works-two (simp k) .1 (inl e)
   enters-named (Enters.xfer-to k e) = works-two (simp k) .1 (inr e)
@@ -99,17 +92,18 @@ module _ (n : Needle) (x : Record) where
   enters-named (Enters.split-to k e) = works-two (simp k) .1 (inr e)
 
 pub enters-exactly : EntersExactly
-enters-exactly n bytes x form = rw (form-what form) (named-enters n x (form-kind form), enters-named n x)
+enters-exactly n bytes x form = rw (form-what form) (named-enters n x (form-in form .known), enters-named n x)
 
 -- ---- the carrier
 named-carrier : (k : ℕ) (x : Record) → (member k (carriersOf x) ≡ true) ↔ Carries k x
-unfolding member carriersOf carrierCount
+unfolding member carriersOf
 named-carrier k x =
-    cases (leb (x .kind) 3)
-    (λ a. ((λ e. absurd (true≢false (sym e ∙ simp a))), λ (h, e). absurd (omega (arith, leb-true (x .kind) 3 a, h)))) λ a. (
-      (λ e. cases (eqb k (x .carrier)) (λ q. (leb-false (x .kind) 3 a, sym (eqb-true k (x .carrier) q))) (λ q. absurd (true≢false (sym e ∙ simp (a, q))))),
-      λ (h, e). simp (a, eq-eqb k (x .carrier) (sym e)),
-    )
+    cases (leb 1 (carriersNamed (x .kind)))
+    (λ a. let one = one-carrier (x .kind) a in (
+      (λ e. cases (eqb k (x .carrier)) (λ q. (leb-true 1 (carriersNamed (x .kind)) a, sym (eqb-true k (x .carrier) q))) (λ q. absurd (true≢false (sym e ∙ simp (one, q))))),
+      λ (h, e). simp (one, eq-eqb k (x .carrier) (sym e)),
+    ))
+    (λ a. ((λ e. absurd (true≢false (sym e ∙ simp (no-carrier (x .kind) a)))), λ (h, e). absurd (omega (arith, leb-false 1 (carriersNamed (x .kind)) a, h))))
 
 pub carrier-exactly : CarrierExactly
 carrier-exactly k bytes x form = rw (form-what form) (named-carrier k x)

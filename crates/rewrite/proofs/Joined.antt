@@ -6,6 +6,7 @@ use mathlib.Core.List.{List, [], _∷_}
 use mathlib.Core.Option.{Option, none, some}
 use lib.ListN.{length}
 use borrow.Author.Tests.{eq-eqb}
+use Rattle.machine.specs.Limits.{programMost}
 use Rattle.machine.specs.declared.State.{State}
 use Rattle.machine.specs.Machine.{emptyState}
 use Rattle.record.specs.declared.Record.{Record}
@@ -46,5 +47,5 @@ end-steps (x ∷ l) s t e = go (machine .step s x) refl (end-steps l)
 pub valid-ends : {p : List ℕ} {t : State} → Valid p t → Ends machine emptyState (recordsOf p) t
 valid-ends v = steps-end (v .steps)
 
-pub ends-valid : (p : List ℕ) {t : State} → length p ≤ 32768 → Ends machine emptyState (recordsOf p) t → Valid p t
+pub ends-valid : (p : List ℕ) {t : State} → length p ≤ programMost → Ends machine emptyState (recordsOf p) t → Valid p t
 ends-valid p {t} h e = record { short = h; steps = subst (λ (q : List ℕ). Steps emptyState q t) (records-flat p) (end-steps (recordsOf p) emptyState t e) }

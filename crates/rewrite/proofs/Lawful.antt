@@ -19,7 +19,8 @@ use Rattle.machine.proofs.Laws.{and-two}
 use Rattle.record.specs.declared.Record.{Record}
 use Rattle.record.specs.declared.Decoded.{Decoded}
 use Rattle.record.specs.Format.{refusedAs}
-use Rattle.record.specs.Names.{needlesOf, carriersOf}
+use Rattle.record.specs.Kinds.{RACK}
+use Rattle.record.specs.Names.{needlesOf, carriersOf, isRack, rackingAfter}
 use Rattle.record.proofs.Ranges.{InRange}
 use Rattle.record.proofs.Forms.{Reads, reads, decode-in, form-in}
 use Rattle.trace.specs.Records.{Lawful, tied}
@@ -27,7 +28,7 @@ use Rattle.trace.specs.Machine.{andThen, Orderly}
 use Rattle.trace.proofs.Tests.{tied-by}
 use Rattle.trace.proofs.Swaps.{untied}
 use Rattle.rewrite.specs.declared.Extent.{Extent}
-use Rattle.rewrite.specs.Extents.{halfColumn, extentOf, Share, meets, member, common, shareCarrier, isRack, rackingAfter}
+use Rattle.rewrite.specs.Extents.{halfColumn, extentOf, Share, meets, member, common, shareCarrier}
 use Rattle.rewrite.specs.Programs.{what, sameBytes, knitting, memberNeedle, Named, needle, carrier, names}
 use Rattle.rewrite.specs.Claims.{TiedExactly}
 use Rattle.rewrite.specs.Exact.{Tied}
@@ -35,7 +36,7 @@ use Rattle.rewrite.specs.Laid.{isRecord}
 use Rattle.rewrite.proofs.Machine.{machine, had, Good}
 use Rattle.rewrite.proofs.Records.{record-form}
 use Rattle.rewrite.proofs.Footprints.{footprint, some-layer, share-meets, meets-share, Settled, Inside, inside, inside-meets}
-use Rattle.rewrite.proofs.Commute.{needle-eq, racking-left, number-settled, racking-applied, untied-commute}
+use Rattle.rewrite.proofs.Commute.{needle-eq, number-settled, racking-applied, untied-commute}
 
 -- ---- extents
 meets-exactly : (r : Racking) (x y : Record) → x .carrier ≤ 10 → y .carrier ≤ 10 → (meets (extentOf r x) (extentOf r y) ≡ true) ↔ Share (extentOf r x) (extentOf r y)
@@ -148,7 +149,7 @@ record-in x w = form-in (record-form x w)
 racking-step : (s t : State) (x : List ℕ) → machine .step s x ≡ some t → t .racking ≡ rackingAfter (s .racking) (what x)
 racking-step s t x e =
     let h = had s t x e in
-    ap (λ (u : State). u .racking) (sym (h .state)) ∙ racking-applied s (what x) ∙ racking-left (what x) (s .racking) (record-in x (h .is-record))
+    ap (λ (u : State). u .racking) (sym (h .state)) ∙ racking-applied s (what x)
 
 -- a step after none, and none after a step
 none-after : (o : Option State) → andThen o (λ (t : State). none) ≡ none
@@ -198,8 +199,8 @@ orderly =
 -- ---- a tie in 01's words
 tied-words : (r : Racking) (x y : List ℕ) → tied knitting r x y ≡ true → Tied r x y
 tied-words r x y e =
-    cases (isRack (what x)) (λ a. Tied.first-rack (eqb-true _ 1 a)) λ a.
-    cases (isRack (what y)) (λ b. Tied.second-rack (eqb-true _ 1 b)) λ b.
+    cases (isRack (what x)) (λ a. Tied.first-rack (eqb-true _ RACK a)) λ a.
+    cases (isRack (what y)) (λ b. Tied.second-rack (eqb-true _ RACK b)) λ b.
     cases (shareCarrier (what x) (what y)) (λ c. let (k, p, q) = common-some (carriersOf (what x)) (carriersOf (what y)) c in Tied.one-carrier k p q) λ c.
     Tied.extents-meet (meets-exactly r (what x) (what y) (carrier-high x) (carrier-high y) .0 (sym (simp (a, b, c)) ∙ e))
 

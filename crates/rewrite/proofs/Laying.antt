@@ -8,8 +8,9 @@ use native.Mathlib.Numerals.{add-one}
 use lib.ListN.{length, take, drop, getD, set, length-append, take-append-drop, List·getD-append}
 use lib.Seq.{length-take-le, take-length, take-suc, take-suc-set, take-at, drop-at, drop-drop, drop-set-lt, split-at, getD-at, getD-drop}
 use Rattle.machine.specs.Machine.{Each}
-use Rattle.run.proofs.Premises.{is}
-use Rattle.record.specs.Format.{byte, sizeOf}
+use Rattle.record.proofs.Shapes.{is}
+use Rattle.record.specs.Kinds.{sizeOf}
+use Rattle.record.specs.Format.{byte}
 use Rattle.rewrite.specs.Programs.{flat, recordsOf, startsOf}
 use Rattle.rewrite.specs.Laid.{isRecord, Sound, Laid, recordAt, startAt}
 use Rattle.rewrite.proofs.Records.{each-part, Sized, record-size, records-length, records-flat}

@@ -12,7 +12,8 @@ use borrow.Author.Tests.{eqb-true}
 use Rattle.machine.specs.declared.Racking.{Racking}
 use Rattle.machine.specs.Machine.{Each}
 use Rattle.machine.proofs.Laws.{and-two}
-use Rattle.record.specs.Format.{sizeOf, decodeOf}
+use Rattle.record.specs.Kinds.{sizeOf}
+use Rattle.record.specs.Format.{decodeOf}
 use Rattle.trace.specs.Records.{tied}
 use Rattle.trace.specs.Swaps.{no-pair, is-tied, made}
 use Rattle.trace.specs.Order.{inForce}

@@ -12,10 +12,11 @@ use borrow.Author.Tests.{ne-eqb}
 use Rattle.machine.specs.declared.Racking.{Racking}
 use Rattle.machine.specs.Machine.{Each}
 use Rattle.record.specs.declared.Record.{Record}
+use Rattle.record.specs.Kinds.{RACK}
 use Rattle.record.specs.Format.{Encodes, byte, signedOf}
-use Rattle.run.proofs.Premises.{is}
+use Rattle.record.specs.Names.{isRack, rackingAfter}
+use Rattle.record.proofs.Shapes.{is}
 use Rattle.trace.specs.Order.{inForce}
-use Rattle.rewrite.specs.Extents.{isRack, rackingAfter}
 use Rattle.rewrite.specs.Programs.{recordsOf, what, knitting}
 use Rattle.rewrite.specs.Rewrite.{rackingZero}
 use Rattle.rewrite.specs.Laid.{isRecord, rackByte, Marked}
@@ -24,7 +25,7 @@ use Rattle.rewrite.proofs.Records.{record-form}
 -- ---- along the records
 -- the byte after one record more
 abbrev pub byteAfter : ℕ → List ℕ → ℕ
-byteAfter b x = cond (eqb (byte x 0) 1) (byte x 1) b
+byteAfter b x = cond (eqb (byte x 0) RACK) (byte x 1) b
 
 rack-append : (b : ℕ) (u v : List (List ℕ)) → rackByte b (u ++ v) ≡ rackByte (rackByte b u) v
 unfolding rackByte
@@ -62,10 +63,10 @@ form-rack : {x : List ℕ} {y : Record} → Encodes x y → (b : ℕ) → rackin
 form-rack (Encodes.rack h) b = refl
 form-rack (Encodes.drop h i) b = refl
 form-rack (Encodes.xfer h i j) b = refl
-form-rack (Encodes.work {kind = k} a c d e f g h) b = let n = ne-eqb k 1 (λ q. omega arith) in simp n
+form-rack (Encodes.work {kind = k} a c d e f g h) b = let n = ne-eqb k RACK (λ q. omega arith) in simp n
 form-rack (Encodes.split c d e f g h) b = refl
 
-form-kind : {x : List ℕ} {y : Record} → Encodes x y → eqb (byte x 0) 1 ≡ isRack y
+form-kind : {x : List ℕ} {y : Record} → Encodes x y → eqb (byte x 0) RACK ≡ isRack y
 form-kind (Encodes.rack h) = refl
 form-kind (Encodes.drop h i) = refl
 form-kind (Encodes.xfer h i j) = refl
@@ -84,7 +85,7 @@ no-rack = refl
 pub force-is : (u : List (List ℕ)) → Each (λ (x : List ℕ). isRecord x ≡ true) u → inForce knitting rackingZero u ≡ racked (rackByte 0 u)
 force-is u w = ap (λ (r : Racking). inForce knitting r u) no-rack ∙ in-force 0 u w
 
-pub kind-is : (x : List ℕ) → isRecord x ≡ true → eqb (byte x 0) 1 ≡ isRack (what x)
+pub kind-is : (x : List ℕ) → isRecord x ≡ true → eqb (byte x 0) RACK ≡ isRack (what x)
 kind-is x w = form-kind (record-form x w)
 
 -- ---- at every 64th record

@@ -7,13 +7,15 @@ use native.Mathlib.Omega.{arith}
 use lib.Dec.{eqb}
 use lib.ListN.{length, take, drop, length-append, length-drop, take-append-drop}
 use lib.Seq.{take-length, take-at, drop-at}
-use borrow.Author.Tests.{eqb-true, eq-eqb, ne-eqb, le-leb}
+use borrow.Author.Tests.{eqb-true, eq-eqb}
 use Rattle.machine.specs.declared.State.{State}
 use Rattle.machine.specs.Machine.{Each}
 use Rattle.machine.proofs.Laws.{and-two}
 use Rattle.record.specs.declared.Record.{Record}
 use Rattle.record.specs.declared.Decoded.{Decoded}
-use Rattle.record.specs.Format.{Encodes, sizeOf, byte, decodeOf}
+use Rattle.record.specs.Kinds.{byKind, sizeOf}
+use Rattle.record.specs.Format.{Encodes, byte, decodeOf}
+use Rattle.record.proofs.Shapes.{work-size}
 use Rattle.record.proofs.Forms.{form-decode, decode-form}
 use Rattle.run.specs.Relation.{Steps}
 use Rattle.run.specs.Run.{runOf}
@@ -68,16 +70,12 @@ pub record Sized (x : List ℕ) : Type 0 where
   pub kind : length x ≡ sizeOf (byte x 0)
 
 form-size : {x : List ℕ} {r : Record} → Encodes x r → Sized x
-unfolding sizeOf
+unfolding byKind
 form-size (Encodes.rack h) = record { least = omega arith; most = omega arith; kind = refl }
 form-size (Encodes.drop h i) = record { least = omega arith; most = omega arith; kind = refl }
 form-size (Encodes.xfer h i j) = record { least = omega arith; most = omega arith; kind = refl }
 form-size (Encodes.work {kind = k} a b c d e f g) =
-    record {
-      least = omega arith;
-      most = omega arith;
-      kind = simp (ne-eqb k 1 (λ q. omega arith), ne-eqb k 2 (λ q. omega arith), ne-eqb k 3 (λ q. omega arith), le-leb 4 k a, le-leb k 8 b);
-    }
+    record { least = omega arith; most = omega arith; kind = sym (work-size k a b) }
 form-size (Encodes.split c d e f g h) = record { least = omega arith; most = omega arith; kind = refl }
 
 pub record-size : (x : List ℕ) → isRecord x ≡ true → Sized x

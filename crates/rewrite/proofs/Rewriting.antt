@@ -8,10 +8,11 @@ use lib.Dec.{eqb, ltb}
 use lib.ListN.{length, take, drop, length-append, length-drop}
 use lib.Seq.{take-length, take-at, drop-at}
 use borrow.Author.Tests.{eq-eqb, ne-eqb, eqb-true, lt-ltb, le-ltb, ltb-false}
+use Rattle.machine.specs.Limits.{programMost, logMost}
 use Rattle.machine.specs.Machine.{emptyState}
 use Rattle.run.specs.declared.Answer.{Answer}
 use Rattle.run.specs.Run.{reached, answerOf, runOf}
-use Rattle.record.proofs.Forms.{cond-cases}
+use Rattle.record.proofs.Shapes.{cond-cases}
 use Rattle.run.proofs.Answers.{FullSize, answered, answer-size, empty-size}
 use Rattle.run.proofs.Demand.{place-bound}
 use Rattle.run.specs.declared.Ended.{Ended}
@@ -25,26 +26,26 @@ use Rattle.rewrite.proofs.Replays.{replay-moved, replay-within}
 
 -- ---- the lengths
 module _ (program log output work : ℕ) where
-  pub program-long : 32768 < program → lentNo program log output work ≡ 1
+  pub program-long : programMost < program → lentNo program log output work ≡ 1
   unfolding lentNo
-  program-long h = simp (lt-ltb 32768 program h)
+  program-long h = simp (lt-ltb programMost program h)
 
-  pub log-long : program ≤ 32768 → 32768 < log → lentNo program log output work ≡ 1
+  pub log-long : program ≤ programMost → logMost < log → lentNo program log output work ≡ 1
   unfolding lentNo
-  log-long h i = simp (le-ltb 32768 program h, lt-ltb 32768 log i)
+  log-long h i = simp (le-ltb programMost program h, lt-ltb logMost log i)
 
-  module _ (h : program ≤ 32768) (i : log ≤ 32768) where
+  module _ (h : program ≤ programMost) (i : log ≤ logMost) where
     pub output-short : output < program → lentNo program log output work ≡ 2
     unfolding lentNo
-    output-short k = simp (le-ltb 32768 program h, le-ltb 32768 log i, lt-ltb output program k)
+    output-short k = simp (le-ltb programMost program h, le-ltb logMost log i, lt-ltb output program k)
 
     pub work-short : program ≤ output → work < program / 2 → lentNo program log output work ≡ 2
     unfolding lentNo
-    work-short k m = simp (le-ltb 32768 program h, le-ltb 32768 log i, le-ltb output program k, lt-ltb work (program / 2) m)
+    work-short k m = simp (le-ltb programMost program h, le-ltb logMost log i, le-ltb output program k, lt-ltb work (program / 2) m)
 
     pub all-enough : program ≤ output → program / 2 ≤ work → lentNo program log output work ≡ 0
     unfolding lentNo
-    all-enough k m = simp (le-ltb 32768 program h, le-ltb 32768 log i, le-ltb output program k, le-ltb work (program / 2) m)
+    all-enough k m = simp (le-ltb programMost program h, le-ltb logMost log i, le-ltb output program k, le-ltb work (program / 2) m)
 
 -- what 0 says
 neither : (a b : Bool) {m n : ℕ} → (n ≡ 0 → ⊥) → cond (a || b) n m ≡ 0 → (a ≡ false) × (b ≡ false) × (m ≡ 0)
@@ -58,12 +59,12 @@ all-lent program log output work e = all-enough program log output work (e .shor
 pub enough : (program log output work : ℕ) → lentNo program log output work ≡ 0 → Enough program log output work
 unfolding lentNo
 enough program log output work e =
-    let (a, b, f) = neither (ltb 32768 program) (ltb 32768 log) (λ q. omega arith) e in
+    let (a, b, f) = neither (ltb programMost program) (ltb logMost log) (λ q. omega arith) e in
     let (c, d, g) = neither (ltb output program) (ltb work (program / 2)) (λ q. omega arith) f in
-    record { short = ltb-false 32768 program a; log-short = ltb-false 32768 log b; room = ltb-false output program c; entries = ltb-false work (program / 2) d }
+    record { short = ltb-false programMost program a; log-short = ltb-false logMost log b; room = ltb-false output program c; entries = ltb-false work (program / 2) d }
 
 -- ---- the parts that are lent on
-pub sound-run : (p : List ℕ) → length p ≤ 32768 → runOf p .number ≡ 0 → Sound p
+pub sound-run : (p : List ℕ) → length p ≤ programMost → runOf p .number ≡ 0 → Sound p
 sound-run p h e = record { records = accepted-records p e; short = h }
 
 -- the output after the copy
@@ -162,11 +163,11 @@ module _ (p log output work : List ℕ) where
       cond-cases P (eqb number 0) (λ z. cond-cases P (eqb (runOf p .number) 0) (λ y. f (eqb-true number 0 z)) (λ y. g)) (λ z. h)
 
   -- a place lies within a program or a log
-  pub place-small : call .answer .place < 32768
+  pub place-small : call .answer .place < programMost
   unfolding answerOf
   place-small =
-      by-call (λ (r : Rewritten). r .answer .place < 32768)
-      (λ z. replay-within 32768 (omega arith) log 0 (recordsOf p) (omega (arith, enough (length p) (length log) (length output) (length work) z .log-short)))
+      by-call (λ (r : Rewritten). r .answer .place < programMost)
+      (λ z. replay-within programMost (omega arith) log 0 (recordsOf p) (omega (arith, enough (length p) (length log) (length output) (length work) z .log-short)))
       (place-bound p) (omega arith)
 
   -- its state has 500 hooks and ten carriers

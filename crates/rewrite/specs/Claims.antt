@@ -7,9 +7,11 @@ use mathlib.Core.Logic.{_↔_}
 use lib.ListN.{length, take}
 use Rattle.machine.specs.declared.Needle.{Needle}
 use Rattle.machine.specs.declared.Racking.{Racking}
+use Rattle.machine.specs.Limits.{programMost}
 use Rattle.machine.specs.declared.State.{State}
 use Rattle.machine.specs.Machine.{Each}
 use Rattle.record.specs.declared.Record.{Record}
+use Rattle.record.specs.Kinds.{DROP, XFER, TUCK, KNIT, SPLIT, carriersNamed}
 use Rattle.record.specs.Format.{Encodes}
 use Rattle.run.specs.Relation.{Valid}
 use Rattle.trace.specs.Records.{tied}
@@ -39,20 +41,20 @@ EqualRecordsTied = (r : Racking) (x : List ℕ) → tied knitting r x x ≡ true
 
 -- 'A needle's history is the list of drop, xfer, tuck, knit and split records naming it', first or second; 'in, out and miss pass by the hook and don't enter'
 pub data Enters (n : Needle) (x : Record) : Type 0 where
-  by-drop : x .kind ≡ 2 → x .at ≡ n → Enters n x
-  xfer-from : x .kind ≡ 3 → x .at ≡ n → Enters n x
-  xfer-to : x .kind ≡ 3 → x .to ≡ n → Enters n x
-  by-tuck : x .kind ≡ 7 → x .at ≡ n → Enters n x
-  by-knit : x .kind ≡ 8 → x .at ≡ n → Enters n x
-  split-from : x .kind ≡ 9 → x .at ≡ n → Enters n x
-  split-to : x .kind ≡ 9 → x .to ≡ n → Enters n x
+  by-drop : x .kind ≡ DROP → x .at ≡ n → Enters n x
+  xfer-from : x .kind ≡ XFER → x .at ≡ n → Enters n x
+  xfer-to : x .kind ≡ XFER → x .to ≡ n → Enters n x
+  by-tuck : x .kind ≡ TUCK → x .at ≡ n → Enters n x
+  by-knit : x .kind ≡ KNIT → x .at ≡ n → Enters n x
+  split-from : x .kind ≡ SPLIT → x .at ≡ n → Enters n x
+  split-to : x .kind ≡ SPLIT → x .to ≡ n → Enters n x
 
 abbrev pub EntersExactly : Type 0
 EntersExactly = (n : Needle) (bytes : List ℕ) (x : Record) → Encodes bytes x → (names (needle n) bytes ≡ true) ↔ Enters n x
 
--- 'a carrier's is the list of all records naming it': those from in (4) on name one
+-- 'a carrier's is the list of all records naming it'
 abbrev pub Carries : ℕ → Record → Type 0
-Carries k x = (4 ≤ x .kind) × (x .carrier ≡ k)
+Carries k x = (1 ≤ carriersNamed (x .kind)) × (x .carrier ≡ k)
 
 abbrev pub CarrierExactly : Type 0
 CarrierExactly = (k : ℕ) (bytes : List ℕ) (x : Record) → Encodes bytes x → (names (carrier k) bytes ≡ true) ↔ Carries k x
@@ -70,7 +72,7 @@ HistoriesExactly =
 
 -- a place lies within a program or a log, so that number and place go into one word
 abbrev pub RewritePlaceIsSmall : Type 0
-RewritePlaceIsSmall = (program log output work : List ℕ) → rewriteOf program log output work .answer .place < 32768
+RewritePlaceIsSmall = (program log output work : List ℕ) → rewriteOf program log output work .answer .place < programMost
 
 -- ---- what is kept
 -- the same records between the same racks, and the same order of every two tied records, each known by its bytes and its count

@@ -7,9 +7,11 @@ use mathlib.Core.List.{List, [], _∷_, _++_}
 use mathlib.Core.Logic.{_↔_}
 use lib.ListN.{length, drop}
 use Rattle.machine.specs.declared.Racking.{Racking}
+use Rattle.machine.specs.Limits.{programMost, logMost}
 use Rattle.machine.specs.declared.State.{State}
 use Rattle.machine.specs.Machine.{emptyState, Each}
 use Rattle.record.specs.declared.Record.{Record}
+use Rattle.record.specs.Kinds.{RACK}
 use Rattle.record.specs.Format.{Encodes}
 use Rattle.run.specs.declared.Answer.{Answer}
 use Rattle.run.specs.Relation.{Valid}
@@ -23,8 +25,8 @@ use Rattle.rewrite.specs.Rewrite.{rackingZero, Rewritten, refused, rewri
 module _ (program log output work : ℕ) where
   -- 1, 'program or log over its limit'
   pub data TooLong : Type 0 where
-    long-program : 32768 < program → TooLong
-    long-log : 32768 < log → TooLong
+    long-program : programMost < program → TooLong
+    long-log : logMost < log → TooLong
 
   -- 2, 'output shorter than the program, work entries fewer than half its bytes rounded down'
   pub data NoBench : Type 0 where
@@ -33,8 +35,8 @@ module _ (program log output work : ℕ) where
 
   -- neither
   pub record Enough : Type 0 where
-    pub short : program ≤ 32768
-    pub log-short : log ≤ 32768
+    pub short : program ≤ programMost
+    pub log-short : log ≤ logMost
     pub room : program ≤ output
     pub entries : program / 2 ≤ work
 
@@ -46,8 +48,8 @@ pub record RecordsAre (program : List ℕ) (l : List (List ℕ)) : Type 0 where
 
 -- 'Two records are tied if either is a rack, if they name one carrier, or if their extents meet': 'if they share a half column and a layer'
 pub data Tied (r : Racking) (x y : List ℕ) : Type 0 where
-  first-rack : what x .kind ≡ 1 → Tied r x y
-  second-rack : what y .kind ≡ 1 → Tied r x y
+  first-rack : what x .kind ≡ RACK → Tied r x y
+  second-rack : what y .kind ≡ RACK → Tied r x y
   one-carrier : (k : ℕ) → names (carrier k) x ≡ true → names (carrier k) y ≡ true → Tied r x y
   extents-meet : Share (extentOf r (what x)) (extentOf r (what y)) → Tied r x y
 

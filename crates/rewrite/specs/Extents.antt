@@ -11,8 +11,14 @@ use Rattle.machine.specs.declared.Needle.{Needle}
 use Rattle.machine.specs.declared.Racking.{Racking}
 use Rattle.machine.specs.Geometry.{columnOf}
 use Rattle.record.specs.declared.Record.{Record}
+use Rattle.record.specs.Kinds.{DROP, XFER, IN, OUT, MISS, TUCK, KNIT}
 use Rattle.record.specs.Names.{carriersOf}
 use Rattle.rewrite.specs.declared.Extent.{Extent}
+
+-- a number is one of a list
+unfoldable pub member : ℕ → List ℕ → Bool
+member i [] = false
+member i (j ∷ l) = eqb i j || member i l
 
 -- column z is half column 2z
 unfoldable pub halfColumn : Needle → Racking → ℤ
@@ -33,14 +39,14 @@ broad h low high = record { left = h -ℤ pos 1; right = h +ℤ pos 1; low = low
 abbrev pub formExtent : ℤ → Needle → ℕ → Extent
 formExtent h n k = cond (eqb (n .0) 0) (broad h 0 k) (broad h k 11)
 
--- a record's extent at the racking in force: drop (2), xfer (3), in to miss (4 to 6), tuck and knit (7, 8), split (9).
+-- a record's extent at the racking in force; the last is split's.
 -- 01 gives a rack none; the last arm answers for it too, and no tie asks, since a rack is tied by its kind
 unfoldable pub extentOf : Racking → Record → Extent
 extentOf r x =
-    cond (eqb (x .kind) 2) (narrow (halfColumn (x .at) r) (layerOf (x .at)) (layerOf (x .at)))
-    (cond (eqb (x .kind) 3) (narrow (halfColumn (x .at) r) 0 11)
-    (cond (leb 4 (x .kind) && leb (x .kind) 6) (broad (halfColumn (x .at) r) (x .carrier) (x .carrier))
-    (cond (leb 7 (x .kind) && leb (x .kind) 8) (formExtent (halfColumn (x .at) r) (x .at) (x .carrier))
+    cond (eqb (x .kind) DROP) (narrow (halfColumn (x .at) r) (layerOf (x .at)) (layerOf (x .at)))
+    (cond (eqb (x .kind) XFER) (narrow (halfColumn (x .at) r) 0 11)
+    (cond (member (x .kind) (IN ∷ OUT ∷ MISS ∷ [])) (broad (halfColumn (x .at) r) (x .carrier) (x .carrier))
+    (cond (member (x .kind) (TUCK ∷ KNIT ∷ [])) (formExtent (halfColumn (x .at) r) (x .at) (x .carrier))
     (broad (halfColumn (x .at) r) 0 11))))
 
 -- a point that an extent covers: a half column and a layer
@@ -59,20 +65,9 @@ unfoldable pub meets : Extent → Extent → Bool
 meets a b = (leZ (a .left) (b .right) && leZ (b .left) (a .right)) && (leb (a .low) (b .high) && leb (b .low) (a .high))
 
 -- two records name one carrier
-unfoldable pub member : ℕ → List ℕ → Bool
-member i [] = false
-member i (j ∷ l) = eqb i j || member i l
-
 unfoldable pub common : List ℕ → List ℕ → Bool
 common [] js = false
 common (i ∷ is) js = member i js || common is js
 
 abbrev pub shareCarrier : Record → Record → Bool
 shareCarrier x y = common (carriersOf x) (carriersOf y)
-
-abbrev pub isRack : Record → Bool
-isRack x = eqb (x .kind) 1
-
--- the racking in force after a record
-abbrev pub rackingAfter : Racking → Record → Racking
-rackingAfter r x = cond (isRack x) (x .racking) r

@@ -8,11 +8,14 @@ use lib.Dec.{eqb, ltb}
 use lib.ListN.{length, take, drop, getD}
 use Rattle.machine.specs.declared.Column.{Column}
 use Rattle.machine.specs.declared.Racking.{Racking}
+use Rattle.machine.specs.Limits.{programMost}
 use Rattle.machine.specs.Machine.{Each}
 use Rattle.record.specs.declared.Record.{Record}
+use Rattle.record.specs.Kinds.{RACK}
+use Rattle.record.specs.Names.{isRack}
 use Rattle.record.specs.Format.{byte, signedOf, decodeOf}
 use Rattle.trace.specs.Swaps.{Outcome, no-pair, is-tied, made}
-use Rattle.rewrite.specs.Extents.{extentOf, meets, shareCarrier, isRack}
+use Rattle.rewrite.specs.Extents.{extentOf, meets, shareCarrier}
 use Rattle.rewrite.specs.declared.Pair.{Pair}
 use Rattle.rewrite.specs.declared.LogRecord.{LogRecord}
 use Rattle.rewrite.specs.declared.LogRecord.the-variants.{Torn, Swap}
@@ -37,12 +40,12 @@ isRecord x = eqb (decodeOf x .number) 0 && eqb (decodeOf x .size) (length x)
 -- a short program of records
 pub record Sound (program : List ℕ) : Type 0 where
   pub records : Each (λ (x : List ℕ). isRecord x ≡ true) (recordsOf program)
-  pub short : length program ≤ 32768
+  pub short : length program ≤ programMost
 
 -- the racking in force after records, as the byte that a rack gave it
 unfoldable pub rackByte : ℕ → List (List ℕ) → ℕ
 rackByte b [] = b
-rackByte b (x ∷ l) = rackByte (cond (eqb (byte x 0) 1) (byte x 1) b) l
+rackByte b (x ∷ l) = rackByte (cond (eqb (byte x 0) RACK) (byte x 1) b) l
 
 -- the program in the output and its starts, and no more than these, in the work area
 pub record Laid (program work : List ℕ) : Type 0 where

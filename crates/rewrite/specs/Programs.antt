@@ -9,11 +9,12 @@ use Rattle.machine.specs.declared.Racking.{Racking}
 use Rattle.machine.specs.Machine.{sameNeedle}
 use Rattle.machine.specs.Geometry.{eqZ}
 use Rattle.record.specs.declared.Record.{Record}
-use Rattle.record.specs.Format.{sizeOf, decodeOf}
-use Rattle.record.specs.Names.{needlesOf, carriersOf}
+use Rattle.record.specs.Kinds.{sizeOf}
+use Rattle.record.specs.Format.{decodeOf}
+use Rattle.record.specs.Names.{needlesOf, carriersOf, isRack, rackingAfter}
 use Rattle.trace.specs.Lists.{keep}
 use Rattle.trace.specs.Records.{Records}
-use Rattle.rewrite.specs.Extents.{extentOf, meets, member, shareCarrier, isRack, rackingAfter}
+use Rattle.rewrite.specs.Extents.{extentOf, meets, member, shareCarrier}
 
 -- 'A program is records end to end'
 abbrev pub flat : List (List ℕ) → List ℕ

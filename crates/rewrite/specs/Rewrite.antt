@@ -6,6 +6,7 @@ use lib.Dec.{eqb, ltb}
 use lib.IntN.{pos}
 use lib.ListN.{length, drop}
 use Rattle.machine.specs.declared.Racking.{Racking}
+use Rattle.machine.specs.Limits.{programMost, logMost}
 use Rattle.machine.specs.Machine.{emptyState}
 use Rattle.run.specs.declared.Answer.{Answer}
 use Rattle.run.specs.Run.{reached, answerOf, runOf}
@@ -61,7 +62,7 @@ replay log at l = replayFrom 0 log at l
 -- 1 (too long), 2 (01: no bench), or 0, by the lengths of program, log, output and work area
 unfoldable pub lentNo : ℕ → ℕ → ℕ → ℕ → ℕ
 lentNo program log output work =
-    cond (ltb 32768 program || ltb 32768 log) 1
+    cond (ltb programMost program || ltb logMost log) 1
     (cond (ltb output program || ltb work (program / 2)) 2 0)
 
 -- what a call gives and leaves

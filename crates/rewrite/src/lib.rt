@@ -11,7 +11,20 @@ use machine::Column;
 use machine::Needle;
 use machine::Racking;
 use machine::State;
+use machine::numbers::NO_PAIR;
+use machine::numbers::NO_ROOM;
+use machine::numbers::TIED;
+use machine::numbers::TOO_LONG;
+use machine::numbers::TORN_LOG;
+use record::DROP;
+use record::IN;
+use record::KNIT;
+use record::MISS;
+use record::RACK;
 use record::Record;
+use record::SPLIT;
+use record::TUCK;
+use record::XFER;
 use run::Answer;
 use run::Ended;
 
@@ -35,13 +48,6 @@ enum LogRecord {
     Torn,
     Swap(usize),
 }
-
-// The numbers of refusals, besides those of the run; 01's word for 2 is no bench.
-pub const NO_PAIR: u8 = 12;
-
-pub const TIED: u8 = 13;
-
-pub const TORN_LOG: u8 = 14;
 
 // The layer of the back bed; the front bed's is 0, carriers lie between.
 pub const BACK: u8 = 11;
@@ -111,19 +117,14 @@ pub fn extent_of(x: Record, r: Racking) -> Extent
     let kind = x.kind;
     let all = broad(n, r, 0, BACK);
     match kind {
-        // drop
-        2 => {
+        DROP => {
             let k = layer(n);
             narrow(n, r, k, k)
         }
-        // xfer
-        3 => narrow(n, r, 0, BACK),
-        // in, out, miss
-        4..=6 => broad(n, r, x.carrier, x.carrier),
-        // tuck, knit
-        7..=8 => form(n, r, x.carrier),
-        // split
-        9 => all,
+        XFER => narrow(n, r, 0, BACK),
+        IN..=MISS => broad(n, r, x.carrier, x.carrier),
+        TUCK..=KNIT => form(n, r, x.carrier),
+        SPLIT => all,
         // a rack has no extent: no tie asks for it
         _ => all,
     }
@@ -151,10 +152,10 @@ impl Extent {
 fn share_carrier(x: Record, y: Record) -> bool
     ensures { λ b. ⌜ b ≡ shareCarrier x y ⌝ }
 {
-    if x.kind <= 3 {
+    if !record::names_carrier(x.kind) {
         return false;
     }
-    if y.kind <= 3 {
+    if !record::names_carrier(y.kind) {
         return false;
     }
     x.carrier == y.carrier
@@ -164,10 +165,10 @@ fn share_carrier(x: Record, y: Record) -> bool
 fn bound(x: Record, y: Record) -> bool
     ensures { λ b. ⌜ b ≡ boundTo x y ⌝ }
 {
-    if x.kind == 1 {
+    if x.kind == RACK {
         return true;
     }
-    if y.kind == 1 {
+    if y.kind == RACK {
         return true;
     }
     share_carrier(x, y)
@@ -297,7 +298,7 @@ fn racking_after(program: &[u8], work: &[u16], i: usize, n: usize, r: u8) -> u8
     let mut j = i;
     while j < n {
         let at = start(work, j);
-        if program[at] == 1 {
+        if program[at] == RACK {
             b = program[at + 1];
         }
         j += 1;
@@ -411,16 +412,16 @@ fn lent(program: usize, log: usize, output: usize, work: usize) -> u8
     ensures { λ k. ⌜ k ≡ lentNo program log output work ⌝ }
 {
     if State::PROGRAM_MOST < program {
-        return run::TOO_LONG;
+        return TOO_LONG;
     }
     if LOG_MOST < log {
-        return run::TOO_LONG;
+        return TOO_LONG;
     }
     if output < program {
-        return run::NO_ROOM;
+        return NO_ROOM;
     }
     if work < program / 2 {
-        return run::NO_ROOM;
+        return NO_ROOM;
     }
     0
 }

@@ -18,7 +18,7 @@ use Rattle.machine.specs.Geometry.{eqZ, columnOf, sameColumn, withinFloat}
 use Rattle.machine.proofs.Signed.{eqZ-yes, eqZ-no, eqZ-true, eqZ-false}
 use Rattle.record.specs.declared.Record.{Record}
 use Rattle.record.proofs.Shapes.{is}
-use Rattle.record.proofs.Forms.{cond-cases}
+use Rattle.record.proofs.Shapes.{cond-cases}
 use Rattle.run.specs.Relation.{Active, Inactive, Attached, ParkedAt, Opposite, Room}
 use Rattle.run.specs.Step.{lookOf, orNumber, parkedNo, floatNo}
 use Rattle.run.specs.Loops.{tuckNo, transferNo}

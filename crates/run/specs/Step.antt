@@ -101,10 +101,10 @@ pub record Act : Type 0 where
 
 unfoldable pub actOf : Record → Racking → Act
 actOf x r =
-    cond (eqb (x .kind) IN) (record { active = 1; slot = entryOf (columnOf (x .at) r) (x .right); keep = false; side = 0; needle = noNeedle })
+    cond (leb 1 (loopsFormed (x .kind))) (record { active = 1; slot = exitOf (columnOf (x .at) r) (x .right); keep = false; side = cond (x .right) 2 1; needle = x .at })
     (cond (eqb (x .kind) OUT) (record { active = 0; slot = record { 0 = pos 0 }; keep = false; side = 0; needle = noNeedle })
     (cond (eqb (x .kind) MISS) (record { active = 1; slot = exitOf (columnOf (x .at) r) (x .right); keep = true; side = 0; needle = noNeedle })
-    (record { active = 1; slot = exitOf (columnOf (x .at) r) (x .right); keep = false; side = cond (x .right) 2 1; needle = x .at })))
+    (record { active = 1; slot = entryOf (columnOf (x .at) r) (x .right); keep = false; side = 0; needle = noNeedle })))
 
 unfoldable pub acted : Act → Carrier → Carrier
 acted a c = record { active = a .active; side = cond (a .keep) (c .side) (a .side); slot = a .slot; needle = cond (a .keep) (c .needle) (a .needle) }

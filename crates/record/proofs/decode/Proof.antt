@@ -12,7 +12,7 @@ use Prim.Native.Nat.{ℕ, _≤_, _<_}
 use Rattle.record.specs.declared.Record.{Record}
 use Rattle.record.specs.declared.Decoded.{Decoded}
 use Rattle.record.specs.Kinds.{KNIT, byKind, sizeOf}
-use Rattle.record.specs.Format.{byte, needle, workRecord, fieldsOk, recordAt, readAs, decodeOf, acrossOf}
+use Rattle.record.specs.Format.{byte, needle, workRecord, fieldsOk, recordFrom, readAs, decodeOf, acrossOf}
 use Rattle.record.proofs.Shapes.{above-bare, work-size, no-size}
 use Rattle.record.proofs.Ranges.{needle-bed, work-bed}
 use Rattle.record.proofs.Forms.{decode-known, decode-strange, work-fields, work-record, across-read, read-was}
@@ -34,7 +34,7 @@ module _ (b : tie.After-byte) where
   is = sym (b .byte .ensures)
 
   -- the kind, its length, fields and record
-  of-kind : (size : ℕ) (ok : Bool) (x : Record) → sizeOf (byte bytes 0) ≡ size → 1 ≤ size → fieldsOk bytes ≡ ok → recordAt bytes ≡ x → readAs bytes size ok x ≡ decodeOf bytes
+  of-kind : (size : ℕ) (ok : Bool) (x : Record) → sizeOf (byte bytes 0) ≡ size → 1 ≤ size → fieldsOk bytes ≡ ok → recordFrom bytes ≡ x → readAs bytes size ok x ≡ decodeOf bytes
   of-kind size ok x p q f r = sym (decode-known bytes some (λ z. omega arith) ∙ simp (p, f, r))
 
 refused-requires : tie.Need-refused-requires
@@ -78,20 +78,20 @@ refused-requires-2 : tie.Need-refused-requires-2
 refused-requires-2 c κs = search needs
 
 returns-2 : tie.Need-returns-2
-unfolding byKind fieldsOk recordAt
+unfolding byKind fieldsOk recordFrom
 returns-2 c = let b = c .before .before in let e = is b ∙ c .before .match .keys1 in c .rack .ensures ∙ of-kind b _ _ _ (simp e) (omega arith) (simp e) (simp e)
 
 returns-3 : tie.Need-returns-3
-unfolding byKind fieldsOk recordAt
+unfolding byKind fieldsOk recordFrom
 returns-3 c = let b = c .before .before in let e = is b ∙ c .before .match .keys2 in c .bare .ensures ∙ of-kind b _ _ _ (simp e) (omega arith) (simp e) (simp e)
 
 returns-4 : tie.Need-returns-4
-unfolding byKind fieldsOk recordAt
+unfolding byKind fieldsOk recordFrom
 returns-4 c = let b = c .before .before .before in let e = is b ∙ c .before .before .match .keys3 in
     c .across .ensures ∙ ap (λ (d : Decoded). acrossOf d (byte (bytes b) 3)) (c .before .bare2 .ensures) ∙ across-read (bytes b) _ _ _ _ _ _ _ _ ∙ of-kind b _ _ _ (simp e) (omega arith) (simp e) (simp e)
 
 returns-5 : tie.Need-returns-5
-unfolding byKind fieldsOk recordAt
+unfolding byKind fieldsOk recordFrom
 returns-5 c = let b = c .before .before .before in let e = is b ∙ c .before .before .match .keys4 in
     c .across2 .ensures ∙ ap (λ (d : Decoded). acrossOf d (byte (bytes b) 5)) (c .before .work .ensures) ∙ across-read (bytes b) _ _ _ _ _ _ _ _ ∙ of-kind b _ _ _ (simp e) (omega arith) (simp e) (simp e)
 

@@ -10,7 +10,7 @@ use lib.ListN.{length}
 use Prim.Native.Nat.{ℕ, _≤_}
 use Rattle.record.specs.declared.Decoded.{Decoded}
 use Rattle.record.specs.Kinds.{sizeOf}
-use Rattle.record.specs.Format.{byte, needle, workOk, workRecord, carried, readAs}
+use Rattle.record.specs.Format.{byte, needle, workOk, workRecord, workFieldsOk, readAs}
 use Rattle.record.proofs.Ranges.{work-right, direction}
 use Rattle.record.proofs.Forms.{read-cut, read-outside, read-inside}
 use Rattle.record.proofs.work.Statement.{statement}
@@ -20,9 +20,9 @@ use Rattle.record.proofs.work.Tie as tie
 module _ (kind size : ℕ) (l : List ℕ) (right bed n k : ℕ) (b1 : right ≡ byte l 1) (b2 : bed ≡ byte l 2) (b3 : n ≡ byte l 3) (b4 : k ≡ byte l 4) (h : size ≤ length l) where
   in-range : workOk right bed n k ≡ true
       → _≡_ {A = Decoded} (record { number = 0; size = size; what = workRecord kind (not (eqb right 0)) (needle bed n) k })
-      (readAs l size (carried l) (workRecord kind (eqb (byte l 1) 1) (needle (byte l 2) (byte l 3)) (byte l 4)))
+      (readAs l size (workFieldsOk l) (workRecord kind (eqb (byte l 1) 1) (needle (byte l 2) (byte l 3)) (byte l 4)))
   in-range w =
-      let ok : carried l ≡ true = simp (← b1, ← b2, ← b3, ← b4) w in
+      let ok : workFieldsOk l ≡ true = simp (← b1, ← b2, ← b3, ← b4) w in
       simp (← b1, ← b2, ← b3, ← b4, direction right (work-right right bed n k w)) (sym (read-inside l size (workOk right bed n k) _ h w))
 
 size-of-requires : tie.Need-size-of-requires

@@ -3,7 +3,7 @@ use borrow.Author.Needs.{needs}
 use native.Mathlib.Omega.{arith}
 use mathlib.Core.Path.{_≡_, sym, _∙_}
 use Rattle.rewrite.specs.Extents.{halfColumn, narrow}
-use Rattle.rewrite.proofs.Extents.{drop-extent, xfer-extent, pass-extent, form-extent, below-extent, split-extent}
+use Rattle.rewrite.proofs.Extents.{drop-extent, xfer-extent, pass-extent, form-extent, other-extent}
 use Rattle.rewrite.proofs.extent_of.Statement.{statement}
 use Rattle.rewrite.proofs.extent_of.Tie as tie
 
@@ -33,7 +33,7 @@ returns-2 : tie.Need-returns-2
 returns-2 c = let a = c .before .before .before .before .args in c .narrow2 .ensures ∙ sym (xfer-extent (a .r) (a .x) (c .before .match .keys2))
 
 returns-3 : tie.Need-returns-3
-returns-3 c = let a = c .before .before .before .args in c .before .broad .ensures ∙ sym (split-extent (a .r) (a .x) (omega (arith, c .match .keys3)))
+returns-3 c = let a = c .before .before .before .args in c .before .broad .ensures ∙ sym (let e = c .match .keys3 in other-extent (a .r) (a .x) (λ q. omega arith) (λ q. omega arith) (λ h j. omega arith))
 
 returns-4 : tie.Need-returns-4
 returns-4 c = let a = c .before .before .before .before .before .before .args in
@@ -45,11 +45,11 @@ returns-5 c = let a = c .before .before .before .before .before .before .before 
 
 -- a rack, and what is no kind
 returns-6 : tie.Need-returns-6
-returns-6 c = let a = c .before .before .before .before .args in c .before .before .broad .ensures ∙ sym (below-extent (a .r) (a .x) (omega (arith, c .if1 .taken)))
+returns-6 c = let a = c .before .before .before .before .args in c .before .before .broad .ensures ∙ sym (let e = c .if1 .taken in let no = c .before .match .rest in other-extent (a .r) (a .x) (no .0 .0 .1) (no .0 .1) (λ h j. omega arith))
 
 returns-7 : tie.Need-returns-7
 returns-7 c = let a = c .before .before .before .before .before .before .args in
-    c .before .before .before .before .broad .ensures ∙ sym (split-extent (a .r) (a .x) (omega (arith, c .if3 .left)))
+    c .before .before .before .before .broad .ensures ∙ sym (let e = c .if3 .left in let no = c .before .before .before .match .rest in other-extent (a .r) (a .x) (no .0 .0 .1) (no .0 .1) (λ h j. omega arith))
 
 pub extent-of-spec : {M : Type 1} → statement M
 extent-of-spec =

@@ -4,7 +4,7 @@ use Prim.Native.Nat.{ℕ, _≤_, _<_}
 use mathlib.Core.Path.{_≡_}
 use mathlib.Core.Bool.{true, false}
 use borrow.Author.Tests.{ne-eqb}
-use Rattle.run.proofs.Premises.{is}
+use Rattle.record.proofs.Shapes.{is}
 use Rattle.rewrite.specs.Rewrite.{writes}
 use Rattle.rewrite.proofs.writes.Statement.{statement}
 use Rattle.rewrite.proofs.writes.Tie as tie
