@@ -30,7 +30,7 @@ struct Pair {
     end: usize,
 }
 
-// A record of a log: not one, or a swap of records i and i + 1.
+// What a log record is read as: torn, or a swap of records i and i + 1.
 enum LogRecord {
     Torn,
     Swap(usize),
