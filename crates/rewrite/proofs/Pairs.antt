@@ -73,6 +73,13 @@ module _ (u : List (List ℕ)) (x y : List ℕ) (v : List (List ℕ)) where
       ∙ sym two
 
 -- ---- records i and i + 1 of a program
+-- in bounds, and short
+pub record Placed (p : List ℕ) (s : Pair) : Type 0 where
+  pub first-long : s .first + 2 ≤ s .second
+  pub second-long : s .second + 2 ≤ s .end
+  pub ends : s .end ≤ length p
+  pub short : s .end - s .first ≤ 12
+
 module _ (p : List ℕ) (sound : Sound p) (i : ℕ) (h : i + 1 < length (recordsOf p)) where
   abbrev pub first : List ℕ
   first = recordAt p i
@@ -125,13 +132,6 @@ module _ (p : List ℕ) (sound : Sound p) (i : ℕ) (h : i + 1 < length (records
     pub pair-is : record { first = a; second = b; end = b + z } ≡ pairAt p i
     pair-is = λ k. record { first = at-a k; second = at-b k; end = ends-at k }
 
-  -- in bounds, and short
-  pub record Placed (s : Pair) : Type 0 where
-    pub first-long : s .first + 2 ≤ s .second
-    pub second-long : s .second + 2 ≤ s .end
-    pub ends : s .end ≤ length p
-    pub short : s .end - s .first ≤ 12
-
   module _ (s : Pair) (at : s ≡ pairAt p i) where
     a : s .first ≡ startAt p i
     a = ap (λ (t : Pair). t .first) at
@@ -142,7 +142,7 @@ module _ (p : List ℕ) (sound : Sound p) (i : ℕ) (h : i + 1 < length (records
     e : s .end ≡ startAt p i + length first + length second
     e = ap (λ (t : Pair). t .end) at ∙ omega (arith, second-end, second-start)
 
-    pub placed : Placed s
+    pub placed : Placed p s
     placed =
         record {
           first-long = omega (arith, a, b, one .sized .least);

@@ -10,7 +10,7 @@ use Rattle.rewrite.specs.Rewrite.{swapOf}
 use Rattle.rewrite.specs.Laid.{Laid, swapNo, leftBy}
 use Rattle.rewrite.proofs.Records.{records-flat}
 use Rattle.rewrite.proofs.Laying.{work-length}
-use Rattle.rewrite.proofs.Pairs.{placed, pair-bytes, pair-starts, pair-tied, pair-made, pair-none}
+use Rattle.rewrite.proofs.Pairs.{Placed, placed, pair-bytes, pair-starts, pair-tied, pair-made, pair-none}
 use borrow.Author.Needs.{needs}
 use Rattle.rewrite.proofs.swap.Statement.{statement}
 use Rattle.rewrite.proofs.swap.Tie as tie
@@ -47,6 +47,11 @@ unfolding Left
 returns c = let k = c .before .before .before .before in let p = k .args .output .now in let w = k .args .work .now in let g = k .pre .0 in let i = k .args .i in
     none-left p w g i (pair-none (recordsOf p) i (omega (arith, c .if1 .taken, work-length p w g)))
 
+-- where the two stand
+there : (c : tie.After-pair-at) → Placed (c .before .before .before .before .before .before .before .args .output .now) (c .pair-at .result)
+there c = let k = c .before .before .before .before .before .before .before in let p = k .args .output .now in let g = k .pre .0 in
+    placed p (g .sound) (k .args .i) (pair-there p (k .args .work .now) g (k .args .i) (c .before .before .before .if1 .left)) _ (c .pair-at .ensures)
+
 pair-at-requires : tie.Need-pair-at-requires
 pair-at-requires c κs = let k = c .before .before .before .before .before .before in (k .pre .0, pair-there (k .args .output .now) (k .args .work .now) (k .pre .0) (k .args .i) (c .before .before .if1 .left))
 
@@ -65,20 +70,20 @@ returns-2 c = let k = c .before .before .before .before .before .before .before 
     tied-left p w g i (pair-tied p (g .sound) i h (sym (c .before .tied .ensures) ∙ c .if2 .taken))
 
 exchange-requires : tie.Need-exchange-requires
-exchange-requires c κs = let k = c .before .before .before .before .before .before .before .before .before .before .before .before in let p = k .args .output .now in let w = k .args .work .now in let g = k .pre .0 in let h = pair-there p w g (k .args .i) (c .before .before .before .before .before .before .before .before .if1 .left) in let s = placed p (g .sound) (k .args .i) h _ (c .before .before .before .before .before .pair-at .ensures) in
+exchange-requires c κs = let s = there (c .before .before .before .before .before) in
     (omega (arith, s .first-long), omega (arith, s .second-long), omega (arith, s .second-long, s .ends), omega (arith, s .second-long, s .short))
 
 sub-work : tie.Need-sub-work
-sub-work c = let k = c .before .before .before .before .before .before .before .before .before .before .before .before .before .before .before .before in let p = k .args .output .now in let w = k .args .work .now in let g = k .pre .0 in let h = pair-there p w g (k .args .i) (c .before .before .before .before .before .before .before .before .before .before .before .before .if1 .left) in let s = placed p (g .sound) (k .args .i) h _ (c .before .before .before .before .before .before .before .before .before .pair-at .ensures) in
+sub-work c = let s = there (c .before .before .before .before .before .before .before .before .before) in
     omega (arith, s .second-long)
 
 add-work : tie.Need-add-work
-add-work c = let k = c .before .before .before .before .before .before .before .before .before .before .before .before .before .before .before .before .before in let p = k .args .output .now in let w = k .args .work .now in let g = k .pre .0 in let h = pair-there p w g (k .args .i) (c .before .before .before .before .before .before .before .before .before .before .before .before .before .if1 .left) in let s = placed p (g .sound) (k .args .i) h _ (c .before .before .before .before .before .before .before .before .before .before .pair-at .ensures) in
-    omega (arith, s .first-long, s .ends, g .sound .short)
+add-work c = let s = there (c .before .before .before .before .before .before .before .before .before .before) in
+    omega (arith, s .first-long, s .ends, c .before .before .before .before .before .before .before .before .before .before .before .before .before .before .before .before .before .pre .0 .sound .short)
 
 cast-work : tie.Need-cast-work
-cast-work c = let k = c .before .before .before .before .before .before .before .before .before .before .before .before .before .before .before .before .before in let p = k .args .output .now in let w = k .args .work .now in let g = k .pre .0 in let h = pair-there p w g (k .args .i) (c .before .before .before .before .before .before .before .before .before .before .before .before .before .if1 .left) in let s = placed p (g .sound) (k .args .i) h _ (c .before .before .before .before .before .before .before .before .before .before .pair-at .ensures) in
-    omega (arith, s .first-long, s .ends, g .sound .short)
+cast-work c = let s = there (c .before .before .before .before .before .before .before .before .before .before) in
+    omega (arith, s .first-long, s .ends, c .before .before .before .before .before .before .before .before .before .before .before .before .before .before .before .before .before .pre .0 .sound .short)
 
 add-work-2 : tie.Need-add-work-2
 add-work-2 c = search needs
