@@ -68,6 +68,9 @@ module _ (p : List ℕ) (sound : Sound p) where
   few : length l * 2 ≤ length p
   few = subst (λ (q : List ℕ). length l * 2 ≤ length q) (records-flat p) (records-length l (sound .records))
 
+  pub records-short : length l ≤ 16384
+  records-short = omega (arith, few, sound .short)
+
   pub stands : (j : ℕ) → j < length l → Stands p j
   stands j h =
       let u = take j l in let x = recordAt p j in let v = drop (suc j) l in
@@ -104,7 +107,7 @@ module _ (p w : List ℕ) (laid : Laid p w) where
   work-length = ap length (laid .starts) ∙ starts-length 0 (recordsOf p)
 
   pub work-short : length w ≤ 16384
-  work-short = omega (arith, work-length, few p (laid .sound), laid .sound .short)
+  work-short = omega (arith, work-length, records-short p (laid .sound))
 
   pub work-start : (j : ℕ) → j < length w → getD w j 0 ≡ startAt p j
   work-start j h =
@@ -112,9 +115,6 @@ module _ (p w : List ℕ) (laid : Laid p w) where
       let n : length (take j (recordsOf p)) ≡ j = length-take-le j (recordsOf p) (omega arith) in
       ap (λ (q : List ℕ). getD q j 0) (laid .starts) ∙ (λ k. getD (startsOf 0 (split-at (recordsOf p) j [] i k)) (sym n k) 0)
       ∙ start-between (take j (recordsOf p)) (recordAt p j) (drop (suc j) (recordsOf p))
-
-  pub laid-stands : (j : ℕ) → j < length w → Stands p j
-  laid-stands j h = stands p (laid .sound) j (omega (arith, work-length))
 
 -- ---- the starts, written one after another: n are written, and the next record starts at `at`
 pub record Upto (p : List ℕ) (n at : ℕ) : Type 0 where

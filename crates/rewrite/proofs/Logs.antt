@@ -151,7 +151,19 @@ module _ (p w table : List ℕ) (laid : Laid p w) (marked : Marked p table) (i :
         };
       }
 
--- ---- one turn: the log record x at a place, with number n, leaves the program q and the starts v
+-- ---- one turn
+-- it ends the log, and all stays
+pub record TurnEnds (log : List ℕ) (at : ℕ) (p w : List ℕ) (n : ℕ) (q v : List ℕ) : Type 0 where
+  pub log-ends : replay (drop at log) at (recordsOf p) ≡ ended n at (recordsOf p)
+  pub program : q ≡ p
+  pub work : v ≡ w
+
+-- or the log goes on behind it, with the records m
+pub record TurnGoes (log : List ℕ) (at : ℕ) (p w table : List ℕ) (m : List (List ℕ)) (q v : List ℕ) : Type 0 where
+  pub log-goes : replay (drop at log) at (recordsOf p) ≡ replay (drop (at + 3) log) (at + 3) (recordsOf q)
+  pub now : After p w table m q v
+
+-- the log record x at a place, with number n, leaves the program q and the starts v
 module _ (log : List ℕ) (at : ℕ) (more : at < length log) (p w table : List ℕ) (laid : Laid p w) (marked : Marked p table) (x : LogRecord) (read : x ≡ logRecordOf (drop at log))
     (n : ℕ) (number : n ≡ followNo x (recordsOf p)) (q v : List ℕ) (bytes : q ≡ flat (leftAfter x (recordsOf p))) (starts : v ≡ startsOf 0 (leftAfter x (recordsOf p))) where
   abbrev rest : List (List ℕ) → Replay
@@ -160,23 +172,12 @@ module _ (log : List ℕ) (at : ℕ) (more : at < length log) (p w table : List 
   turn : replay (drop at log) at (recordsOf p) ≡ onRecord x at (recordsOf p) rest
   turn = log-next log at (recordsOf p) more ∙ ap (λ (y : LogRecord). onRecord y at (recordsOf p) rest) (sym read)
 
-  -- it ends the log, and all stays
-  pub record Ends : Type 0 where
-    pub log-ends : replay (drop at log) at (recordsOf p) ≡ ended n at (recordsOf p)
-    pub program : q ≡ p
-    pub work : v ≡ w
-
-  pub turn-ends : (n ≡ 0 → ⊥) → Ends
+  pub turn-ends : (n ≡ 0 → ⊥) → TurnEnds log at p w n q v
   turn-ends d =
       let (e, f) = follow-refused x at n (recordsOf p) rest number d in
       record { log-ends = turn ∙ e; program = bytes ∙ ap flat f ∙ records-flat p; work = starts ∙ ap (startsOf 0) f ∙ sym (laid .starts) }
 
-  -- or the log goes on behind it
-  pub record Goes : Type 0 where
-    pub log-goes : replay (drop at log) at (recordsOf p) ≡ replay (drop (at + 3) log) (at + 3) (recordsOf q)
-    pub now : After p w table (leftAfter x (recordsOf p)) q v
-
-  pub turn-goes : n ≡ 0 → Goes
+  pub turn-goes : n ≡ 0 → TurnGoes log at p w table (leftAfter x (recordsOf p)) q v
   turn-goes z =
       let (e, i, f) = follow-made x at n (recordsOf p) rest number z in
       let a = after-swap p w table laid marked i (leftAfter x (recordsOf p)) f q v bytes starts in

@@ -1,4 +1,4 @@
--- Two neighbours of a program that is laid: where they stand, what a swap of them is, and what it leaves. Assumes nothing.
+-- Two neighbours of a program: where they stand, what a swap of them is, and what it leaves. Assumes nothing.
 use Prim.Native.Nat.{ℕ, suc, _+_, _-_, _≤_, _<_}
 use mathlib.Core.Path.{_≡_, refl, sym, ap, subst, _∙_}
 use mathlib.Core.Bool.{true, false}
@@ -21,10 +21,10 @@ use Rattle.trace.proofs.Theorems.{made-iff-untied, refused-iff-tied, no-pair-if
 use Rattle.rewrite.specs.declared.Pair.{Pair}
 use Rattle.rewrite.specs.Programs.{flat, recordsOf, startsOf, what, knitting}
 use Rattle.rewrite.specs.Rewrite.{rackingZero, swapOf}
-use Rattle.rewrite.specs.Laid.{tiedAt, isRecord, Laid, recordAt, startAt, pairAt, inForceAt, exchanged}
+use Rattle.rewrite.specs.Laid.{tiedAt, isRecord, Sound, Laid, recordAt, startAt, pairAt, inForceAt, exchanged}
 use Rattle.rewrite.proofs.Extents.{tied-bytes}
 use Rattle.rewrite.proofs.Records.{each-part, records-flat}
-use Rattle.rewrite.proofs.Laying.{flat-append, starts-append, starts-length, start-next, Stands, size-at, bytes-at, work-length, laid-stands}
+use Rattle.rewrite.proofs.Laying.{flat-append, starts-append, starts-length, start-next, Stands, stands, size-at, bytes-at}
 use Rattle.rewrite.proofs.Rackings.{force-is}
 
 -- ---- a list with two neighbours, and the same with the two exchanged
@@ -73,8 +73,15 @@ module _ (u : List (List ℕ)) (x y : List ℕ) (v : List (List ℕ)) where
       ∙ (λ i. (s ++ c ∷ []) ++ f i ∷ startsOf (g i) v)
       ∙ sym two
 
--- ---- records i and i + 1 of a program that is laid
-module _ (p w : List ℕ) (laid : Laid p w) (i : ℕ) (h : i + 1 < length w) where
+-- ---- records i and i + 1 of a program
+-- in bounds, and short
+pub record Placed (p : List ℕ) (s : Pair) : Type 0 where
+  pub first-long : s .first + 2 ≤ s .second
+  pub second-long : s .second + 2 ≤ s .end
+  pub ends : s .end ≤ length p
+  pub short : s .end - s .first ≤ 12
+
+module _ (p : List ℕ) (sound : Sound p) (i : ℕ) (h : i + 1 < length (recordsOf p)) where
   abbrev pub first : List ℕ
   first = recordAt p i
 
@@ -91,32 +98,29 @@ module _ (p w : List ℕ) (laid : Laid p w) (i : ℕ) (h : i + 1 < length w) whe
   abbrev exchangedPair : List (List ℕ)
   exchangedPair = front ++ second ∷ first ∷ rest
 
-  enough : i + 1 < length (recordsOf p)
-  enough = omega (arith, work-length p w laid)
-
   pair-cut : recordsOf p ≡ front ++ first ∷ second ∷ rest
   pair-cut =
-      split-at (recordsOf p) i [] (omega (arith, enough))
-      ∙ ap (λ (l : List (List ℕ)). front ++ first ∷ l) (ap (λ (n : ℕ). drop n (recordsOf p)) (sym (add-one i)) ∙ drop-cons (recordsOf p) (i + 1) [] enough)
+      split-at (recordsOf p) i [] (omega arith)
+      ∙ ap (λ (l : List (List ℕ)). front ++ first ∷ l) (ap (λ (n : ℕ). drop n (recordsOf p)) (sym (add-one i)) ∙ drop-cons (recordsOf p) (i + 1) [] h)
 
   front-length : length front ≡ i
-  front-length = length-take-le i (recordsOf p) (omega (arith, enough))
+  front-length = length-take-le i (recordsOf p) (omega arith)
 
   one : Stands p i
-  one = laid-stands p w laid i (omega arith)
+  one = stands p sound i (omega arith)
 
   pub two : Stands p (i + 1)
-  two = laid-stands p w laid (i + 1) h
+  two = stands p sound (i + 1) h
 
   front-records : Each (λ (x : List ℕ). isRecord x ≡ true) front
-  front-records = each-part (λ (x : List ℕ). isRecord x ≡ true) front (first ∷ second ∷ rest) (subst (Each (λ (x : List ℕ). isRecord x ≡ true)) pair-cut (laid .sound .records)) .0
+  front-records = each-part (λ (x : List ℕ). isRecord x ≡ true) front (first ∷ second ∷ rest) (subst (Each (λ (x : List ℕ). isRecord x ≡ true)) pair-cut (sound .records)) .0
 
   -- ---- where they stand
   second-start : startAt p (i + 1) ≡ startAt p i + length first
-  second-start = start-next p i (omega (arith, enough))
+  second-start = start-next p i (omega arith)
 
   second-end : startAt p (i + 2) ≡ startAt p (i + 1) + length second
-  second-end = let e : i + 2 ≡ i + 1 + 1 = omega arith in ap (startAt p) e ∙ start-next p (i + 1) enough
+  second-end = let e : i + 2 ≡ i + 1 + 1 = omega arith in ap (startAt p) e ∙ start-next p (i + 1) h
 
   -- by the two starts and the second's kind
   module _ (a b z : ℕ) (at-a : a ≡ startAt p i) (at-b : b ≡ startAt p (i + 1)) (size : z ≡ sizeOf (getD p b 0)) where
@@ -129,13 +133,6 @@ module _ (p w : List ℕ) (laid : Laid p w) (i : ℕ) (h : i + 1 < length w) whe
     pub pair-is : record { first = a; second = b; end = b + z } ≡ pairAt p i
     pair-is = λ k. record { first = at-a k; second = at-b k; end = ends-at k }
 
-  -- in bounds, and short
-  pub record Placed (s : Pair) : Type 0 where
-    pub first-long : s .first + 2 ≤ s .second
-    pub second-long : s .second + 2 ≤ s .end
-    pub ends : s .end ≤ length p
-    pub short : s .end - s .first ≤ 12
-
   module _ (s : Pair) (at : s ≡ pairAt p i) where
     a : s .first ≡ startAt p i
     a = ap (λ (t : Pair). t .first) at
@@ -146,7 +143,7 @@ module _ (p w : List ℕ) (laid : Laid p w) (i : ℕ) (h : i + 1 < length w) whe
     e : s .end ≡ startAt p i + length first + length second
     e = ap (λ (t : Pair). t .end) at ∙ omega (arith, second-end, second-start)
 
-    pub placed : Placed s
+    pub placed : Placed p s
     placed =
         record {
           first-long = omega (arith, a, b, one .sized .least);
@@ -166,13 +163,13 @@ module _ (p w : List ℕ) (laid : Laid p w) (i : ℕ) (h : i + 1 < length w) whe
     pub pair-bytes : exchanged p (s .first) (s .second) (s .end) ≡ flat exchangedPair
     pair-bytes = (λ k. exchanged ((sym (records-flat p) ∙ ap flat pair-cut) k) (a k) (b k) (e k)) ∙ bytes-exchanged front first second rest
 
-    pub pair-starts : set w (i + 1) (s .first + (s .end - s .second)) ≡ startsOf 0 exchangedPair
-    pair-starts =
+    pub pair-starts : (w : List ℕ) → Laid p w → set w (i + 1) (s .first + (s .end - s .second)) ≡ startsOf 0 exchangedPair
+    pair-starts w laid =
         let f : s .first + (s .end - s .second) ≡ startAt p i + length second = omega (arith, a, b, e) in
         (λ k. set ((laid .starts ∙ ap (startsOf 0) pair-cut) k) (i + 1) (f k)) ∙ starts-exchanged front first second rest (i + 1) (ap (λ (n : ℕ). n + 1) front-length)
 
   reads : (x : List ℕ) → isRecord x ≡ true → decodeOf x .number ≡ 0
-  reads x w = eqb-true (decodeOf x .number) 0 (and-two (eqb (decodeOf x .number) 0) (eqb (decodeOf x .size) (length x)) w .0)
+  reads x e = eqb-true (decodeOf x .number) 0 (and-two (eqb (decodeOf x .number) 0) (eqb (decodeOf x .size) (length x)) e .0)
 
   pub first-reads : decodeOf first .number ≡ 0
   first-reads = reads first (one .is-record)
@@ -193,5 +190,5 @@ module _ (p w : List ℕ) (laid : Laid p w) (i : ℕ) (h : i + 1 < length w) whe
   pub pair-made : tiedAt (inForceAt p i) (what first) (what second) ≡ false → swapOf i (recordsOf p) ≡ made exchangedPair
   pair-made t = swap-read ∙ made-iff-untied knitting rackingZero front first second rest .1 (sym tie-read ∙ t)
 
-pub pair-none : (p w : List ℕ) → Laid p w → (i : ℕ) → length w ≤ i + 1 → swapOf i (recordsOf p) ≡ no-pair
-pair-none p w laid i h = no-pair-iff-short knitting rackingZero i (recordsOf p) .1 (omega (arith, work-length p w laid, add-one i))
+pub pair-none : (l : List (List ℕ)) (i : ℕ) → length l ≤ i + 1 → swapOf i l ≡ no-pair
+pair-none l i h = no-pair-iff-short knitting rackingZero i l .1 (omega (arith, add-one i))

@@ -43,7 +43,7 @@ struct Pair {
     end: usize,
 }
 
-// A record of a log: not one, or a swap of records i and i + 1.
+// What a log record is read as: torn, or a swap of records i and i + 1.
 enum LogRecord {
     Torn,
     Swap(usize),
@@ -199,7 +199,7 @@ fn meet(x: Record, y: Record, r: Racking) -> bool
 // Whether records i and i + 1 of the output, which stand there, are tied. The racking in force is looked for only where
 // it matters.
 fn tied(output: &[u8], work: &[u16], table: &[u8], i: usize, there: Pair) -> bool
-    requires { ⌜ (Laid (now output) (now work)) × (Marked (now output) (now table)) × (i + 1 < length (now work)) × (there ≡ pairAt (now output) i) ⌝ }
+    requires { ⌜ (Laid (now output) (now work)) × (Marked (now output) (now table)) × (i + 1 < length (recordsOf (now output))) × (there ≡ pairAt (now output) i) ⌝ }
     ensures { λ t. ⌜ t ≡ tiedAt (inForceAt (now (output .entry)) i) (what (recordAt (now (output .entry)) i)) (what (recordAt (now (output .entry)) (i + 1))) ⌝ }
 {
     let a = there.first;
@@ -280,7 +280,7 @@ fn start(work: &[u16], i: usize) -> usize
 
 // Where records i and i + 1 stand.
 fn pair_at(program: &[u8], work: &[u16], i: usize) -> Pair
-    requires { ⌜ (Laid (now program) (now work)) × (i + 1 < length (now work)) ⌝ }
+    requires { ⌜ (Laid (now program) (now work)) × (i + 1 < length (recordsOf (now program))) ⌝ }
     ensures { λ s. ⌜ s ≡ pairAt (now (program .entry)) i ⌝ }
 {
     let first = start(work, i);
@@ -291,7 +291,7 @@ fn pair_at(program: &[u8], work: &[u16], i: usize) -> Pair
 
 // The racking byte after the records from i to n, where it was r before them.
 fn racking_after(program: &[u8], work: &[u16], i: usize, n: usize, r: u8) -> u8
-    requires { ⌜ (Laid (now program) (now work)) × (i ≤ n) × (n ≤ length (now work)) ⌝ }
+    requires { ⌜ (Laid (now program) (now work)) × (i ≤ n) × (n ≤ length (recordsOf (now program))) ⌝ }
     ensures { λ b. ⌜ b ≡ rackByte r (take (n - i) (drop i (recordsOf (now (program .entry))))) ⌝ }
 {
     let mut b = r;
@@ -328,7 +328,7 @@ fn marks(program: &[u8], work: &[u16], table: &mut [u8])
 
 // The racking in force at record i: at most 63 records are looked at.
 fn racking_at(program: &[u8], work: &[u16], table: &[u8], i: usize) -> Racking
-    requires { ⌜ (Laid (now program) (now work)) × (Marked (now program) (now table)) × (i < length (now work)) ⌝ }
+    requires { ⌜ (Laid (now program) (now work)) × (Marked (now program) (now table)) × (i < length (recordsOf (now program))) ⌝ }
     ensures { λ r. ⌜ r ≡ inForceAt (now (program .entry)) i ⌝ }
 {
     let j = i / STRIDE;

@@ -32,7 +32,7 @@ add-racking-after : tie.Need-add-racking-after Inv-loop μ-loop
 add-racking-after c = search needs
 
 racking-after-requires : tie.Need-racking-after-requires Inv-loop μ-loop
-racking-after-requires c κs = (c .before .before .before .before .before .pre .0, omega arith, omega (arith, c .loop-test .taken))
+racking-after-requires c κs = let k = c .before .before .before .before .before in (k .pre .0, omega arith, omega (arith, c .loop-test .taken, work-length (k .args .program .now) (k .args .work .now) (k .pre .0)))
 
 add-i : tie.Need-add-i Inv-loop μ-loop
 add-i c = search needs

@@ -9,7 +9,7 @@ use borrow.Author.Tests.{eq-eqb, ne-eqb}
 use Rattle.record.specs.Format.{byte}
 use Rattle.rewrite.specs.Programs.{recordsOf}
 use Rattle.rewrite.specs.Laid.{recordAt, startAt, rackByte}
-use Rattle.rewrite.proofs.Laying.{Stands, byte-at, kind-at, work-length, laid-stands}
+use Rattle.rewrite.proofs.Laying.{Stands, stands, byte-at, kind-at, work-length}
 use Rattle.rewrite.proofs.Rackings.{byteAfter, rack-next, rack-end}
 use borrow.Author.Needs.{needs}
 use Rattle.rewrite.proofs.racking_after.Statement.{statement}
@@ -34,19 +34,23 @@ loop-holds : tie.Need-loop-holds Inv-loop μ-loop
 loop-holds c = (c .before .before .pre .1, omega arith, refl)
 
 start-requires : tie.Need-start-requires Inv-loop μ-loop
-start-requires c κs = search needs
+start-requires c κs = let k = c .before .before .before .before in omega (arith, c .loop-test .taken, k .pre .2, work-length (k .args .program .now) (k .args .work .now) (k .pre .0))
+
+-- record j stands where its start was read
+here : (c : tie.After-start Inv-loop μ-loop) → Stands (c .before .before .before .before .before .args .program .now) (c .before .before .loop .j)
+here c = let k = c .before .before .before .before .before in stands (k .args .program .now) (k .pre .0 .sound) (c .before .before .loop .j) (omega (arith, c .before .loop-test .taken, k .pre .2))
+
+begins : (c : tie.After-start Inv-loop μ-loop) → c .start .result ≡ startAt (c .before .before .before .before .before .args .program .now) (c .before .before .loop .j)
+begins c = c .start .ensures _ (c .before .before .before .before .before .pre .0)
 
 shared-slice-read-if1 : tie.Need-shared-slice-read-if1 Inv-loop μ-loop
-shared-slice-read-if1 c = let k = c .before .before .before .before .before .before in let s = laid-stands (k .args .program .now) (k .args .work .now) (k .pre .0) (c .before .before .before .loop .j) (search needs) in
-    omega (arith, c .before .start .ensures _ (k .pre .0), s .ends, s .sized .least)
+shared-slice-read-if1 c = let s = here (c .before) in omega (arith, begins (c .before), s .ends, s .sized .least)
 
 add-b : tie.Need-add-b Inv-loop μ-loop
-add-b c = let k = c .before .before .before .before .before .before .before in let s = laid-stands (k .args .program .now) (k .args .work .now) (k .pre .0) (c .before .before .before .before .loop .j) (search needs) in
-    omega (arith, c .before .before .start .ensures _ (k .pre .0), s .ends, s .sized .least, k .pre .0 .sound .short)
+add-b c = let s = here (c .before .before) in omega (arith, begins (c .before .before), s .ends, s .sized .least, c .before .before .before .before .before .before .before .pre .0 .sound .short)
 
 shared-slice-read-b : tie.Need-shared-slice-read-b Inv-loop μ-loop
-shared-slice-read-b c = let k = c .before .before .before .before .before .before .before .before in let s = laid-stands (k .args .program .now) (k .args .work .now) (k .pre .0) (c .before .before .before .before .before .loop .j) (search needs) in
-    omega (arith, c .before .before .before .start .ensures _ (k .pre .0), s .ends, s .sized .least)
+shared-slice-read-b c = let s = here (c .before .before .before) in omega (arith, begins (c .before .before .before), s .ends, s .sized .least)
 
 add-j : tie.Need-add-j Inv-loop μ-loop
 add-j c = search needs
@@ -56,13 +60,12 @@ loop-less c = omega (arith, c .before .before .before .loop-test .taken)
 
 loop-again : tie.Need-loop-again Inv-loop μ-loop
 loop-again c = let k = c .before .before .before .before .before .before .before in let v = c .before .before .before .before .loop in
-    let p = k .args .program .now in let w = k .args .work .now in let g = k .pre .0 in
-    let s = laid-stands p w g (v .j) (search needs) in let a = c .before .before .start .ensures p g in
+    let p = k .args .program .now in let s = here (c .before .before) in let a = begins (c .before .before) in
     let e : c .if1 .b ≡ byteAfter (v .b) (recordAt p (v .j)) =
     ⊎-elim {C = c .if1 .b ≡ byteAfter (v .b) (recordAt p (v .j))} (λ u. at-rack p (v .j) s _ a (v .b) (c .if1 .b) (u .0 .taken) (u .2)) (λ u. at-other p (v .j) s _ a (v .b) (c .if1 .b) (u .0 .left) (u .1)) (c .if1 .came) in (
       omega (arith, c .before .before .before .loop-test .taken),
       omega (arith, v .inv .1),
-      v .inv .2 ∙ rack-next (v .b) (recordsOf p) (v .j) (k .args .n) (c .before .before .before .loop-test .taken) (omega (arith, k .pre .2, work-length p w g))
+      v .inv .2 ∙ rack-next (v .b) (recordsOf p) (v .j) (k .args .n) (c .before .before .before .loop-test .taken) (k .pre .2)
           ∙ ap (λ (b : ℕ). rackByte b (take (k .args .n - (v .j + 1)) (drop (v .j + 1) (recordsOf p)))) (sym e),
     )
 

@@ -9,7 +9,7 @@ use Rattle.rewrite.specs.Programs.{flat, recordsOf, startsOf}
 use Rattle.rewrite.specs.Rewrite.{Replay, ended, replay}
 use Rattle.rewrite.specs.Laid.{Laid, Marked}
 use Rattle.rewrite.proofs.Records.{records-flat}
-use Rattle.rewrite.proofs.Logs.{log-end, turn-ends, turn-goes}
+use Rattle.rewrite.proofs.Logs.{log-end, TurnEnds, turn-ends, turn-goes}
 use borrow.Author.Needs.{needs}
 use Rattle.rewrite.proofs.replay.Statement.{statement}
 use Rattle.rewrite.proofs.replay.Tie as tie
@@ -38,23 +38,24 @@ log-record-requires c κs = c .loop-test .taken
 follow-requires : tie.Need-follow-requires Inv-loop μ-loop
 follow-requires c κs = let v = c .before .before .before .before .loop in (v .inv .0, v .inv .1, c .before .before .log-record .ensures .1)
 
+-- a turn that ends the log
+ends : (c : tie.After-follow Inv-loop μ-loop) → (c .follow .result ≡ 0 → ⊥)
+    → TurnEnds (c .before .before .before .before .before .before .before .before .before .before .args .log .now) (c .before .before .before .before .before .loop .at) (c .before .before .before .before .before .loop .output) (c .before .before .before .before .before .loop .work) (c .follow .result) (c .follow .last .1 .0) (c .follow .last .1 .1 .0)
+ends c = let k = c .before .before .before .before .before .before .before .before .before .before in let v = c .before .before .before .before .before .loop in let r = c .before .before .before .log-record in let f = c .follow in
+    turn-ends (k .args .log .now) (v .at) (c .before .before .before .before .loop-test .taken) (v .output) (v .work) (k .args .table .now) (v .inv .0) (v .inv .1) _ (r .ensures .0) _ (f .ensures .0) _ _ (f .ensures .1 .0) (f .ensures .1 .1)
+
 end-at-requires : tie.Need-end-at-requires Inv-loop μ-loop
 end-at-requires c κs = search needs
 
 same-length : tie.Need-same-length Inv-loop μ-loop
-same-length c = let k = c .before .before .before .before .before .before .before .before .before .before .before .before .before .before .before .before in let v = c .before .before .before .before .before .before .before .before .before .before .before .loop in let r = c .before .before .before .before .before .before .before .before .before .log-record in let f = c .before .before .before .before .before .before .follow in
-    let t = turn-ends (k .args .log .now) (v .at) (c .before .before .before .before .before .before .before .before .before .before .loop-test .taken) (v .output) (v .work) (k .args .table .now) (v .inv .0) (v .inv .1) _ (r .ensures .0) _ (f .ensures .0) _ _ (f .ensures .1 .0) (f .ensures .1 .1) (c .before .if1 .taken) in
-    ap length (t .program) ∙ v .inv .3
+same-length c = ap length (ends (c .before .before .before .before .before .before) (c .before .if1 .taken) .program) ∙ c .before .before .before .before .before .before .before .before .before .before .before .loop .inv .3
 
 same-length-2 : tie.Need-same-length-2 Inv-loop μ-loop
-same-length-2 c = let k = c .before .before .before .before .before .before .before .before .before .before .before .before .before .before .before .before in let v = c .before .before .before .before .before .before .before .before .before .before .before .loop in let r = c .before .before .before .before .before .before .before .before .before .log-record in let f = c .before .before .before .before .before .before .follow in
-    let t = turn-ends (k .args .log .now) (v .at) (c .before .before .before .before .before .before .before .before .before .before .loop-test .taken) (v .output) (v .work) (k .args .table .now) (v .inv .0) (v .inv .1) _ (r .ensures .0) _ (f .ensures .0) _ _ (f .ensures .1 .0) (f .ensures .1 .1) (c .before .if1 .taken) in
-    ap length (t .work) ∙ v .inv .4
+same-length-2 c = ap length (ends (c .before .before .before .before .before .before) (c .before .if1 .taken) .work) ∙ c .before .before .before .before .before .before .before .before .before .before .before .loop .inv .4
 
 returns : tie.Need-returns Inv-loop μ-loop
 unfolding Left
-returns c = let k = c .before .before .before .before .before .before .before .before .before .before .before .before .before .before .before .before in let v = c .before .before .before .before .before .before .before .before .before .before .before .loop in let r = c .before .before .before .before .before .before .before .before .before .log-record in let f = c .before .before .before .before .before .before .follow in
-    let t = turn-ends (k .args .log .now) (v .at) (c .before .before .before .before .before .before .before .before .before .before .loop-test .taken) (v .output) (v .work) (k .args .table .now) (v .inv .0) (v .inv .1) _ (r .ensures .0) _ (f .ensures .0) _ _ (f .ensures .1 .0) (f .ensures .1 .1) (c .before .if1 .taken) in
+returns c = let v = c .before .before .before .before .before .before .before .before .before .before .before .loop in let t = ends (c .before .before .before .before .before .before) (c .before .if1 .taken) in
     left-as _ _ _ (v .at) (recordsOf (v .output)) _ _ (v .inv .2 ∙ t .log-ends) (c .end-at .ensures) (t .program ∙ sym (records-flat (v .output))) (t .work ∙ v .inv .0 .starts)
 
 add-at : tie.Need-add-at Inv-loop μ-loop

@@ -1,5 +1,5 @@
 -- A walk along the records, one start each. Assumes nothing.
-use Prim.Native.Nat.{ℕ, _+_, _-_}
+use Prim.Native.Nat.{ℕ, _+_, _-_, _/_, _<_}
 use native.Mathlib.Omega.{arith}
 use mathlib.Core.Path.{_≡_, refl, sym, subst, _∙_}
 use lib.ListN.{length, take, drop, length-set}
@@ -19,20 +19,21 @@ abbrev μ-loop : tie.MeasureT-loop
 loop-holds : tie.Need-loop-holds Inv-loop μ-loop
 loop-holds c = (upto-none _, refl, refl, refl)
 
+-- an entry for the next start
+entry : (c : tie.In-loop Inv-loop μ-loop) → c .before .loop .n < length (c .before .before .before .before .args .program .now) / 2
+entry c = let k = c .before .before .before .before in let v = c .before .loop in next-entry (k .args .program .now) (k .pre .0) (v .n) (v .at) (v .inv .0) (c .loop-test .taken)
+
 cast-work : tie.Need-cast-work Inv-loop μ-loop
 cast-work c = let k = c .before .before .before .before in omega (arith, c .loop-test .taken, k .pre .0 .short)
 
 mul-work : tie.Need-mul-work Inv-loop μ-loop
-mul-work c = let k = c .before .before .before .before in let v = c .before .loop in
-    omega (arith, next-entry (k .args .program .now) (k .pre .0) (v .n) (v .at) (v .inv .0) (c .loop-test .taken), k .pre .0 .short)
+mul-work c = omega (arith, entry c, c .before .before .before .before .pre .0 .short)
 
 slice-write-work : tie.Need-slice-write-work Inv-loop μ-loop
-slice-write-work c = let k = c .before .before .before .before in let v = c .before .loop in
-    omega (arith, next-entry (k .args .program .now) (k .pre .0) (v .n) (v .at) (v .inv .0) (c .loop-test .taken), k .pre .1, v .inv .1)
+slice-write-work c = omega (arith, entry c, c .before .before .before .before .pre .1, c .before .loop .inv .1)
 
 add-n : tie.Need-add-n Inv-loop μ-loop
-add-n c = let k = c .before .before .before .before in let v = c .before .loop in
-    omega (arith, next-entry (k .args .program .now) (k .pre .0) (v .n) (v .at) (v .inv .0) (c .loop-test .taken), k .pre .0 .short)
+add-n c = omega (arith, entry c, c .before .before .before .before .pre .0 .short)
 
 shared-slice-read-size-of : tie.Need-shared-slice-read-size-of Inv-loop μ-loop
 shared-slice-read-size-of c = search needs

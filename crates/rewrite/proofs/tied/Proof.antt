@@ -11,7 +11,7 @@ use Rattle.rewrite.specs.Extents.{extentOf, meets}
 use Rattle.rewrite.specs.Programs.{what}
 use Rattle.rewrite.specs.Laid.{boundTo, recordAt, inForceAt}
 use Rattle.rewrite.proofs.Extents.{bound-tied, unbound-tied, outline-extent, outline-bound}
-use Rattle.rewrite.proofs.Pairs.{placed, first-bytes, second-bytes, first-reads, second-reads}
+use Rattle.rewrite.proofs.Pairs.{Placed, placed, first-bytes, second-bytes, first-reads, second-reads}
 use borrow.Author.Needs.{needs}
 use Rattle.rewrite.proofs.tied.Statement.{statement}
 use Rattle.rewrite.proofs.tied.Tie as tie
@@ -28,44 +28,40 @@ module _ (r : Racking) (x y u v : Record) (f : u ≡ outlineOf x) (g : v ≡ out
 read : {u : Record} (b x : List ℕ) → b ≡ x → u ≡ outlineOf (what b) → u ≡ outlineOf (what x)
 read b x e f = f ∙ ap (λ (l : List ℕ). outlineOf (what l)) e
 
+-- where the two stand, and what is read there
+there : (k : tie.Start) → Placed (k .args .output .now) (k .args .there)
+there k = placed (k .args .output .now) (k .pre .0 .sound) (k .args .i) (k .pre .2) (k .args .there) (k .pre .3)
+
 sub-outline : tie.Need-sub-outline
-sub-outline c = let k = c .before .before .before in let p = k .args .output .now in let w = k .args .work .now in
-    omega (arith, placed p w (k .pre .0) (k .args .i) (k .pre .2) (k .args .there) (k .pre .3) .first-long)
+sub-outline c = omega (arith, there (c .before .before .before) .first-long)
 
 part-outline-start : tie.Need-part-outline-start
-part-outline-start c = let k = c .before .before .before in let p = k .args .output .now in let w = k .args .work .now in
-    omega (arith, placed p w (k .pre .0) (k .args .i) (k .pre .2) (k .args .there) (k .pre .3) .first-long)
+part-outline-start c = omega (arith, there (c .before .before .before) .first-long)
 
 part-outline-end : tie.Need-part-outline-end
-part-outline-end c = let k = c .before .before .before in let p = k .args .output .now in let w = k .args .work .now in let s = placed p w (k .pre .0) (k .args .i) (k .pre .2) (k .args .there) (k .pre .3) in
-    omega (arith, s .second-long, s .ends)
+part-outline-end c = let s = there (c .before .before .before) in omega (arith, s .second-long, s .ends)
 
 outline-requires : tie.Need-outline-requires
-outline-requires c κs = let k = c .before .before .before .before in let p = k .args .output .now in let w = k .args .work .now in
-    ap (λ (x : List ℕ). decodeOf x .number) (first-bytes p w (k .pre .0) (k .args .i) (k .pre .2) (k .args .there) (k .pre .3)) ∙ first-reads p w (k .pre .0) (k .args .i) (k .pre .2)
+outline-requires c κs = let k = c .before .before .before .before in ap (λ (x : List ℕ). decodeOf x .number) (first-bytes (k .args .output .now) (k .pre .0 .sound) (k .args .i) (k .pre .2) (k .args .there) (k .pre .3)) ∙ first-reads (k .args .output .now) (k .pre .0 .sound) (k .args .i) (k .pre .2)
 
 sub-outline-2 : tie.Need-sub-outline-2
-sub-outline-2 c = let k = c .before .before .before .before .before in let p = k .args .output .now in let w = k .args .work .now in
-    omega (arith, placed p w (k .pre .0) (k .args .i) (k .pre .2) (k .args .there) (k .pre .3) .second-long)
+sub-outline-2 c = omega (arith, there (c .before .before .before .before .before) .second-long)
 
 part-outline-start-2 : tie.Need-part-outline-start-2
-part-outline-start-2 c = let k = c .before .before .before .before .before in let p = k .args .output .now in let w = k .args .work .now in
-    omega (arith, placed p w (k .pre .0) (k .args .i) (k .pre .2) (k .args .there) (k .pre .3) .second-long)
+part-outline-start-2 c = omega (arith, there (c .before .before .before .before .before) .second-long)
 
 part-outline-end-2 : tie.Need-part-outline-end-2
-part-outline-end-2 c = let k = c .before .before .before .before .before in let p = k .args .output .now in let w = k .args .work .now in
-    omega (arith, placed p w (k .pre .0) (k .args .i) (k .pre .2) (k .args .there) (k .pre .3) .ends)
+part-outline-end-2 c = omega (arith, there (c .before .before .before .before .before) .ends)
 
 outline-requires-2 : tie.Need-outline-requires-2
-outline-requires-2 c κs = let k = c .before .before .before .before .before .before in let p = k .args .output .now in let w = k .args .work .now in
-    ap (λ (x : List ℕ). decodeOf x .number) (second-bytes p w (k .pre .0) (k .args .i) (k .pre .2) (k .args .there) (k .pre .3)) ∙ second-reads p w (k .pre .0) (k .args .i) (k .pre .2)
+outline-requires-2 c κs = let k = c .before .before .before .before .before .before in ap (λ (x : List ℕ). decodeOf x .number) (second-bytes (k .args .output .now) (k .pre .0 .sound) (k .args .i) (k .pre .2) (k .args .there) (k .pre .3)) ∙ second-reads (k .args .output .now) (k .pre .0 .sound) (k .args .i) (k .pre .2)
 
 bound-requires : tie.Need-bound-requires
 bound-requires c κs = search needs
 
 returns : tie.Need-returns
-returns c = let k = c .before .before .before .before .before .before .before .before .before in let p = k .args .output .now in let w = k .args .work .now in let x = what (recordAt p (k .args .i)) in let y = what (recordAt p (k .args .i + 1)) in let r = inForceAt p (k .args .i) in
-    let f = read _ _ (first-bytes p w (k .pre .0) (k .args .i) (k .pre .2) (k .args .there) (k .pre .3)) (c .before .before .before .before .outline .ensures) in let g = read _ _ (second-bytes p w (k .pre .0) (k .args .i) (k .pre .2) (k .args .there) (k .pre .3)) (c .before .before .outline2 .ensures) in
+returns c = let k = c .before .before .before .before .before .before .before .before .before in let p = k .args .output .now in let x = what (recordAt p (k .args .i)) in let y = what (recordAt p (k .args .i + 1)) in let r = inForceAt p (k .args .i) in
+    let f = read _ _ (first-bytes p (k .pre .0 .sound) (k .args .i) (k .pre .2) (k .args .there) (k .pre .3)) (c .before .before .before .before .outline .ensures) in let g = read _ _ (second-bytes p (k .pre .0 .sound) (k .args .i) (k .pre .2) (k .args .there) (k .pre .3)) (c .before .before .outline2 .ensures) in
     sym (bound-tied x y r (sym (bound-is r x y _ _ f g) ∙ sym (c .before .bound .ensures) ∙ c .if1 .taken))
 
 racking-at-requires : tie.Need-racking-at-requires
@@ -75,8 +71,8 @@ meet-requires : tie.Need-meet-requires
 meet-requires c κs = search needs
 
 returns-2 : tie.Need-returns-2
-returns-2 c = let k = c .before .before .before .before .before .before .before .before .before .before .before in let p = k .args .output .now in let w = k .args .work .now in let x = what (recordAt p (k .args .i)) in let y = what (recordAt p (k .args .i + 1)) in let r = inForceAt p (k .args .i) in
-    let f = read _ _ (first-bytes p w (k .pre .0) (k .args .i) (k .pre .2) (k .args .there) (k .pre .3)) (c .before .before .before .before .before .before .outline .ensures) in let g = read _ _ (second-bytes p w (k .pre .0) (k .args .i) (k .pre .2) (k .args .there) (k .pre .3)) (c .before .before .before .before .outline2 .ensures) in
+returns-2 c = let k = c .before .before .before .before .before .before .before .before .before .before .before in let p = k .args .output .now in let x = what (recordAt p (k .args .i)) in let y = what (recordAt p (k .args .i + 1)) in let r = inForceAt p (k .args .i) in
+    let f = read _ _ (first-bytes p (k .pre .0 .sound) (k .args .i) (k .pre .2) (k .args .there) (k .pre .3)) (c .before .before .before .before .before .before .outline .ensures) in let g = read _ _ (second-bytes p (k .pre .0 .sound) (k .args .i) (k .pre .2) (k .args .there) (k .pre .3)) (c .before .before .before .before .outline2 .ensures) in
     c .meet .ensures
     ∙ ap (λ (q : Racking). meets (extentOf q (c .before .before .before .before .before .before .outline .result)) (extentOf q (c .before .before .before .before .outline2 .result))) (c .before .racking-at .ensures)
     ∙ meets-is r x y _ _ f g ∙ sym (unbound-tied x y r (sym (bound-is r x y _ _ f g) ∙ sym (c .before .before .before .bound .ensures) ∙ c .before .before .if1 .left))
