@@ -13,7 +13,7 @@ use Rattle.machine.specs.declared.Carrier.{Carrier}
 use Rattle.machine.specs.declared.State.{State}
 use Rattle.run.specs.declared.Answer.{Answer}
 use Rattle.listing_text.specs.Grown.{Grown}
-use Rattle.listing_text.specs.Text.{digitsOf, figures, signed, letterOf, signOf, flagOf, hexOf, lines, hookLine, hooksOf, attachmentOf, carrierLine, carriersOf, rackingLine, bytesOf, programLine, bedsOf, stateOf, shownOf, listingOf}
+use Rattle.listing_text.specs.Text.{digitsOf, figures, signed, letterOf, signOf, flagOf, hexOf, lines, hookLine, hookLines, attachmentOf, carrierLine, carrierLines, rackingLine, bytesOf, programLine, bedsOf, stateOf, shownOf, listingOf}
 use Rattle.listing_text.specs.Listed.{listedOf}
 use Rattle.rewrite.specs.Rewrite.{rewriteOf}
 use Rattle.rewrite.proofs.Rewriting.{state-size, output-length}
@@ -80,7 +80,7 @@ unfolding bedsOf
 beds l h =
     record {
       most =
-          omega (arith, many (hookLine 0) 44 (hook 0) 0 (take 250 l) .most, many (hookLine 1) 44 (hook 1) 0 (drop 250 l) .most, length-append (hooksOf 0 (take 250 l)) (hooksOf 1 (drop 250 l)), length-take 250 l, length-drop 250 l);
+          omega (arith, many (hookLine 0) 44 (hook 0) 0 (take 250 l) .most, many (hookLine 1) 44 (hook 1) 0 (drop 250 l) .most, length-append (hookLines 0 (take 250 l)) (hookLines 1 (drop 250 l)), length-take 250 l, length-drop 250 l);
     }
 
 hex : (k b : ℕ) → Short 2 (hexOf b)
@@ -94,7 +94,7 @@ unfolding programLine
 program [] h = some 65539 (112 ∷ 10 ∷ []) (omega arith)
 program (b ∷ l) h = join (some 2 (112 ∷ 32 ∷ []) (omega arith)) (join (bytes (b ∷ l) h) (some 1 (10 ∷ []) (omega arith)))
 
-carriers : (l : List Carrier) → length l ≤ 10 → Short 700 (carriersOf l)
+carriers : (l : List Carrier) → length l ≤ 10 → Short 700 (carrierLines l)
 carriers l h = record { most = omega (arith, many carrierLine 70 carrier 1 l .most) }
 
 -- a machine's state: 500 hooks and ten carriers

@@ -1,7 +1,7 @@
 -- The listings are printed so: one test over all of them, computed, and that the test says so. Assumes nothing.
 use Prim.Native.Nat.{ℕ, _≤_}
 use mathlib.Core.Path.{_≡_, refl, ap, _∙_}
-use mathlib.Core.Bool.{Bool, true, _&&_, cond}
+use mathlib.Core.Bool.{Bool, true, _&&_, cond, false}
 use mathlib.Core.List.{List, [], _∷_}
 use native.Mathlib.Omega.{arith}
 use lib.Dec.{eqb}
@@ -66,7 +66,7 @@ lists-P = listings-printed .0
 
 pub lists-P-read : ListsPRead
 lists-P-read old new n r e f h =
-    r .whole h
+    r .uncut h
     ∙ ap (λ (p : List ℕ). listedOf p (r .log) lentOutput lentWork) e
     ∙ ap (λ (l : List ℕ). listedOf (P-swapped .program) l lentOutput lentWork) f
     ∙ lists-P lentOutput lentWork (lent-is-enough (P-swapped .program) (P-swapped .log) (omega arith) (omega arith))
@@ -76,14 +76,13 @@ unfolding digitsOf bytesIn
 figures-printed = (refl, (refl, (refl, (refl, (refl, tt)))))
 
 -- p alone
-no-bytes : (n length : ℕ) → 1 ≤ n → n ≤ 11 → shownOf n length ≡ 0
-unfolding shownOf writes
-no-bytes n length h k =
-    simp (ne-eqb n 0 (λ e. omega arith), ne-eqb n 12 (λ e. omega arith), ne-eqb n 13 (λ e. omega arith), ne-eqb n 14 (λ e. omega arith))
+no-bytes : (n length : ℕ) → writes n ≡ false → shownOf n length ≡ 0
+unfolding shownOf
+no-bytes n length e = simp e
 
 pub p-alone-refused : PAloneRefused
 unfolding listedOf
-p-alone-refused program log output work h k = simp (no-bytes _ (length program) h k)
+p-alone-refused program log output work e = simp (no-bytes _ (length program) e)
 
 none-of-none : (n : ℕ) → shownOf n 0 ≡ 0
 unfolding shownOf

@@ -3,6 +3,7 @@ use Prim.Native.Nat.{ℕ, _≤_}
 use mathlib.Core.Path.{_≡_}
 use mathlib.Core.List.{List}
 use lib.ListN.{length, take, replicate}
+use Rattle.machine.specs.Limits.{programMost, logMost}
 use Rattle.rewrite.specs.Rewrite.{Rewritten, rewriteOf}
 use Rattle.rewrite.specs.Calls.{Below}
 use Rattle.rewrite.specs.Exact.{Enough}
@@ -16,16 +17,16 @@ callListed length w = listingOf (w .answer) (take (shownOf (w .answer .number) l
 unfoldable pub listedOf : List ℕ → List ℕ → List ℕ → List ℕ → List ℕ
 listedOf program log output work = callListed (length program) (rewriteOf program log output work)
 
--- what the listing program lends the rewriter: 32,768 bytes and 16,384 offsets, all 0
+-- what the listing program lends the rewriter: bytes for every program and 16,384 offsets, all 0
 unfoldable pub lentOutput : List ℕ
-lentOutput = replicate 32768 0
+lentOutput = replicate programMost 0
 
 unfoldable pub lentWork : List ℕ
 lentWork = replicate 16384 0
 
 -- it is enough for every program and log within their limits, so that 2 is never listed
 abbrev pub LentIsEnough : Type 0
-LentIsEnough = (program log : List ℕ) → length program ≤ 32768 → length log ≤ 32768 → Enough (length program) (length log) (length lentOutput) (length lentWork)
+LentIsEnough = (program log : List ℕ) → length program ≤ programMost → length log ≤ logMost → Enough (length program) (length log) (length lentOutput) (length lentWork)
 
 -- a lent text after a listing of two files, n bytes of it written: the listing of some program and log, those read, stands at its front, cut off
 -- only where the text ends, so that 88,307 bytes hold it whole; what lies behind is kept. No contract can say what a file holds; what is read of one
@@ -38,4 +39,4 @@ pub record ListsRead (old new : List ℕ) (n : ℕ) : Type 0 where
   pub program-front : length program ≤ 32769
   pub log-front : length log ≤ 32769
   pub text : Grown old 0 (listedOf program log lentOutput lentWork) new n
-  pub whole : 88307 ≤ length old → take n new ≡ listedOf program log lentOutput lentWork
+  pub uncut : 88307 ≤ length old → take n new ≡ listedOf program log lentOutput lentWork

@@ -3,11 +3,12 @@ use Prim.Native.Nat.{ℕ, _≤_}
 use Prim.Native.Char.{code}
 use Prim.Native.String.{String, [] as nil, _∷_ as _then_}
 use mathlib.Core.Path.{_≡_}
+use mathlib.Core.Bool.{false}
 use mathlib.Core.List.{List, [], _∷_, _++_}
 use lib.ListN.{length, take}
 use Rattle.machine.specs.Machine.{Each}
 use Rattle.rewrite.specs.Programs.{flat}
-use Rattle.rewrite.specs.Rewrite.{rewriteOf}
+use Rattle.rewrite.specs.Rewrite.{writes, rewriteOf}
 use Rattle.rewrite.specs.Exact.{Enough}
 use Rattle.listing_text.specs.Text.{figures, listingOf}
 use Rattle.listing_text.specs.Listed.{listedOf, ListsRead}
@@ -109,11 +110,11 @@ ListsPRead =
 abbrev pub ListingsPrinted : Type 0
 ListingsPrinted = Each Printed listings
 
--- '"p" alone after 1 to 11 and for an empty program': the listing of no bytes
+-- '"p" alone after 1 to 11 and for an empty program': after a number that writes nothing, the listing of no bytes
 abbrev pub PAloneRefused : Type 0
 PAloneRefused =
     (program log output work : List ℕ) → let w = rewriteOf program log output work in
-    1 ≤ w .answer .number → w .answer .number ≤ 11 → listedOf program log output work ≡ listingOf (w .answer) []
+    writes (w .answer .number) ≡ false → listedOf program log output work ≡ listingOf (w .answer) []
 
 abbrev pub PAloneEmpty : Type 0
 PAloneEmpty = (log output work : List ℕ) → listedOf [] log output work ≡ listingOf (rewriteOf [] log output work .answer) []

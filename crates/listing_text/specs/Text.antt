@@ -5,6 +5,7 @@ use mathlib.Core.List.{List, [], _∷_, _++_}
 use lib.Dec.{eqb, ltb}
 use lib.IntN.{ℤ, pos, negsuc}
 use lib.ListN.{length, take, drop}
+use Rattle.machine.specs.Limits.{bedNeedles}
 use Rattle.machine.specs.declared.Carrier.{Carrier}
 use Rattle.machine.specs.declared.State.{State}
 use Rattle.run.specs.declared.Answer.{Answer}
@@ -54,8 +55,8 @@ hookLine bed n loops =
     cond (eqb loops 0) []
     ((letterOf bed ∷ 32 ∷ []) ++ (figures n ++ ((32 ∷ []) ++ (figures loops ++ (10 ∷ [])))))
 
-abbrev pub hooksOf : ℕ → List ℕ → List ℕ
-hooksOf bed l = lines (hookLine bed) 0 l
+abbrev pub hookLines : ℕ → List ℕ → List ℕ
+hookLines bed l = lines (hookLine bed) 0 l
 
 -- an attachment, as in f 10 +, or none
 unfoldable pub attachmentOf : Carrier → List ℕ
@@ -69,8 +70,8 @@ carrierLine k c =
     cond (eqb (c .active) 0) []
     ((99 ∷ 32 ∷ []) ++ (figures k ++ ((32 ∷ []) ++ (signed (c .slot .0) ++ attachmentOf c))))
 
-abbrev pub carriersOf : List Carrier → List ℕ
-carriersOf l = lines carrierLine 1 l
+abbrev pub carrierLines : List Carrier → List ℕ
+carrierLines l = lines carrierLine 1 l
 
 -- number, place and complete, before the rest
 abbrev pub answerLine : Answer → List ℕ → List ℕ
@@ -89,10 +90,10 @@ programLine (b ∷ l) = (112 ∷ 32 ∷ []) ++ (bytesOf (b ∷ l) ++ (10 ∷ [])
 
 -- the state: racking, hooks of both beds, carriers
 unfoldable pub bedsOf : List ℕ → List ℕ
-bedsOf loops = hooksOf 0 (take 250 loops) ++ hooksOf 1 (drop 250 loops)
+bedsOf loops = hookLines 0 (take bedNeedles loops) ++ hookLines 1 (drop bedNeedles loops)
 
 unfoldable pub stateOf : State → List ℕ
-stateOf s = rackingLine (s .racking .0) ++ (bedsOf (s .loops) ++ carriersOf (s .carriers))
+stateOf s = rackingLine (s .racking .0) ++ (bedsOf (s .loops) ++ carrierLines (s .carriers))
 
 -- how many bytes of the output are listed: the program's length after a number that writes, none after the others (1 to 11)
 unfoldable pub shownOf : ℕ → ℕ → ℕ

@@ -4,7 +4,7 @@ ghost use mathlib.Core.Path.{_≡_};
 ghost use mathlib.Core.List.{[], _∷_};
 ghost use lib.ListN.{length, take};
 ghost use Rattle.listing_text.specs.Grown.{Grown};
-ghost use Rattle.listing_text.specs.Text.{digitsOf, figures, signed, hexDigit, hexOf, letterOf, signOf, flagOf, hookLine, hooksOf, bedsOf, attachmentOf, carrierLine, carriersOf, rackingLine, bytesOf, programLine, stateOf, shownOf, listingOf};
+ghost use Rattle.listing_text.specs.Text.{digitsOf, figures, signed, hexDigit, hexOf, letterOf, signOf, flagOf, hookLine, hookLines, bedsOf, attachmentOf, carrierLine, carrierLines, rackingLine, bytesOf, programLine, stateOf, shownOf, listingOf};
 ghost use Rattle.rewrite.specs.Calls.{Below};
 ghost use Rattle.rewrite.specs.Rewrite.{rewriteOf};
 ghost use Rattle.listing_text.specs.Listed.{listedOf, ListsRead};
@@ -121,7 +121,7 @@ fn put_hook(text: &mut [u8], at: usize, bed: u16, needle: usize, loops: u8) -> u
 // The hooks of a bed, upward.
 fn put_hooks(text: &mut [u8], at: usize, bed: u16, loops: &[u8]) -> usize
     requires { ⌜ at ≤ length (now text) ⌝ }
-    ensures { λ r. ⌜ Grown (now (text .entry)) at (hooksOf bed (now (loops .entry))) (now (text .exit)) r ⌝ }
+    ensures { λ r. ⌜ Grown (now (text .entry)) at (hookLines bed (now (loops .entry))) (now (text .exit)) r ⌝ }
 {
     let mut end = at;
     let mut n = 0;
@@ -174,7 +174,7 @@ fn put_carrier(text: &mut [u8], at: usize, number: usize, c: Carrier) -> usize
 // Carriers 1 to 10.
 fn put_carriers(text: &mut [u8], at: usize, carriers: [Carrier; State::CARRIERS]) -> usize
     requires { ⌜ at ≤ length (now text) ⌝ }
-    ensures { λ r. ⌜ Grown (now (text .entry)) at (carriersOf carriers) (now (text .exit)) r ⌝ }
+    ensures { λ r. ⌜ Grown (now (text .entry)) at (carrierLines carriers) (now (text .exit)) r ⌝ }
 {
     let mut end = at;
     let mut k = 0;

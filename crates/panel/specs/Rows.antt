@@ -4,33 +4,27 @@ use mathlib.Core.Path.{_≡_}
 use mathlib.Core.List.{List, [], _∷_}
 use lib.IntN.{ℤ, pos, negsuc}
 use lib.ListN.{set}
+use Rattle.machine.specs.declared.Carrier.{Carrier}
 use Rattle.machine.specs.declared.State.{State}
-use Rattle.machine.specs.Machine.{emptyState, Each}
+use Rattle.machine.specs.Machine.{emptyState, changed, Each}
 use Rattle.panel.specs.Panel.{panelStep}
 
 -- the empty state but for its racking, for one hook, for carrier 10
 abbrev pub withRacking : ℤ → State
-withRacking z = record { racking = record { 0 = z }; loops = emptyState .loops; carriers = emptyState .carriers }
+withRacking z = changed emptyState (record { 0 = z }) (emptyState .loops) (emptyState .carriers)
 
 abbrev pub withHook : ℕ → ℕ → State
-withHook i n = record { racking = emptyState .racking; loops = set (emptyState .loops) i n; carriers = emptyState .carriers }
+withHook i n = changed emptyState (emptyState .racking) (set (emptyState .loops) i n) (emptyState .carriers)
+
+abbrev withCarrierAt : ℕ → Carrier → State
+withCarrierAt i c = changed emptyState (emptyState .racking) (emptyState .loops) (set (emptyState .carriers) i c)
 
 abbrev pub with : ℕ → ℕ → ℤ → ℕ → ℕ → State
-with active side z bed n =
-    record {
-      racking = emptyState .racking;
-      loops = emptyState .loops;
-      carriers = set (emptyState .carriers) 9 (record { active = active; side = side; slot = record { 0 = z }; needle = record { 0 = bed; 1 = n } });
-    }
+with active side z bed n = withCarrierAt 9 (record { active = active; side = side; slot = record { 0 = z }; needle = record { 0 = bed; 1 = n } })
 
 -- active 2 for the carrier at i
 abbrev pub strange-at : ℕ → State
-strange-at i =
-    record {
-      racking = emptyState .racking;
-      loops = emptyState .loops;
-      carriers = set (emptyState .carriers) i (record { active = 2; side = 0; slot = record { 0 = pos 0 }; needle = record { 0 = 0; 1 = 0 } });
-    }
+strange-at i = withCarrierAt i (record { active = 2; side = 0; slot = record { 0 = pos 0 }; needle = record { 0 = 0; 1 = 0 } })
 
 -- foul; negsuc n is −1 − n
 abbrev pub outside : List State

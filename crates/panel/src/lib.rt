@@ -6,6 +6,8 @@ ghost use Rattle.machine.specs.Machine.{inactive};
 ghost use Rattle.panel.specs.Panel.{panelStep, listAnswer};
 use machine::Carrier;
 use machine::State;
+use machine::numbers::BAD_STATE;
+use machine::numbers::NO_ROOM;
 use run::Stepped;
 
 // What a service gives besides the loan: a number, and the record's length or the entries written (0 if refused).
@@ -14,9 +16,6 @@ pub struct Served {
     pub number: u8,
     pub length: usize,
 }
-
-// The number of a foul state.
-pub const BAD_STATE: u8 = 15;
 
 // The step of the first record of a slice of any length, from a state with any values.
 pub fn step(state: State, bytes: &[u8]) -> Stepped
@@ -40,7 +39,7 @@ pub fn list_answer(state: State, count: usize) -> Served
     }
     if count < State::CARRIERS {
         return Served {
-            number: run::NO_ROOM,
+            number: NO_ROOM,
             length: 0,
         };
     }

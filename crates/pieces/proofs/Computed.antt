@@ -125,7 +125,7 @@ pair-says r e =
 
 -- the tests, computed: rows, swaps and ties apart, since a declaration is checked in fifty million steps at most
 rows-computed : every rowTest rows ≡ true
-unfolding rowTest saysTest stateTest hooksTest carriersTest sameBool sameCarrier runOf runFrom turn stepOf answerOf emptyState completeOf all inactiveCarrier movedTo attachedAt sameNeedle eqZ columnOf entryOf exitOf sameColumn withinFloat decodeOf readAs fieldsOk recordFrom refusedAs rackOk needleOk workOk signedOf needlesOf carriersOf lookOf seeOf parkedNo floatNo carrierNo oppositeNo firstAfter secondAfter roomNo decidedNo edit actOf acted moveAttachments numberAt applyOf
+unfolding rowTest saysTest stateTest hooksTest carriersTest sameBool sameCarrier runOf runFrom turn stepOf answerOf emptyState completeOf all inactiveCarrier movedTo attachedAt sameNeedle eqZ columnOf entryOf exitOf sameColumn withinFloat decodeOf readAs fieldsOk recordFrom refusedAs rackOk needleOk workOk signedOf needlesOf carriersOf lookOf seeOf parkedNo floatNo carrierNo oppositeNo firstAfter secondAfter roomNo decidedNo edit actOf acted moveAttachments numberAt applyOf byKind
 rows-computed = refl
 
 swaps-computed : every swapTest swaps ≡ true
@@ -133,7 +133,7 @@ unfolding swapTest saysTest rewriteOf lentNo replayFrom cut startsOf sameBytes h
 swaps-computed = refl
 
 ties-computed : (every pairTest pairs && every pairTest edges) ≡ true
-unfolding pairTest sameBool halfColumn layerOf extentOf meets member common columnOf decodeOf readAs fieldsOk recordFrom refusedAs rackOk needleOk workOk signedOf carriersOf
+unfolding pairTest sameBool halfColumn layerOf extentOf meets member common columnOf decodeOf readAs fieldsOk recordFrom refusedAs rackOk needleOk workOk signedOf carriersOf byKind
 ties-computed = refl
 
 -- the pieces

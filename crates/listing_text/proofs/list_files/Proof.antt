@@ -24,7 +24,7 @@ lists-read a b program log old new n p q h k g =
       program-front = omega (arith, length-take a program);
       log-front = omega (arith, length-take b log);
       text = g;
-      whole = uncut (take a program) (take b log) lentOutput lentWork old new n g (omega (arith, output-lent));
+      uncut = uncut (take a program) (take b log) lentOutput lentWork old new n g (omega (arith, output-lent));
     }
 
 room-requires : tie.Need-room-requires

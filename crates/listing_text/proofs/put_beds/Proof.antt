@@ -6,14 +6,14 @@ use lib.ListN.{length, take, drop, length-drop}
 use lib.Seq.{length-take-le, take-all}
 use Prim.Native.Nat.{ℕ}
 use Rattle.listing_text.proofs.Grow.{then, like}
-use Rattle.listing_text.specs.Text.{hooksOf, bedsOf}
+use Rattle.listing_text.specs.Text.{hookLines, bedsOf}
 use borrow.Author.Needs.{needs}
 use Rattle.listing_text.proofs.put_beds.Statement.{statement}
 use Rattle.listing_text.proofs.put_beds.Tie as tie
 
-both : (l : List ℕ) → length l ≡ 500 → hooksOf 0 (take 250 l) ++ hooksOf 1 (take 250 (drop 250 l)) ≡ bedsOf l
+both : (l : List ℕ) → length l ≡ 500 → hookLines 0 (take 250 l) ++ hookLines 1 (take 250 (drop 250 l)) ≡ bedsOf l
 unfolding bedsOf
-both l h = ap (λ (b : List ℕ). hooksOf 0 (take 250 l) ++ hooksOf 1 b) (take-all 250 (drop 250 l) (omega (arith, length-drop 250 l)))
+both l h = ap (λ (b : List ℕ). hookLines 0 (take 250 l) ++ hookLines 1 b) (take-all 250 (drop 250 l) (omega (arith, length-drop 250 l)))
 
 array-share-prefix-loops : tie.Need-array-share-prefix-loops
 array-share-prefix-loops c = search needs

@@ -8,12 +8,12 @@ use Rattle.machine.specs.Machine.{inactive}
 use Rattle.listing_text.specs.Grown.{Grown}
 use Rattle.listing_text.proofs.Grow.{nothing}
 use Rattle.listing_text.proofs.Lines.{one-more, all-lines}
-use Rattle.listing_text.specs.Text.{lines, carrierLine, carriersOf}
+use Rattle.listing_text.specs.Text.{lines, carrierLine, carrierLines}
 use Rattle.listing_text.proofs.put_carriers.Statement.{statement}
 use Rattle.listing_text.proofs.put_carriers.Tie as tie
 
 abbrev Inv-loop : tie.InvT-loop
-Inv-loop text₀ at carriers end₀ k₀ text end k = (k ≤ 10) × (length carriers ≡ 10) × Grown text₀ at (carriersOf (take k carriers)) text end
+Inv-loop text₀ at carriers end₀ k₀ text end k = (k ≤ 10) × (length carriers ≡ 10) × Grown text₀ at (carrierLines (take k carriers)) text end
 
 abbrev μ-loop : tie.MeasureT-loop
 μ-loop text₀ at carriers end₀ k₀ text end k = 10 - k

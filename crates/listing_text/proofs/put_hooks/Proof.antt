@@ -6,12 +6,12 @@ use lib.ListN.{length, take}
 use Rattle.listing_text.specs.Grown.{Grown}
 use Rattle.listing_text.proofs.Grow.{nothing}
 use Rattle.listing_text.proofs.Lines.{one-more, all-lines}
-use Rattle.listing_text.specs.Text.{lines, hookLine, hooksOf}
+use Rattle.listing_text.specs.Text.{lines, hookLine, hookLines}
 use Rattle.listing_text.proofs.put_hooks.Statement.{statement}
 use Rattle.listing_text.proofs.put_hooks.Tie as tie
 
 abbrev Inv-loop : tie.InvT-loop
-Inv-loop text₀ at bed loops end₀ n₀ text end n = (n ≤ length loops) × Grown text₀ at (hooksOf bed (take n loops)) text end
+Inv-loop text₀ at bed loops end₀ n₀ text end n = (n ≤ length loops) × Grown text₀ at (hookLines bed (take n loops)) text end
 
 abbrev μ-loop : tie.MeasureT-loop
 μ-loop text₀ at bed loops end₀ n₀ text end n = length loops - n
