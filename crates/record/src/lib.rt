@@ -217,7 +217,8 @@ fn work(kind: u8, l: &[u8]) -> Decoded
     }
 }
 
-// What was read so far, with the needle on the other bed, whose number is the byte at i.
+// What was read so far, with the needle on the other bed, whose number is the byte at i. (The record is made anew: one that
+// is changed stays in memory, and the run's loop gets longer for every kind.)
 fn across(d: Decoded, l: &[u8], i: usize) -> Decoded
     requires { ⌜ (d .number ≡ 0 → (i < length (now l)) × (d .what .at .0 ≤ 1)) ⌝ }
     ensures { λ r. ⌜ r ≡ acrossOf d (byte (now (l .entry)) i) ⌝ }
@@ -229,9 +230,15 @@ fn across(d: Decoded, l: &[u8], i: usize) -> Decoded
     if State::NEEDLE_MOST < m {
         return refused(FIELD_RANGE);
     }
-    let mut what = d.what;
-    let at = what.at;
+    let x = d.what;
+    let r = x.racking;
+    let at = x.at;
     let to = Needle(1 - at.0, m as u16);
+    let mut what = blank(x.kind);
+    what.racking = r;
+    what.right = x.right;
+    what.at = at;
+    what.carrier = x.carrier;
     what.to = to;
     Decoded {
         number: 0,
@@ -258,28 +265,25 @@ pub fn decode(l: &[u8]) -> Decoded
     }
 }
 
-// What extents and ties look at in a record, from bytes that are known to begin with one: nothing is checked again.
+// What extents and ties look at in a record that is no rack, from bytes that are known to begin with one: nothing is
+// checked again.
 pub fn outline(l: &[u8]) -> Record
-    requires { ⌜ decodeOf (now l) .number ≡ 0 ⌝ }
+    requires { ⌜ (decodeOf (now l) .number ≡ 0) × (byte (now l) 0 ≡ RACK → ⊥) ⌝ }
     ensures { λ x. ⌜ x ≡ outlineOf (decodeOf (now (l .entry)) .what) ⌝ }
 {
     let kind = byte(l, 0);
     let mut x = blank(kind);
-    match kind {
-        RACK => {}
-        DROP..=XFER => {
-            let bed = byte(l, 1);
-            let n = byte(l, 2);
-            let at = Needle(bed as u16, n as u16);
-            x.at = at;
-        }
-        _ => {
-            let bed = byte(l, 2);
-            let n = byte(l, 3);
-            let at = Needle(bed as u16, n as u16);
-            x.at = at;
-            x.carrier = byte(l, 4);
-        }
+    if !names_carrier(kind) {
+        let bed = byte(l, 1);
+        let n = byte(l, 2);
+        let at = Needle(bed as u16, n as u16);
+        x.at = at;
+        return x;
     }
+    let bed = byte(l, 2);
+    let n = byte(l, 3);
+    let at = Needle(bed as u16, n as u16);
+    x.at = at;
+    x.carrier = byte(l, 4);
     x
 }
