@@ -16,7 +16,7 @@ use Rattle.machine.proofs.Laws.{and-two}
 use Rattle.machine.specs.Geometry.{columnOf}
 use Rattle.machine.specs.declared.Racking.{Racking}
 use Rattle.record.specs.declared.Record.{Record}
-use Rattle.record.specs.Kinds.{RACK, DROP, XFER, IN, OUT, MISS, TUCK, KNIT}
+use Rattle.record.specs.Kinds.{DROP, XFER, IN, OUT, MISS, TUCK, KNIT}
 use Rattle.record.specs.Names.{carriersOf, isRack, outlineOf}
 use Rattle.record.proofs.Shapes.{is}
 use Rattle.record.proofs.Shapes.{cond-cases}
@@ -24,7 +24,7 @@ use Rattle.trace.specs.Records.{tied}
 use Rattle.rewrite.specs.declared.Extent.{Extent}
 use Rattle.rewrite.specs.Extents.{halfColumn, layerOf, narrow, broad, formExtent, extentOf, meets, member, shareCarrier}
 use Rattle.rewrite.specs.Programs.{what, knitting}
-use Rattle.rewrite.specs.Laid.{boundTo, tiedAt, farApart}
+use Rattle.rewrite.specs.Laid.{farApart}
 use Rattle.rewrite.proofs.Signed.{le-from, le-trans, le-self, le-next, le-before}
 
 module _ (r : Racking) (x : Record) where
@@ -93,36 +93,30 @@ module _ (a b : Extent) where
     unfolding meets
     else-meets h = simp (p, q, le-leb (a .low) (b .high) h)
 
--- the tests of a tie: whatever the racking, then by extents
-module _ (x y : Record) where
-  pub rack-first : x .kind ≡ RACK → boundTo x y ≡ true
-  unfolding boundTo
-  rack-first e = simp (eq-eqb (x .kind) RACK e)
+-- the tests of a tie, one after another
+module _ (r : Racking) (x y : List ℕ) where
+  pub rack-first : isRack (what x) ≡ true → tied knitting r x y ≡ true
+  rack-first a = simp a
 
-  pub rack-second : (x .kind ≡ RACK → ⊥) → y .kind ≡ RACK → boundTo x y ≡ true
-  unfolding boundTo
-  rack-second d e = simp (ne-eqb (x .kind) RACK d, eq-eqb (y .kind) RACK e)
+  module _ (a : isRack (what x) ≡ false) where
+    pub rack-second : isRack (what y) ≡ true → tied knitting r x y ≡ true
+    rack-second b = simp (a, b)
 
-  pub carriers-only : (x .kind ≡ RACK → ⊥) → (y .kind ≡ RACK → ⊥) → boundTo x y ≡ shareCarrier x y
-  unfolding boundTo
-  carriers-only d e = simp (ne-eqb (x .kind) RACK d, ne-eqb (y .kind) RACK e)
+    module _ (b : isRack (what y) ≡ false) where
+      pub one-carrier-tied : shareCarrier (what x) (what y) ≡ true → tied knitting r x y ≡ true
+      one-carrier-tied c = simp (a, b, c)
 
-  pub bound-tied : (r : Racking) → boundTo x y ≡ true → tiedAt r x y ≡ true
-  unfolding tiedAt
-  bound-tied r e = simp e
-
-  pub unbound-tied : (r : Racking) → boundTo x y ≡ false → tiedAt r x y ≡ meets (extentOf r x) (extentOf r y)
-  unfolding tiedAt
-  unbound-tied r e = simp e
+      pub by-extents : shareCarrier (what x) (what y) ≡ false → tied knitting r x y ≡ meets (extentOf r (what x)) (extentOf r (what y))
+      by-extents c = simp (a, b, c)
 
 -- an outline is all that they look at
 pub outline-extent : (r : Racking) (x : Record) → extentOf r (outlineOf x) ≡ extentOf r x
 unfolding outlineOf extentOf
 outline-extent r x = refl
 
-pub outline-bound : (x y : Record) → boundTo (outlineOf x) (outlineOf y) ≡ boundTo x y
-unfolding outlineOf boundTo carriersOf
-outline-bound x y = refl
+pub outline-share : (x y : Record) → shareCarrier (outlineOf x) (outlineOf y) ≡ shareCarrier x y
+unfolding outlineOf carriersOf
+outline-share x y = refl
 
 -- ---- columns that are far apart
 -- an extent reaches one half column to each side of its own at most
@@ -185,8 +179,3 @@ far-apart r x y e =
 pub outside : (d : ℤ) → ltb 1 (natAbs d) ≡ (ltZ d (negsuc 0) || ltZ (pos 1) d)
 outside (pos n) = refl
 outside (negsuc n) = leb·suc-suc 1 n ∙ sym (or-false (ltb 0 n))
-
--- ---- the tie of two records by their bytes
-pub tied-bytes : (r : Racking) (x y : List ℕ) → tiedAt r (what x) (what y) ≡ tied knitting r x y
-unfolding tiedAt boundTo
-tied-bytes r x y = or-assoc (isRack (what x)) _ _ ∙ ap (λ (b : Bool). isRack (what x) || b) (or-assoc (isRack (what y)) _ _)

@@ -21,8 +21,7 @@ use Rattle.trace.proofs.Theorems.{made-iff-untied, refused-iff-tied, no-pair-if
 use Rattle.rewrite.specs.declared.Pair.{Pair}
 use Rattle.rewrite.specs.Programs.{flat, recordsOf, startsOf, what, knitting}
 use Rattle.rewrite.specs.Rewrite.{rackingZero, swapOf}
-use Rattle.rewrite.specs.Laid.{tiedAt, isRecord, Sound, Laid, recordAt, startAt, pairAt, inForceAt, exchanged}
-use Rattle.rewrite.proofs.Extents.{tied-bytes}
+use Rattle.rewrite.specs.Laid.{isRecord, Sound, Laid, recordAt, startAt, pairAt, inForceAt, tiedPair, exchanged}
 use Rattle.rewrite.proofs.Records.{each-part, records-flat}
 use Rattle.rewrite.proofs.Laying.{flat-append, starts-append, starts-length, start-next, Stands, stands, size-at, bytes-at}
 use Rattle.rewrite.proofs.Rackings.{force-is}
@@ -181,13 +180,13 @@ module _ (p : List ℕ) (sound : Sound p) (i : ℕ) (h : i + 1 < length (records
   swap-read : swapOf i (recordsOf p) ≡ swapOf (length front) (front ++ first ∷ second ∷ rest)
   swap-read = λ k. swapOf (sym front-length k) (pair-cut k)
 
-  tie-read : tiedAt (inForceAt p i) (what first) (what second) ≡ tied knitting (inForce knitting rackingZero front) first second
-  tie-read = tied-bytes (inForceAt p i) first second ∙ ap (λ (r : Racking). tied knitting r first second) (sym (force-is front front-records))
+  tie-read : tiedPair p i ≡ tied knitting (inForce knitting rackingZero front) first second
+  tie-read = ap (λ (r : Racking). tied knitting r first second) (sym (force-is front front-records))
 
-  pub pair-tied : tiedAt (inForceAt p i) (what first) (what second) ≡ true → swapOf i (recordsOf p) ≡ is-tied
+  pub pair-tied : tiedPair p i ≡ true → swapOf i (recordsOf p) ≡ is-tied
   pair-tied t = swap-read ∙ refused-iff-tied knitting rackingZero front first second rest .1 (sym tie-read ∙ t)
 
-  pub pair-made : tiedAt (inForceAt p i) (what first) (what second) ≡ false → swapOf i (recordsOf p) ≡ made exchangedPair
+  pub pair-made : tiedPair p i ≡ false → swapOf i (recordsOf p) ≡ made exchangedPair
   pair-made t = swap-read ∙ made-iff-untied knitting rackingZero front first second rest .1 (sym tie-read ∙ t)
 
 pub pair-none : (l : List (List ℕ)) (i : ℕ) → length l ≤ i + 1 → swapOf i l ≡ no-pair

@@ -10,24 +10,15 @@ use Rattle.machine.specs.declared.Column.{Column}
 use Rattle.machine.specs.declared.Racking.{Racking}
 use Rattle.machine.specs.Limits.{programMost}
 use Rattle.machine.specs.Machine.{Each}
-use Rattle.record.specs.declared.Record.{Record}
 use Rattle.record.specs.Kinds.{RACK}
-use Rattle.record.specs.Names.{isRack}
 use Rattle.record.specs.Format.{byte, signedOf, decodeOf}
+use Rattle.trace.specs.Records.{tied}
 use Rattle.trace.specs.Swaps.{Outcome, no-pair, is-tied, made}
-use Rattle.rewrite.specs.Extents.{extentOf, meets, shareCarrier}
 use Rattle.rewrite.specs.declared.Pair.{Pair}
 use Rattle.rewrite.specs.declared.LogRecord.{LogRecord}
 use Rattle.rewrite.specs.declared.LogRecord.the-variants.{Torn, Swap}
-use Rattle.rewrite.specs.Programs.{flat, recordsOf, startsOf}
+use Rattle.rewrite.specs.Programs.{flat, recordsOf, startsOf, knitting}
 use Rattle.rewrite.specs.Rewrite.{swapOf}
-
--- a tie in two parts: whatever the racking, and by extents at a racking; of their bytes it is crate trace's `tied` over `knitting`
-unfoldable pub boundTo : Record → Record → Bool
-boundTo x y = isRack x || (isRack y || shareCarrier x y)
-
-unfoldable pub tiedAt : Racking → Record → Record → Bool
-tiedAt r x y = boundTo x y || meets (extentOf r x) (extentOf r y)
 
 -- two columns apart or more, so that no extents there meet
 unfoldable pub farApart : Column → Column → Bool
@@ -71,6 +62,10 @@ pairAt program i = record { first = startAt program i; second = startAt program 
 -- the racking in force at record i
 abbrev pub inForceAt : List ℕ → ℕ → Racking
 inForceAt program i = record { 0 = signedOf (rackByte 0 (take i (recordsOf program))) }
+
+-- whether records i and i + 1 are tied there
+abbrev pub tiedPair : List ℕ → ℕ → Bool
+tiedPair program i = tied knitting (inForceAt program i) (recordAt program i) (recordAt program (i + 1))
 
 -- what a swap answers and leaves
 unfoldable pub swapNo : Outcome (List ℕ) → ℕ

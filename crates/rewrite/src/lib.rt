@@ -4,9 +4,9 @@ ghost use mathlib.Core.List.{List, _++_};
 ghost use Prim.Native.Nat.{ℕ, _+_, _-_, _*_, _/_, _≤_, _<_};
 ghost use lib.ListN.{length, take, drop};
 ghost use Rattle.rewrite.specs.Extents.{halfColumn, layerOf, narrow, broad, formExtent, extentOf, meets, shareCarrier};
-ghost use Rattle.rewrite.specs.Programs.{flat, recordsOf, startsOf, what};
+ghost use Rattle.rewrite.specs.Programs.{flat, recordsOf, startsOf};
 ghost use Rattle.rewrite.specs.Rewrite.{swapOf, logRecordOf, replay, lentNo, writes, rewriteOf};
-ghost use Rattle.rewrite.specs.Laid.{boundTo, tiedAt, farApart, Sound, Laid, Marked, recordAt, startAt, pairAt, rackByte, inForceAt, swapNo, leftBy, InTwoBytes, followNo, leftAfter, exchanged};
+ghost use Rattle.rewrite.specs.Laid.{farApart, Sound, Laid, Marked, startAt, pairAt, rackByte, inForceAt, tiedPair, swapNo, leftBy, InTwoBytes, followNo, leftAfter, exchanged};
 use machine::Column;
 use machine::Needle;
 use machine::Racking;
@@ -161,19 +161,6 @@ fn share_carrier(x: Record, y: Record) -> bool
     x.carrier == y.carrier
 }
 
-// Whether the two are tied whatever the racking: a rack, or one carrier.
-fn bound(x: Record, y: Record) -> bool
-    ensures { λ b. ⌜ b ≡ boundTo x y ⌝ }
-{
-    if x.kind == RACK {
-        return true;
-    }
-    if y.kind == RACK {
-        return true;
-    }
-    share_carrier(x, y)
-}
-
 // Whether the two are two columns apart or more.
 fn apart(a: Column, b: Column) -> bool
     ensures { λ f. ⌜ f ≡ farApart a b ⌝ }
@@ -196,18 +183,24 @@ fn meet(x: Record, y: Record, r: Racking) -> bool
     e.meets(extent_of(y, r))
 }
 
-// Whether records i and i + 1 of the output, which stand there, are tied. The racking in force is looked for only where
-// it matters.
+// Whether records i and i + 1 of the output, which stand there, are tied: a rack, one carrier, or extents that meet. The
+// racking in force is looked for only where it matters.
 fn tied(output: &[u8], work: &[u16], table: &[u8], i: usize, there: Pair) -> bool
     requires { ⌜ (Laid (now output) (now work)) × (Marked (now output) (now table)) × (i + 1 < length (recordsOf (now output))) × (there ≡ pairAt (now output) i) ⌝ }
-    ensures { λ t. ⌜ t ≡ tiedAt (inForceAt (now (output .entry)) i) (what (recordAt (now (output .entry)) i)) (what (recordAt (now (output .entry)) (i + 1))) ⌝ }
+    ensures { λ t. ⌜ t ≡ tiedPair (now (output .entry)) i ⌝ }
 {
     let a = there.first;
     let b = there.second;
     let e = there.end;
+    if output[a] == RACK {
+        return true;
+    }
+    if output[b] == RACK {
+        return true;
+    }
     let x = record::outline(&output[a..b]);
     let y = record::outline(&output[b..e]);
-    if bound(x, y) {
+    if share_carrier(x, y) {
         return true;
     }
     meet(x, y, racking_at(output, work, table, i))
