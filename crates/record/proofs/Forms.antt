@@ -1,11 +1,10 @@
 -- Decoding against the form of a record, the bytes that encode it: what was decoded is the form at the front of the bytes, and a form decodes to its record. Assumes nothing.
-use borrow.Table.Steps.{cases}
 use Prim.Native.Nat.{ℕ, zero, suc, _+_, _-_, _≤_, _<_}
 use mathlib.Core.Path.{_≡_, refl, sym, ap, subst, _∙_}
-use mathlib.Core.Bool.{Bool, true, false, _&&_, cond}
+use mathlib.Core.Bool.{true, false}
 use mathlib.Core.List.{List, [], _∷_, _++_}
 use native.Mathlib.Omega.{arith}
-use lib.IntN.{pos, natAbs}
+use lib.IntN.{natAbs}
 use lib.ListN.{length, take, drop, length-append}
 use lib.Seq.{drop-cons, getD-take, length-take-le}
 use lib.Dec.{eqb, ltb}
@@ -18,7 +17,7 @@ use Rattle.machine.proofs.Ranges.{bed-ok}
 use Rattle.record.specs.declared.Record.{Record}
 use Rattle.record.specs.declared.Decoded.{Decoded}
 use Rattle.record.specs.Kinds.{IN, KNIT, byKind, sizeOf, hooksWorked, carriersNamed}
-use Rattle.record.specs.Format.{Encodes, signedOf, rackOk, needleOk, workOk, needle, noNeedle, recordOf, workRecord, byte, workFieldsOk, fieldsOk, recordFrom, refusedAs, readAs, decodeOf, acrossOf}
+use Rattle.record.specs.Format.{Encodes, signedOf, rackOk, needleOk, workOk, needle, noNeedle, workRecord, byte, workFieldsOk, fieldsOk, recordFrom, refusedAs, readOf, decodeOf}
 use Rattle.record.proofs.Shapes.{Known, cond-cases, in-work, known-size, sized-known, work-size}
 use Rattle.record.proofs.Ranges.{InRange, needle-bed, needle-number, work-right, work-bed, work-number, work-low, work-high}
 
@@ -63,32 +62,31 @@ formed (Encodes.work {kind = kind} {right = right} {bed = bed} {n = n} {k = k} a
 formed (Encodes.split {right = right} {bed = bed} {n = n} {k = k} {m = m} c d e f g h) rest =
     record { size = refl; some = omega arith; fields = simp (work-in right bed n k c d e f g) (le-leb m lastNeedle h); reads = refl }
 
--- bytes with a known kind, and with as many as it needs
-pub decode-known : (l : List ℕ) → 0 < length l → (sizeOf (byte l 0) ≡ 0 → ⊥) → decodeOf l ≡ readAs l (sizeOf (byte l 0)) (fieldsOk l) (recordFrom l)
+-- bytes with a known kind: too few, or with fields out of range or in range
+pub decode-known : (l : List ℕ) → 0 < length l → (sizeOf (byte l 0) ≡ 0 → ⊥) → decodeOf l ≡ readOf l
 unfolding decodeOf
 decode-known l h k = simp (ne-eqb (length l) 0 (λ q. omega arith), ne-eqb (sizeOf (byte l 0)) 0 k)
 
-read-long : (l : List ℕ) (size : ℕ) (ok : Bool) (x : Record) → size ≤ length l → readAs l size ok x ≡ cond ok (record { number = 0; size = size; what = x }) (refusedAs 5)
-unfolding readAs
-read-long l size ok x h = simp (le-ltb (length l) size h)
+pub read-cut : (l : List ℕ) → length l < sizeOf (byte l 0) → readOf l ≡ refusedAs 4
+unfolding readOf
+read-cut l h = simp (lt-ltb (length l) (sizeOf (byte l 0)) h)
 
-pub read-cut : (l : List ℕ) (size : ℕ) (ok : Bool) (x : Record) → length l < size → readAs l size ok x ≡ refusedAs 4
-unfolding readAs
-read-cut l size ok x h = simp (lt-ltb (length l) size h)
+module _ (l : List ℕ) (h : sizeOf (byte l 0) ≤ length l) where
+  pub read-outside : fieldsOk l ≡ false → readOf l ≡ refusedAs 5
+  unfolding readOf
+  read-outside e = simp (le-ltb (length l) (sizeOf (byte l 0)) h, e)
 
-pub read-outside : (l : List ℕ) (size : ℕ) (ok : Bool) (x : Record) → size ≤ length l → ok ≡ false → readAs l size ok x ≡ refusedAs 5
-read-outside l size ok x h e = read-long l size ok x h ∙ simp e
-
-pub read-inside : (l : List ℕ) (size : ℕ) (ok : Bool) (x : Record) → size ≤ length l → ok ≡ true → readAs l size ok x ≡ record { number = 0; size = size; what = x }
-read-inside l size ok x h e = read-long l size ok x h ∙ simp e
+  pub read-inside : fieldsOk l ≡ true → readOf l ≡ record { number = 0; size = sizeOf (byte l 0); what = recordFrom l }
+  unfolding readOf
+  read-inside e = simp (le-ltb (length l) (sizeOf (byte l 0)) h, e)
 
 pub form-decode : {bytes : List ℕ} {x : Record} → Encodes bytes x → (rest : List ℕ) → decodeOf (bytes ++ rest) ≡ record { number = 0; size = length bytes; what = x }
 form-decode {bytes} {x} form rest =
     let f = formed form rest in
     let long = length-append bytes rest in
     let l = bytes ++ rest in
-    decode-known l (omega (arith, f .some)) (λ q. omega (arith, f .some, f .size)) ∙ read-long l (sizeOf (byte l 0)) (fieldsOk l) (recordFrom l) (omega (arith, f .size))
-    ∙ simp (f .fields, f .size, f .reads)
+    decode-known l (omega (arith, f .some)) (λ q. omega (arith, f .some, f .size)) ∙ read-inside l (omega (arith, f .size)) (f .fields)
+    ∙ (λ i. record { number = 0; size = f .size i; what = f .reads i })
 
 -- ---- every list of bytes is one of five
 pub data Reads (l : List ℕ) : Decoded → Type 0 where
@@ -100,7 +98,7 @@ pub data Reads (l : List ℕ) : Decoded → Type 0 where
       → Reads l (record { number = 0; size = sizeOf (byte l 0); what = recordFrom l })
 
 pub reads : (l : List ℕ) → Reads l (decodeOf l)
-unfolding decodeOf readAs
+unfolding decodeOf readOf
 reads l =
     cond-cases (Reads l) (eqb (length l) 0) (λ h. Reads.none (eqb-true (length l) 0 h))
     (λ h. let some : 0 < length l = omega (arith, eqb-false (length l) 0 h) in
@@ -165,17 +163,22 @@ module _ (l : List ℕ) where
   alike (Known.knit e) = of-size {n = 5} (simp e) (work-alike (omega arith) (omega arith))
   alike (Known.split e) = of-size {n = 6} (simp e) (split-alike e)
 
+  read-front : sizeOf (byte l 0) ≤ length l → sizeOf (byte (take (sizeOf (byte l 0)) l) 0) ≡ sizeOf (byte l 0) → Alike (sizeOf (byte l 0))
+      → readOf (take (sizeOf (byte l 0)) l) ≡ readOf l
+  unfolding readOf
+  read-front h size (f, x) =
+      let n = sizeOf (byte l 0) in
+      let long = length-take-le n l h in
+      simp (size, f, x, le-ltb (length (take n l)) n (omega arith), le-ltb (length l) n h)
+
   pub decode-front : 0 < sizeOf (byte l 0) → sizeOf (byte l 0) ≤ length l → decodeOf (take (sizeOf (byte l 0)) l) ≡ decodeOf l
   decode-front p h =
       let n = sizeOf (byte l 0) in
       let b = kept n 0 p in
       let long = length-take-le n l h in
       let some : sizeOf (byte l 0) ≡ 0 → ⊥ = λ q. omega arith in
-      let (f, x) = alike (sized-known (byte l 0) some) in
-      decode-known (take n l) (omega arith) (λ q. some (ap sizeOf (sym b) ∙ q)) ∙ ap (λ (k : ℕ). readAs (take n l) (sizeOf k) (fieldsOk (take n l)) (recordFrom (take n l))) b
-      ∙ read-long (take n l) n (fieldsOk (take n l)) (recordFrom (take n l)) (omega arith)
-      ∙ (λ i. cond (f i) (record { number = 0; size = n; what = x i }) (refusedAs 5))
-      ∙ sym (read-long l n (fieldsOk l) (recordFrom l) h) ∙ sym (decode-known l (omega arith) some)
+      let size : sizeOf (byte (take n l) 0) ≡ n = ap sizeOf b in
+      decode-known (take n l) (omega arith) (λ q. some (sym size ∙ q)) ∙ read-front h size (alike (sized-known (byte l 0) some)) ∙ sym (decode-known l (omega arith) some)
 
 -- without a byte, with an unknown kind, with too few bytes
 pub decode-none : (l : List ℕ) → length l ≡ 0 → decodeOf l ≡ refusedAs 4
@@ -187,7 +190,7 @@ unfolding decodeOf
 decode-strange l h z = simp (ne-eqb (length l) 0 (λ q. omega arith), z)
 
 pub decode-short : (l : List ℕ) → 0 < length l → length l < sizeOf (byte l 0) → decodeOf l ≡ refusedAs 4
-decode-short l h z = decode-known l h (λ q. omega arith) ∙ read-cut l (sizeOf (byte l 0)) (fieldsOk l) (recordFrom l) z
+decode-short l h z = decode-known l h (λ q. omega arith) ∙ read-cut l z
 
 -- ---- the form at the front of the bytes
 bytesFrom : ℕ → ℕ → List ℕ → List ℕ
@@ -316,23 +319,3 @@ form-in (Encodes.split {bed = bed} {n = n} {m = m} c d e f g h) = in-range (Know
 
 pub decode-in : (l : List ℕ) → decodeOf l .number ≡ 0 → InRange (decodeOf l .what)
 decode-in l e = form-in (decode-form l e)
-
--- what was read is as long as it must be, its fields are in range, and it is the record
-pub read-was : (l : List ℕ) (size : ℕ) (ok : Bool) (x : Record) {d : Decoded} → d ≡ readAs l size ok x → d .number ≡ 0 → (size ≤ length l) × (ok ≡ true) × (d .what ≡ x)
-read-was l size ok x {d} e z =
-    cases (ltb (length l) size) (λ t. absurd (refused-number 3 (of (e ∙ read-cut l size ok x (ltb-true (length l) size t)))))
-    (λ t. let h = ltb-false (length l) size t in cases ok
-    (λ a. (h, a, ap (λ (d : Decoded). d .what) (e ∙ read-inside l size ok x h a)))
-    (λ a. absurd (refused-number 4 (of (e ∙ read-outside l size ok x h a)))))
-  where
-    of : {r : Decoded} → d ≡ r → r .number ≡ 0
-    of q = sym (ap (λ (d : Decoded). d .number) q) ∙ z
-
--- ---- a second needle: refused so far, or read and its number in range or not
-module _ (l : List ℕ) (size m : ℕ) (ok : Bool) (kind k : ℕ) (right : Bool) (bed n : ℕ) where
-  pub across-read : acrossOf (readAs l size ok (recordOf kind (pos 0) right (needle bed n) k noNeedle)) m
-      ≡ readAs l size (ok && numberOk m) (recordOf kind (pos 0) right (needle bed n) k (needle (1 - bed) m))
-  unfolding acrossOf readAs refusedAs
-  across-read =
-      cases (ltb (length l) size) (λ t. simp t)
-      (λ t. simp t (cases ok (λ a. simp a) (λ a. simp a)))

@@ -36,15 +36,14 @@ noNeedle = needle 0 0
 abbrev pub recordOf : ℕ → ℤ → Bool → Needle → ℕ → Needle → Record
 recordOf kind z right a k b = record { kind = kind; racking = record { 0 = z }; right = right; at = a; carrier = k; to = b }
 
+abbrev pub blankRecord : ℕ → Record
+blankRecord kind = recordOf kind (pos 0) false noNeedle 0 noNeedle
+
 abbrev pub rackRecord : ℤ → Record
 rackRecord z = recordOf RACK z false noNeedle 0 noNeedle
 
--- one needle and no carrier: drop, and an xfer before its second needle is read
-abbrev pub bareRecord : ℕ → Needle → Record
-bareRecord kind a = recordOf kind (pos 0) false a 0 noNeedle
-
 abbrev pub dropRecord : Needle → Record
-dropRecord a = bareRecord DROP a
+dropRecord a = recordOf DROP (pos 0) false a 0 noNeedle
 
 abbrev pub xferRecord : Needle → Needle → Record
 xferRecord a b = recordOf XFER (pos 0) false a 0 b
@@ -92,23 +91,14 @@ recordFrom l =
     (workRecord (byte l 0) (eqb (byte l 1) 1) (needle (byte l 2) (byte l 3)) (byte l 4)))))
 
 unfoldable pub refusedAs : ℕ → Decoded
-refusedAs n = record { number = n; size = 0; what = bareRecord 0 noNeedle }
+refusedAs n = record { number = n; size = 0; what = blankRecord 0 }
 
--- a record of so many bytes: 4 (01: cut short) if there are fewer, 5 (01: field) unless its fields are in range
-unfoldable pub readAs : List ℕ → ℕ → Bool → Record → Decoded
-readAs l size ok x = cond (ltb (length l) size) (refusedAs 4) (cond ok (record { number = 0; size = size; what = x }) (refusedAs 5))
+-- a list whose first byte is a known kind: 4 (01: cut short) if there are fewer bytes than it needs, 5 (01: field) unless its fields are in range
+unfoldable pub readOf : List ℕ → Decoded
+readOf l =
+    cond (ltb (length l) (sizeOf (byte l 0))) (refusedAs 4)
+    (cond (fieldsOk l) (record { number = 0; size = sizeOf (byte l 0); what = recordFrom l }) (refusedAs 5))
 
 -- the first record of a list: 4 without a byte, 3 (01: strange) for an unknown kind
 unfoldable pub decodeOf : List ℕ → Decoded
-decodeOf l =
-    cond (eqb (length l) 0) (refusedAs 4)
-    (cond (eqb (sizeOf (byte l 0)) 0) (refusedAs 3)
-    (readAs l (sizeOf (byte l 0)) (fieldsOk l) (recordFrom l)))
-
--- a record read so far, with its second needle, of this number and on the other bed
-unfoldable pub acrossOf : Decoded → ℕ → Decoded
-acrossOf d m =
-    cond (eqb (d .number) 0)
-    (cond (numberOk m)
-    (record { number = 0; size = d .size; what = recordOf (d .what .kind) (d .what .racking .0) (d .what .right) (d .what .at) (d .what .carrier) (needle (1 - d .what .at .0) m) })
-    (refusedAs 5)) d
+decodeOf l = cond (eqb (length l) 0) (refusedAs 4) (cond (eqb (sizeOf (byte l 0)) 0) (refusedAs 3) (readOf l))

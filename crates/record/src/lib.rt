@@ -1,10 +1,10 @@
 // The byte format: the kinds and lengths of records, their fields, and a record decoded.
 ghost use mathlib.Core.Path.{_≡_};
 ghost use Prim.Native.Nat.{_≤_, _<_};
-ghost use lib.Dec.{eqb, leb};
+ghost use lib.Dec.{leb};
 ghost use lib.ListN.{length, getD};
-ghost use Rattle.record.specs.Kinds.{RACK, sizeOf, carriersNamed};
-ghost use Rattle.record.specs.Format.{signedOf, rackOk, needleOk, workOk, needle, noNeedle, rackRecord, bareRecord, workRecord, byte, workFieldsOk, refusedAs, readAs, decodeOf, acrossOf};
+ghost use Rattle.record.specs.Kinds.{RACK, DROP, XFER, IN, SPLIT, sizeOf, carriersNamed};
+ghost use Rattle.record.specs.Format.{signedOf, needleOk, workOk, blankRecord, byte, refusedAs, readOf, decodeOf};
 ghost use Rattle.record.specs.Names.{outlineOf};
 use machine::Needle;
 use machine::Racking;
@@ -95,7 +95,7 @@ fn byte(l: &[u8], i: usize) -> u8
 
 // A record of this kind with 0 in every other field: the one way in which a record is made.
 fn blank(kind: u8) -> Record
-    ensures { λ x. ⌜ x ≡ bareRecord kind noNeedle ⌝ }
+    ensures { λ x. ⌜ x ≡ blankRecord kind ⌝ }
 {
     Record {
         kind,
@@ -121,7 +121,8 @@ fn refused(number: u8) -> Decoded
 
 // Rack: the new racking.
 fn rack(l: &[u8]) -> Decoded
-    ensures { λ d. ⌜ d ≡ readAs (now (l .entry)) (sizeOf RACK) (rackOk (byte (now (l .entry)) 1)) (rackRecord (signedOf (byte (now (l .entry)) 1))) ⌝ }
+    requires { ⌜ byte (now l) 0 ≡ RACK ⌝ }
+    ensures { λ d. ⌜ d ≡ readOf (now (l .entry)) ⌝ }
 {
     let size = size_of(RACK);
     if l.len() < size {
@@ -164,10 +165,10 @@ fn work_ok(right: u8, bed: u8, n: u8, k: u8) -> bool
     right <= 1
 }
 
-// A record without a carrier: bed, needle. All that a drop has; an xfer has a needle more.
+// A record without a carrier: bed, needle; of an xfer also the needle on the other bed.
 fn bare(kind: u8, l: &[u8]) -> Decoded
-    requires { ⌜ 3 ≤ sizeOf kind ⌝ }
-    ensures { λ d. ⌜ d ≡ readAs (now (l .entry)) (sizeOf kind) (needleOk (byte (now (l .entry)) 1) (byte (now (l .entry)) 2)) (bareRecord kind (needle (byte (now (l .entry)) 1) (byte (now (l .entry)) 2))) ⌝ }
+    requires { ⌜ (byte (now l) 0 ≡ kind) × (DROP ≤ kind) × (kind ≤ XFER) ⌝ }
+    ensures { λ d. ⌜ d ≡ readOf (now (l .entry)) ⌝ }
 {
     let size = size_of(kind);
     if l.len() < size {
@@ -181,6 +182,14 @@ fn bare(kind: u8, l: &[u8]) -> Decoded
     let mut what = blank(kind);
     let at = Needle(bed as u16, n as u16);
     what.at = at;
+    if kind == XFER {
+        let m = byte(l, 3);
+        if State::NEEDLE_MOST < m {
+            return refused(FIELD_RANGE);
+        }
+        let to = Needle((1 - bed) as u16, m as u16);
+        what.to = to;
+    }
     Decoded {
         number: 0,
         size,
@@ -188,11 +197,10 @@ fn bare(kind: u8, l: &[u8]) -> Decoded
     }
 }
 
-// A record with a carrier: direction, bed, needle, carrier. All that in, out, miss, tuck and knit have; a split has a
-// needle more.
+// A record with a carrier: direction, bed, needle, carrier; of a split also the needle on the other bed.
 fn work(kind: u8, l: &[u8]) -> Decoded
-    requires { ⌜ 5 ≤ sizeOf kind ⌝ }
-    ensures { λ d. ⌜ d ≡ readAs (now (l .entry)) (sizeOf kind) (workFieldsOk (now (l .entry))) (workRecord kind (eqb (byte (now (l .entry)) 1) 1) (needle (byte (now (l .entry)) 2) (byte (now (l .entry)) 3)) (byte (now (l .entry)) 4)) ⌝ }
+    requires { ⌜ (byte (now l) 0 ≡ kind) × (IN ≤ kind) × (kind ≤ SPLIT) ⌝ }
+    ensures { λ d. ⌜ d ≡ readOf (now (l .entry)) ⌝ }
 {
     let size = size_of(kind);
     if l.len() < size {
@@ -210,39 +218,17 @@ fn work(kind: u8, l: &[u8]) -> Decoded
     let at = Needle(bed as u16, n as u16);
     what.at = at;
     what.carrier = k;
+    if kind == SPLIT {
+        let m = byte(l, 5);
+        if State::NEEDLE_MOST < m {
+            return refused(FIELD_RANGE);
+        }
+        let to = Needle((1 - bed) as u16, m as u16);
+        what.to = to;
+    }
     Decoded {
         number: 0,
         size,
-        what,
-    }
-}
-
-// What was read so far, with the needle on the other bed, whose number is the byte at i. (The record is made anew: one that
-// is changed stays in memory, and the run's loop gets longer for every kind.)
-fn across(d: Decoded, l: &[u8], i: usize) -> Decoded
-    requires { ⌜ (d .number ≡ 0 → (i < length (now l)) × (d .what .at .0 ≤ 1)) ⌝ }
-    ensures { λ r. ⌜ r ≡ acrossOf d (byte (now (l .entry)) i) ⌝ }
-{
-    if d.number != 0 {
-        return d;
-    }
-    let m = byte(l, i);
-    if State::NEEDLE_MOST < m {
-        return refused(FIELD_RANGE);
-    }
-    let x = d.what;
-    let r = x.racking;
-    let at = x.at;
-    let to = Needle(1 - at.0, m as u16);
-    let mut what = blank(x.kind);
-    what.racking = r;
-    what.right = x.right;
-    what.at = at;
-    what.carrier = x.carrier;
-    what.to = to;
-    Decoded {
-        number: 0,
-        size: d.size,
         what,
     }
 }
@@ -257,10 +243,11 @@ pub fn decode(l: &[u8]) -> Decoded
     let kind = byte(l, 0);
     match kind {
         RACK => rack(l),
+        // one arm for each length: the compiler then knows it
         DROP => bare(DROP, l),
-        XFER => across(bare(XFER, l), l, 3),
+        XFER => bare(XFER, l),
         IN..=KNIT => work(kind, l),
-        SPLIT => across(work(SPLIT, l), l, 5),
+        SPLIT => work(SPLIT, l),
         _ => refused(UNKNOWN_KIND),
     }
 }
