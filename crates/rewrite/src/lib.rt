@@ -183,8 +183,9 @@ fn meet(x: Record, y: Record, r: Racking) -> bool
     e.meets(extent_of(y, r))
 }
 
-// Whether records i and i + 1 of the output, which stand there, are tied: a rack, one carrier, or extents that meet. The
-// racking in force is looked for only where it matters.
+// Whether records i and i + 1 of the output, which stand there, are tied: a rack, one carrier, or extents that meet. (The
+// racking in force is looked for before the records are read: with those at hand the walk to it would be longer by a
+// load for each record; a tie ends its log, so a walk for nothing is made once.)
 fn tied(output: &[u8], work: &[u16], table: &[u8], i: usize, there: Pair) -> bool
     requires { ⌜ (Laid (now output) (now work)) × (Marked (now output) (now table)) × (i + 1 < length (recordsOf (now output))) × (there ≡ pairAt (now output) i) ⌝ }
     ensures { λ t. ⌜ t ≡ tiedPair (now (output .entry)) i ⌝ }
@@ -198,12 +199,13 @@ fn tied(output: &[u8], work: &[u16], table: &[u8], i: usize, there: Pair) -> boo
     if output[b] == RACK {
         return true;
     }
+    let r = racking_at(output, work, table, i);
     let x = record::outline(&output[a..b]);
     let y = record::outline(&output[b..e]);
     if share_carrier(x, y) {
         return true;
     }
-    meet(x, y, racking_at(output, work, table, i))
+    meet(x, y, r)
 }
 
 // Moves the first k bytes of a short part behind the others.

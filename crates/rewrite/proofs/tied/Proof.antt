@@ -115,30 +115,33 @@ returns-2 : tie.Need-returns-2
 returns-2 c = let k = c .before .before .before .before .before .before .before in
     sym (rack-second (r k) (x k) (y k) (no-rack (p k) (i k) _ (first-there k) (first-start k) (c .before .before .if1 .left)) (is-rack (p k) (i k + 1) _ (second-there k) (second-start k) (c .if2 .taken)))
 
+racking-at-requires : tie.Need-racking-at-requires
+racking-at-requires c κs = let q = start c .pre in (q .0, q .1, omega (arith, q .2))
+
 sub-outline : tie.Need-sub-outline
-sub-outline c = omega (arith, there (start c) .first-long)
+sub-outline c = omega (arith, there (start (c .before)) .first-long)
 
 part-outline-start : tie.Need-part-outline-start
-part-outline-start c = omega (arith, there (start c) .first-long)
+part-outline-start c = omega (arith, there (start (c .before)) .first-long)
 
 part-outline-end : tie.Need-part-outline-end
-part-outline-end c = let s = there (start c) in omega (arith, s .second-long, s .ends)
+part-outline-end c = let s = there (start (c .before)) in omega (arith, s .second-long, s .ends)
 
 outline-requires : tie.Need-outline-requires
-outline-requires c κs = let b = c .before in let k = start b in
+outline-requires c κs = let b = c .before .before in let k = start b in
     outlined (p k) (i k) _ (first-there k) (first-start k) _ (first-part k) (first-reads (p k) (k .pre .0 .sound) (i k) (k .pre .2)) (not-first b)
 
 sub-outline-2 : tie.Need-sub-outline-2
-sub-outline-2 c = omega (arith, there (start (c .before .before)) .second-long)
+sub-outline-2 c = omega (arith, there (start (c .before .before .before)) .second-long)
 
 part-outline-start-2 : tie.Need-part-outline-start-2
-part-outline-start-2 c = omega (arith, there (start (c .before .before)) .second-long)
+part-outline-start-2 c = omega (arith, there (start (c .before .before .before)) .second-long)
 
 part-outline-end-2 : tie.Need-part-outline-end-2
-part-outline-end-2 c = omega (arith, there (start (c .before .before)) .ends)
+part-outline-end-2 c = omega (arith, there (start (c .before .before .before)) .ends)
 
 outline-requires-2 : tie.Need-outline-requires-2
-outline-requires-2 c κs = let b = c .before .before .before in let k = start b in
+outline-requires-2 c κs = let b = c .before .before .before .before in let k = start b in
     outlined (p k) (i k + 1) _ (second-there k) (second-start k) _ (second-part k) (second-reads (p k) (k .pre .0 .sound) (i k) (k .pre .2)) (not-second b)
 
 share-carrier-requires : tie.Need-share-carrier-requires
@@ -147,7 +150,7 @@ share-carrier-requires c κs = search needs
 -- what the two outlines share
 module _ (c : tie.After-share-carrier) where
   abbrev none : tie.Else2
-  none = c .before .before .before .before .before
+  none = c .before .before .before .before .before .before
 
   abbrev begin : tie.Start
   begin = start none
@@ -165,22 +168,19 @@ returns-3 : tie.Need-returns-3
 returns-3 c = let b = c .before in let k = begin b in
     sym (one-carrier-tied (r k) (x k) (y k) (no-first (none b)) (no-second (none b)) (sym (shares b) ∙ c .if3 .taken))
 
-racking-at-requires : tie.Need-racking-at-requires
-racking-at-requires c κs = let q = begin (c .before) .pre in (q .0, q .1, omega (arith, q .2))
-
 meet-requires : tie.Need-meet-requires
 meet-requires c κs = search needs
 
 returns-4 : tie.Need-returns-4
-returns-4 c = let b = c .before .before .before in let k = begin b in
+returns-4 c = let b = c .before .before in let k = begin b in
     c .meet .ensures
-    ∙ ap (λ (q : Racking). meets (extentOf q (b .before .before .before .outline .result)) (extentOf q (b .before .outline2 .result))) (c .before .racking-at .ensures)
+    ∙ ap (λ (q : Racking). meets (extentOf q (b .before .before .before .outline .result)) (extentOf q (b .before .outline2 .result))) (b .before .before .before .before .before .racking-at .ensures)
     ∙ meets-is (r k) (what (x k)) (what (y k)) _ _ (first-is b) (second-is b)
-    ∙ sym (by-extents (r k) (x k) (y k) (no-first (none b)) (no-second (none b)) (sym (shares b) ∙ c .before .before .if3 .left))
+    ∙ sym (by-extents (r k) (x k) (y k) (no-first (none b)) (no-second (none b)) (sym (shares b) ∙ c .before .if3 .left))
 
 pub tied-spec : {M : Type 1} → statement M
 tied-spec =
     tie.close (tie.spec
-    shared-slice-read-if1 returns shared-slice-read-if2 returns-2 sub-outline part-outline-start part-outline-end outline-requires
-    sub-outline-2 part-outline-start-2 part-outline-end-2 outline-requires-2 share-carrier-requires returns-3 racking-at-requires
+    shared-slice-read-if1 returns shared-slice-read-if2 returns-2 racking-at-requires sub-outline part-outline-start part-outline-end outline-requires
+    sub-outline-2 part-outline-start-2 part-outline-end-2 outline-requires-2 share-carrier-requires returns-3
     meet-requires returns-4)
