@@ -1,16 +1,21 @@
 -- What the code's small looks at a state promise. Theorems need them, a reader of document 01 does not.
 use Prim.Native.Nat.{ℕ}
 use mathlib.Core.Path.{_≡_}
-use mathlib.Core.Bool.{Bool, not}
+use mathlib.Core.Bool.{Bool, not, cond}
 use mathlib.Core.List.{List}
 use lib.Dec.{eqb, leb}
 use Rattle.machine.specs.declared.Needle.{Needle}
 use Rattle.machine.specs.declared.Carrier.{Carrier}
-use Rattle.machine.specs.Machine.{all}
+use Rattle.machine.specs.Machine.{all, inactiveCarrier}
+use Rattle.machine.specs.Range.{carrierOk}
 
 -- the largest of a list, 0 of none: it is at most b exactly if every element is
 abbrev pub Most : List ℕ → ℕ → Type 0
 Most l m = (b : ℕ) → all (λ (n : ℕ). leb n b) l ≡ leb m b
+
+-- whether a carrier is the inactive one, or else, whether it is in range
+abbrev pub carrierPasses : Bool → Carrier → Bool
+carrierPasses idle c = cond idle (inactiveCarrier c) (carrierOk c)
 
 -- whether a carrier names a needle of this number, on either bed, attached or not: where none does, code need not move attachments
 abbrev pub anyBeside : Needle → List Carrier → Bool

@@ -4,10 +4,10 @@ ghost use Prim.Native.Nat.{ℕ};
 ghost use mathlib.Core.Bool.{cond};
 ghost use mathlib.Core.List.{map};
 ghost use lib.Dec.{leb, ltb};
-ghost use Rattle.machine.specs.Machine.{OnBed, inactive, emptyState, hookOf, sameNeedle, attachedAt, movedTo, all, noLoops, inactiveCarrier, allInactive, completeOf};
+ghost use Rattle.machine.specs.Machine.{OnBed, inactive, emptyState, hookOf, sameNeedle, attachedAt, movedTo, all, noLoops, inactiveCarrier, completeOf};
 ghost use Rattle.machine.specs.Limits.{hookMost};
 ghost use Rattle.machine.specs.Geometry.{columnOf, entryOf, exitOf, sameColumn, withinFloat};
-ghost use Rattle.machine.specs.Looks.{Most, anyBeside};
+ghost use Rattle.machine.specs.Looks.{Most, carrierPasses, anyBeside};
 ghost use Rattle.machine.specs.Range.{rackingOk, slotOk, onBed, attachmentOk, carrierOk, stateOk};
 
 // The numbers of refusals.
@@ -100,7 +100,7 @@ impl State {
             return false;
         }
         let cs = self.carriers;
-        all_inactive(cs)
+        carriers_pass(cs, true)
     }
 
     // Whether every value is in its range (01: the state is not foul).
@@ -115,7 +115,7 @@ impl State {
             return false;
         }
         let cs = self.carriers;
-        carriers_in_range(cs)
+        carriers_pass(cs, false)
     }
 }
 
@@ -290,6 +290,16 @@ impl Carrier {
         self.attachment_in_range()
     }
 
+    // Whether it is the inactive one, or else, whether it is in range.
+    fn passes(self, idle: bool) -> bool
+        ensures { λ b. ⌜ b ≡ carrierPasses idle self ⌝ }
+    {
+        if idle {
+            return self.is_inactive();
+        }
+        self.in_range()
+    }
+
     // Whether the carrier is attached at the needle.
     fn attached_at(self, n: Needle) -> bool
         ensures { λ b. ⌜ b ≡ attachedAt n self ⌝ }
@@ -352,29 +362,14 @@ fn loops_in_range(loops: &[u8]) -> bool
     most_loops(loops) <= State::LOOPS_MOST
 }
 
-// Whether every carrier is in range.
-fn carriers_in_range(carriers: [Carrier; State::CARRIERS]) -> bool
-    ensures { λ b. ⌜ b ≡ all carrierOk carriers ⌝ }
+// Whether every carrier passes the one test or the other: one walk for both.
+fn carriers_pass(carriers: [Carrier; State::CARRIERS], idle: bool) -> bool
+    ensures { λ b. ⌜ b ≡ all (carrierPasses idle) carriers ⌝ }
 {
     let mut k = 0;
     while k < State::CARRIERS {
         let c = carriers[k];
-        if !c.in_range() {
-            return false;
-        }
-        k += 1;
-    }
-    true
-}
-
-// Whether every carrier is the inactive one, 0 in every field.
-fn all_inactive(carriers: [Carrier; State::CARRIERS]) -> bool
-    ensures { λ b. ⌜ b ≡ allInactive carriers ⌝ }
-{
-    let mut k = 0;
-    while k < State::CARRIERS {
-        let c = carriers[k];
-        if !c.is_inactive() {
+        if !c.passes(idle) {
             return false;
         }
         k += 1;

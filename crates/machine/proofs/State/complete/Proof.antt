@@ -45,13 +45,13 @@ returns-2 : tie.Need-returns-2
 returns-2 c = let b = c .before .before .before .before .before in
     looped (b .before .before .before .before .args .t1) (racking-zero b) (sym (c .before .no-loops .ensures) ∙ not-true (c .before .no-loops .result) (c .if2 .taken))
 
-all-inactive-requires : tie.Need-all-inactive-requires
-all-inactive-requires c κs = search needs
+carriers-pass-requires : tie.Need-carriers-pass-requires
+carriers-pass-requires c κs = search needs
 
 returns-3 : tie.Need-returns-3
 returns-3 c = let b = c .before .before .before .before .before .before .before in
-    c .all-inactive .ensures ∙ last (b .before .before .before .before .args .t1) (racking-zero b) (hooks-empty (c .before .before))
+    c .carriers-pass .ensures ∙ last (b .before .before .before .before .args .t1) (racking-zero b) (hooks-empty (c .before .before))
 
 pub complete-spec : {M : Type 1} → statement M
 complete-spec =
-    tie.close (tie.spec returns no-loops-requires returns-2 all-inactive-requires returns-3)
+    tie.close (tie.spec returns no-loops-requires returns-2 carriers-pass-requires returns-3)

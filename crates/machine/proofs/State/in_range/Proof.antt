@@ -45,13 +45,13 @@ returns-2 : tie.Need-returns-2
 returns-2 c = let b = c .before .before .before .before .before in
     looped (b .before .before .before .args .t1) (racking-in b) (sym (c .before .loops-in-range .ensures) ∙ not-true (c .before .loops-in-range .result) (c .if2 .taken))
 
-carriers-in-range-requires : tie.Need-carriers-in-range-requires
-carriers-in-range-requires c κs = search needs
+carriers-pass-requires : tie.Need-carriers-pass-requires
+carriers-pass-requires c κs = search needs
 
 returns-3 : tie.Need-returns-3
 returns-3 c = let b = c .before .before .before .before .before .before .before in
-    c .carriers-in-range .ensures ∙ last (b .before .before .before .args .t1) (racking-in b) (loops-in (c .before .before))
+    c .carriers-pass .ensures ∙ last (b .before .before .before .args .t1) (racking-in b) (loops-in (c .before .before))
 
 pub in-range-spec : {M : Type 1} → statement M
 in-range-spec =
-    tie.close (tie.spec in-range-requires returns loops-in-range-requires returns-2 carriers-in-range-requires returns-3)
+    tie.close (tie.spec in-range-requires returns loops-in-range-requires returns-2 carriers-pass-requires returns-3)
