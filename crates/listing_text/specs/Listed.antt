@@ -1,5 +1,5 @@
 -- What is listed: the rewriter's answer on a program and a log, and the output's program bytes.
-use Prim.Native.Nat.{ℕ, _≤_}
+use Prim.Native.Nat.{ℕ, _+_, _/_, _≤_}
 use mathlib.Core.Path.{_≡_}
 use mathlib.Core.List.{List}
 use lib.ListN.{length, take, replicate}
@@ -17,12 +17,12 @@ callListed length w = listingOf (w .answer) (take (shownOf (w .answer .number) l
 unfoldable pub listedOf : List ℕ → List ℕ → List ℕ → List ℕ → List ℕ
 listedOf program log output work = callListed (length program) (rewriteOf program log output work)
 
--- what the listing program lends the rewriter: bytes for every program and 16,384 offsets, all 0
+-- what the listing program lends the rewriter: bytes and offsets for every program, all 0
 unfoldable pub lentOutput : List ℕ
 lentOutput = replicate programMost 0
 
 unfoldable pub lentWork : List ℕ
-lentWork = replicate 16384 0
+lentWork = replicate (programMost / 2) 0
 
 -- it is enough for every program and log within their limits, so that 2 is never listed
 abbrev pub LentIsEnough : Type 0
@@ -36,7 +36,7 @@ pub record ListsRead (old new : List ℕ) (n : ℕ) : Type 0 where
   pub log : List ℕ
   pub program-bytes : Below 256 program
   pub log-bytes : Below 256 log
-  pub program-front : length program ≤ 32769
-  pub log-front : length log ≤ 32769
+  pub program-front : length program ≤ programMost + 1
+  pub log-front : length log ≤ logMost + 1
   pub text : Grown old 0 (listedOf program log lentOutput lentWork) new n
   pub uncut : 88307 ≤ length old → take n new ≡ listedOf program log lentOutput lentWork

@@ -294,10 +294,10 @@ pub fn list(
 }
 
 // Room for the longest file and one byte more, by which a longer one is known.
-fn room() -> [u8; 32769]
+fn room() -> [u8; State::PROGRAM_MOST + 1]
     ensures { λ r. ⌜ 32769 ≡ length r ⌝ }
 {
-    [0u8; 32769]
+    [0u8; State::PROGRAM_MOST + 1]
 }
 
 // Reads the front of a file into buf and answers how many bytes: none where it cannot be opened.
@@ -326,8 +326,8 @@ pub fn list_files(program_path: &[u8], log_path: &[u8], text: &mut [u8]) -> usiz
     let program_length = load(program_path, &mut program);
     let mut log = room();
     let log_length = load(log_path, &mut log);
-    let mut output = [0u8; 32768];
-    let mut work = [0u16; 16384];
+    let mut output = [0u8; State::PROGRAM_MOST];
+    let mut work = [0u16; State::PROGRAM_MOST / 2];
     list(
         &program[..program_length],
         &log[..log_length],

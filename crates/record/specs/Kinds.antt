@@ -30,7 +30,7 @@ KNIT = 8
 abbrev pub SPLIT : ℕ
 SPLIT = 9
 
--- the value of a kind, of nine, one for each; 0 for an unknown kind
+-- a row of a table: rack, drop, xfer, in, out, miss, tuck, knit, split; and its value at a kind, 0 at an unknown one
 unfoldable pub byKind : ℕ → ℕ → ℕ → ℕ → ℕ → ℕ → ℕ → ℕ → ℕ → ℕ → ℕ
 byKind rack drop xfer enter leave miss tuck knit split k =
     cond (eqb k RACK) rack
