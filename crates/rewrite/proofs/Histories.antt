@@ -5,16 +5,15 @@ use mathlib.Core.Path.{_≡_, refl, sym, ap, subst, _∙_}
 use mathlib.Core.Bool.{Bool, true, true≢false}
 use mathlib.Core.List.{List, [], _∷_}
 use mathlib.Core.Logic.{_↔_, _⊎_, inl, inr, ⊎-elim}
-use native.Mathlib.Omega.{arith}
-use lib.Dec.{eqb, leb}
-use borrow.Author.Tests.{eqb-true, eq-eqb, leb-true, leb-false}
+use lib.Dec.{eqb}
+use borrow.Author.Tests.{eqb-true, eq-eqb}
 use Rattle.machine.specs.declared.Needle.{Needle}
 use Rattle.machine.specs.Machine.{Each, sameNeedle}
 use Rattle.record.specs.declared.Record.{Record}
 use Rattle.record.specs.Format.{Encodes}
 use Rattle.record.specs.Kinds.{byKind, hooksWorked, carriersNamed}
 use Rattle.record.specs.Names.{needlesOf, carriersOf}
-use Rattle.record.proofs.Shapes.{Known, one-carrier, no-carrier}
+use Rattle.record.proofs.Shapes.{Known}
 use Rattle.record.proofs.Forms.{form-in}
 use Rattle.rewrite.specs.Extents.{member}
 use Rattle.trace.specs.Lists.{keep}
@@ -95,18 +94,44 @@ pub enters-exactly : EntersExactly
 enters-exactly n bytes x form = rw (form-what form) (named-enters n x (form-in form .known), enters-named n x)
 
 -- ---- the carrier
-named-carrier : (k : ℕ) (x : Record) → (member k (carriersOf x) ≡ true) ↔ Carries k x
-unfolding member carriersOf
-named-carrier k x =
-    cases (leb 1 (carriersNamed (x .kind)))
-    (λ a. let one = one-carrier (x .kind) a in (
-      (λ e. cases (eqb k (x .carrier)) (λ q. (leb-true 1 (carriersNamed (x .kind)) a, sym (eqb-true k (x .carrier) q))) (λ q. absurd (true≢false (sym e ∙ simp (one, q))))),
-      λ (h, e). simp (one, eq-eqb k (x .carrier) (sym e)),
-    ))
-    (λ a. ((λ e. absurd (true≢false (sym e ∙ simp (no-carrier (x .kind) a)))), λ (h, e). absurd (omega (arith, leb-false 1 (carriersNamed (x .kind)) a, h))))
+module _ (k : ℕ) (x : Record) where
+  abbrev Carried : Type 0
+  Carried = member k (carriersOf x) ≡ true
+
+  names-none : carriersNamed (x .kind) ≡ 0 → Carried → ⊥
+  unfolding member carriersOf
+  names-none c e = true≢false (sym e ∙ simp c)
+
+  names-one : carriersNamed (x .kind) ≡ 1 → Carried ↔ (x .carrier ≡ k)
+  unfolding member carriersOf
+  names-one c = (
+    (λ e. cases (eqb k (x .carrier)) (λ q. sym (eqb-true k (x .carrier) q)) (λ q. absurd (true≢false (sym e ∙ simp (c, q))))),
+    (λ e. simp (c, eq-eqb k (x .carrier) (sym e))),
+  )
+
+  named-carries : Known (x .kind) → Carried → Carries k x
+  unfolding byKind
+  named-carries (Known.rack c) e = absurd (names-none (simp c) e)
+  named-carries (Known.drop c) e = absurd (names-none (simp c) e)
+  named-carries (Known.xfer c) e = absurd (names-none (simp c) e)
+  named-carries (Known.carrier-in c) e = Carries.by-in c (names-one (simp c) .0 e)
+  named-carries (Known.carrier-out c) e = Carries.by-out c (names-one (simp c) .0 e)
+  named-carries (Known.miss c) e = Carries.by-miss c (names-one (simp c) .0 e)
+  named-carries (Known.tuck c) e = Carries.by-tuck c (names-one (simp c) .0 e)
+  named-carries (Known.knit c) e = Carries.by-knit c (names-one (simp c) .0 e)
+  named-carries (Known.split c) e = Carries.by-split c (names-one (simp c) .0 e)
+
+  carries-named : Carries k x → Carried
+  unfolding byKind
+  carries-named (Carries.by-in c e) = names-one (simp c) .1 e
+  carries-named (Carries.by-out c e) = names-one (simp c) .1 e
+  carries-named (Carries.by-miss c e) = names-one (simp c) .1 e
+  carries-named (Carries.by-tuck c e) = names-one (simp c) .1 e
+  carries-named (Carries.by-knit c e) = names-one (simp c) .1 e
+  carries-named (Carries.by-split c e) = names-one (simp c) .1 e
 
 pub carrier-exactly : CarrierExactly
-carrier-exactly k bytes x form = rw (form-what form) (named-carrier k x)
+carrier-exactly k bytes x form = rw (form-what form) (named-carries k x (form-in form .known), carries-named k x)
 
 -- ---- the list of them: what a test keeps, where the test says whether a record is one of those
 module _ (f : List ℕ → Bool) (P : Record → Type 0) (says : (bytes : List ℕ) (x : Record) → Encodes bytes x → (f bytes ≡ true) ↔ P x) where

@@ -11,7 +11,7 @@ use Rattle.machine.specs.Limits.{programMost}
 use Rattle.machine.specs.declared.State.{State}
 use Rattle.machine.specs.Machine.{Each}
 use Rattle.record.specs.declared.Record.{Record}
-use Rattle.record.specs.Kinds.{DROP, XFER, TUCK, KNIT, SPLIT, carriersNamed}
+use Rattle.record.specs.Kinds.{DROP, XFER, IN, OUT, MISS, TUCK, KNIT, SPLIT}
 use Rattle.record.specs.Format.{Encodes}
 use Rattle.run.specs.Relation.{Valid}
 use Rattle.trace.specs.Records.{tied}
@@ -52,9 +52,14 @@ pub data Enters (n : Needle) (x : Record) : Type 0 where
 abbrev pub EntersExactly : Type 0
 EntersExactly = (n : Needle) (bytes : List ℕ) (x : Record) → Encodes bytes x → (names (needle n) bytes ≡ true) ↔ Enters n x
 
--- 'a carrier's is the list of all records naming it'
-abbrev pub Carries : ℕ → Record → Type 0
-Carries k x = (1 ≤ carriersNamed (x .kind)) × (x .carrier ≡ k)
+-- 'a carrier's is the list of all records naming it': in, out, miss, tuck, knit and split name one
+pub data Carries (k : ℕ) (x : Record) : Type 0 where
+  by-in : x .kind ≡ IN → x .carrier ≡ k → Carries k x
+  by-out : x .kind ≡ OUT → x .carrier ≡ k → Carries k x
+  by-miss : x .kind ≡ MISS → x .carrier ≡ k → Carries k x
+  by-tuck : x .kind ≡ TUCK → x .carrier ≡ k → Carries k x
+  by-knit : x .kind ≡ KNIT → x .carrier ≡ k → Carries k x
+  by-split : x .kind ≡ SPLIT → x .carrier ≡ k → Carries k x
 
 abbrev pub CarrierExactly : Type 0
 CarrierExactly = (k : ℕ) (bytes : List ℕ) (x : Record) → Encodes bytes x → (names (carrier k) bytes ≡ true) ↔ Carries k x

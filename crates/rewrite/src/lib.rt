@@ -427,7 +427,7 @@ pub fn writes(number: u8) -> bool
 {
     match number {
         0 => true,
-        12..=14 => true,
+        NO_PAIR | TIED | TORN_LOG => true,
         _ => false,
     }
 }
