@@ -1,12 +1,12 @@
 -- The listings are printed so: one test over all of them, computed, and that the test says so. Assumes nothing.
-use Prim.Native.Nat.{ℕ, _≤_}
+use Prim.Native.Nat.{ℕ}
 use mathlib.Core.Path.{_≡_, refl, ap, _∙_}
 use mathlib.Core.Bool.{Bool, true, _&&_, cond, false}
 use mathlib.Core.List.{List, [], _∷_}
 use native.Mathlib.Omega.{arith}
 use lib.Dec.{eqb}
 use lib.ListN.{length}
-use borrow.Author.Tests.{eq-eqb, ne-eqb}
+use borrow.Author.Tests.{eq-eqb}
 use borrow.Table.Steps.{cases}
 use Rattle.machine.specs.Machine.{emptyState, completeOf, all, inactiveCarrier, movedTo, attachedAt, sameNeedle, Each}
 use Rattle.machine.proofs.Laws.{and-two}

@@ -21,7 +21,7 @@ use Rattle.record.specs.Format.{Encodes, signedOf, rackOk, needleOk, wor
 use Rattle.record.proofs.Shapes.{Known, cond-cases, in-work, known-size, sized-known, work-size}
 use Rattle.record.proofs.Ranges.{InRange, needle-bed, needle-number, work-right, work-bed, work-number, work-low, work-high}
 
--- ---- kinds 4 to 8 are read as one
+-- ---- in to knit (bytes 04 to 08) are read as one
 module _ (l : List ℕ) (h : IN ≤ byte l 0) (j : byte l 0 ≤ KNIT) where
   pub work-fields : fieldsOk l ≡ workFieldsOk l
   unfolding fieldsOk

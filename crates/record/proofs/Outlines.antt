@@ -9,7 +9,7 @@ use Rattle.record.specs.Kinds.{RACK, IN, KNIT, byKind, sizeOf, carriersN
 use Rattle.record.specs.Format.{byte, needle, recordFrom, decodeOf}
 use Rattle.record.specs.Names.{outlineAt, outlineOf}
 use Rattle.record.proofs.Shapes.{Known}
-use Rattle.record.proofs.Forms.{Decodes, decodes, work-record}
+use Rattle.record.proofs.Forms.{decodes, work-record}
 
 module _ (l : List ℕ) where
   -- the outline by the ways to read it: of a record that names no carrier, and of one that does

@@ -1,6 +1,6 @@
--- Kinds: every known one is named, what its row says, and kinds 4 to 8 as one. Assumes nothing.
+-- Kinds: every known one is named, what its column says, and in to knit (bytes 04 to 08) as one. Assumes nothing.
 use borrow.Table.Steps.{cases}
-use Prim.Native.Nat.{ℕ, _≤_, _<_}
+use Prim.Native.Nat.{ℕ, _≤_}
 use mathlib.Core.Path.{_≡_, refl, sym, subst}
 use mathlib.Core.Bool.{Bool, true, false, cond}
 use native.Mathlib.Omega.{arith}
@@ -255,7 +255,7 @@ uncarried k e =
       forms-none = forms-none k (λ h j. out (omega arith) j);
     }
 
--- ---- kinds 4 to 8 have a four-byte body
+-- ---- in to knit have a four-byte body
 pub above-bare : (k : ℕ) → 1 ≤ k → (k ≡ RACK → ⊥) → (k ≡ DROP → ⊥) → (k ≡ XFER → ⊥) → IN ≤ k
 above-bare k h a b d = omega arith
 

@@ -18,7 +18,7 @@ use Rattle.machine.specs.Geometry.{columnOf, sameColumn}
 use Rattle.machine.proofs.Signed.{eqZ-true}
 use Rattle.machine.proofs.Laws.{and-two}
 use Rattle.record.specs.declared.Record.{Record}
-use Rattle.record.specs.Kinds.{IN, OUT, MISS, TUCK, byKind, hooksWorked, carriersNamed, loopsFormed}
+use Rattle.record.specs.Kinds.{IN, OUT, MISS, TUCK, hooksWorked, carriersNamed, loopsFormed}
 use Rattle.record.specs.Names.{isRack, rackingAfter}
 use Rattle.record.proofs.Ranges.{InRange}
 use Rattle.run.specs.Step.{lookOf, Seen, seeOf, orNumber, carrierNo, oppositeNo, firstAfter, secondAfter, roomNo, decidedNo, edit, stored, Act, actOf, acted, moveAttachments, numberAt, applyOf}

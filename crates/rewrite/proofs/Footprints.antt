@@ -9,7 +9,7 @@ use lib.IntN.{ℤ, _+ℤ_}
 use lib.Signed.{leZ}
 use lib.ListN.{take}
 use lib.Dec.{eqb, leb}
-use borrow.Author.Tests.{ne-eqb, eqb-false, leb-true, leb-false, le-leb, lt-leb}
+use borrow.Author.Tests.{ne-eqb, eqb-false, leb-true, le-leb}
 use Rattle.machine.specs.declared.Needle.{Needle}
 use Rattle.machine.specs.declared.Column.{Column}
 use Rattle.machine.specs.declared.Racking.{Racking}

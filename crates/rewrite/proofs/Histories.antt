@@ -17,7 +17,7 @@ use Rattle.record.proofs.Shapes.{Known}
 use Rattle.record.proofs.Forms.{form-in}
 use Rattle.rewrite.specs.Extents.{member}
 use Rattle.trace.specs.Lists.{keep}
-use Rattle.rewrite.specs.Programs.{memberNeedle, recordsOf, needle, carrier, names, historyOf}
+use Rattle.rewrite.specs.Programs.{memberNeedle, recordsOf, needle, carrier, names}
 use Rattle.rewrite.specs.Exact.{RecordsAre}
 use Rattle.rewrite.specs.Claims.{Enters, EntersExactly, Carries, CarrierExactly, Those, HistoriesExactly}
 use Rattle.rewrite.proofs.Commute.{needle-eq}

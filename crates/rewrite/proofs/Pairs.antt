@@ -19,9 +19,9 @@ use Rattle.trace.specs.Swaps.{no-pair, is-tied, made}
 use Rattle.trace.specs.Order.{inForce}
 use Rattle.trace.proofs.Theorems.{made-iff-untied, refused-iff-tied, no-pair-iff-short}
 use Rattle.rewrite.specs.declared.Pair.{Pair}
-use Rattle.rewrite.specs.Programs.{flat, recordsOf, startsOf, what, knitting}
+use Rattle.rewrite.specs.Programs.{flat, recordsOf, startsOf, knitting}
 use Rattle.rewrite.specs.Rewrite.{rackingZero, swapOf}
-use Rattle.rewrite.specs.Laid.{isRecord, Sound, Laid, recordAt, startAt, pairAt, inForceAt, tiedPair, exchanged}
+use Rattle.rewrite.specs.Laid.{isRecord, Sound, Laid, recordAt, startAt, pairAt, tiedPair, exchanged}
 use Rattle.rewrite.proofs.Records.{each-part, records-flat}
 use Rattle.rewrite.proofs.Laying.{flat-append, starts-append, starts-length, start-next, Stands, stands, size-at, bytes-at}
 use Rattle.rewrite.proofs.Rackings.{force-is}

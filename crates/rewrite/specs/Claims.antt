@@ -1,5 +1,5 @@
 -- Demand 3, over the rewriter's own definition. The code's `rewrite` equals rewriteOf by its contract.
-use Prim.Native.Nat.{ℕ, _+_, _≤_, _<_}
+use Prim.Native.Nat.{ℕ, _+_, _<_}
 use mathlib.Core.Path.{_≡_}
 use mathlib.Core.Bool.{true}
 use mathlib.Core.List.{List, [], _∷_, _++_}

@@ -1,7 +1,7 @@
 -- How a program is laid in the lent areas between swaps: what the rewriter's private functions ask and promise. No part of the claims.
 use Prim.Native.Nat.{ℕ, _+_, _-_, _*_, _≤_, _<_}
 use mathlib.Core.Path.{_≡_}
-use mathlib.Core.Bool.{Bool, true, cond, _&&_, _||_}
+use mathlib.Core.Bool.{Bool, true, cond, _&&_}
 use mathlib.Core.List.{List, [], _∷_, _++_}
 use lib.IntN.{_-ℤ_, natAbs}
 use lib.Dec.{eqb, ltb}

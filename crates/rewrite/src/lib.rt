@@ -235,7 +235,7 @@ fn halves(part: &mut [u8], k: usize)
     }
 }
 
-// The records from a to b and from b to e change places: two of 3 bytes (drops) or of 5 (kinds 4 to 8) byte by byte, at a
+// The records from a to b and from b to e change places: two of 3 bytes (drops) or of 5 (in to knit) byte by byte, at a
 // length that the compiler knows, all else by way of a copy.
 fn exchange(output: &mut [u8], a: usize, b: usize, e: usize)
     requires { ⌜ (a ≤ b) × (b ≤ e) × (e ≤ length (now output)) × (e - a ≤ 12) ⌝ }

@@ -12,7 +12,7 @@ use Rattle.machine.specs.Limits.{hookLimit}
 use Rattle.machine.specs.Machine.{loopsOn}
 use Rattle.machine.specs.Geometry.{columnOf}
 use Rattle.record.specs.declared.Record.{Record}
-use Rattle.record.specs.Kinds.{OUT, IN, byKind, hooksWorked, carriersNamed, loopsFormed}
+use Rattle.record.specs.Kinds.{OUT, IN, carriersNamed, loopsFormed}
 use Rattle.record.proofs.Shapes.{Forms, Moves, Uses, is, forms, two-hooks, uses, loop}
 use Rattle.record.proofs.Ranges.{InRange}
 use Rattle.run.specs.Relation.{entrySlot, exitSlot}

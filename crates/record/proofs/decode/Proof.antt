@@ -1,4 +1,4 @@
--- By the kind: each by itself, 4 to 8 as one. Assumes nothing.
+-- By the kind: each by itself, in to knit as one. Assumes nothing.
 use borrow.Author.Needs.{needs}
 use borrow.Author.Tests.{eq-eqb}
 use mathlib.Core.Path.{_≡_, refl, sym, ap, _∙_}

@@ -1,6 +1,6 @@
 -- From in to split. Assumes nothing.
 use native.Mathlib.Omega.{arith}
-use mathlib.Core.Path.{_≡_, sym, ap}
+use mathlib.Core.Path.{sym, ap}
 use lib.Dec.{leb}
 use Rattle.record.proofs.Shapes.{carrier-named, carrier-unnamed}
 use Rattle.record.proofs.names_carrier.Statement.{statement}

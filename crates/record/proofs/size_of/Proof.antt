@@ -1,7 +1,6 @@
 -- The length of each kind. Assumes nothing.
 use native.Mathlib.Omega.{arith}
 use mathlib.Core.Path.{_≡_, sym}
-use borrow.Author.Tests.{ne-eqb, le-leb, lt-leb}
 use Rattle.record.specs.Kinds.{byKind}
 use Rattle.record.proofs.Shapes.{above-bare, work-size, no-size}
 use Rattle.record.proofs.size_of.Statement.{statement}

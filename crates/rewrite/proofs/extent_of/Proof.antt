@@ -1,7 +1,7 @@
 -- The extent of each kind. Assumes nothing.
 use borrow.Author.Needs.{needs}
 use native.Mathlib.Omega.{arith}
-use mathlib.Core.Path.{_≡_, sym, _∙_}
+use mathlib.Core.Path.{sym, _∙_}
 use Rattle.rewrite.specs.Extents.{halfColumn, narrow}
 use Rattle.rewrite.proofs.Extents.{drop-extent, xfer-extent, pass-extent, form-extent, other-extent}
 use Rattle.rewrite.proofs.extent_of.Statement.{statement}

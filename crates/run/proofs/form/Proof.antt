@@ -1,7 +1,7 @@
 -- The loop of a tuck or a knit, by the kind; there is no other. Assumes nothing.
 use borrow.Author.Needs.{needs}
 use native.Mathlib.Omega.{arith}
-use mathlib.Core.Path.{_≡_, refl, sym}
+use mathlib.Core.Path.{refl}
 use Rattle.run.proofs.form.Statement.{statement}
 use Rattle.run.proofs.form.Tie as tie
 

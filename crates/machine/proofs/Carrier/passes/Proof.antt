@@ -1,6 +1,5 @@
 -- The one test or the other. Assumes nothing.
 use borrow.Author.Needs.{needs}
-use mathlib.Core.Path.{_∙_, sym}
 use Rattle.machine.proofs.Carrier.passes.Statement.{statement}
 use Rattle.machine.proofs.Carrier.passes.Tie as tie
 
