@@ -99,7 +99,7 @@ uint64_t knitout_run(const uint8_t *program, size_t length);
    0 writes the program as the swaps made it to the front of the output, and the start of each of its records to the
    front of work; 12 to 14 the same, as the swaps before the refused one made it (KNITOUT_WRITTEN); 1 to 11 write nothing.
    Output past the program's length and work past the last record's start keep their contents.
-   Stack 2,264 bytes; worst time 200 ms. */
+   Stack 2,248 bytes; worst time 200 ms. */
 uint64_t knitout_rewrite(const uint8_t *program, size_t program_length, const uint8_t *log, size_t log_length,
                          uint8_t *output, size_t output_length, uint16_t *work, size_t work_count);
 
@@ -116,13 +116,13 @@ uint64_t knitout_rewrite(const uint8_t *program, size_t program_length, const ui
    looked at, and a length of 0 gives 4. 0: the state is the one after the record, and the answer's length the record's.
    15 (looked at first) and 3 to 11: length 0, and nothing is written, not even the padding. Which of them it will be is
    not known beforehand, so the state's memory must be writable.
-   Stack 3,320 bytes; worst time 45 microseconds. */
+   Stack 2,728 bytes; worst time 45 microseconds. */
 struct knitout_served knitout_step(struct knitout_state *state, const uint8_t *bytes, size_t length);
 
 /* Lists the carriers of a state. 0 writes carriers 1 to 10 to list[0] to list[9] and gives length 10; entries from list[10]
    on keep their contents. 15 (looked at first) and 2 (count under ten) give length 0 and write nothing. The list may not
    be the state's own carriers.
-   Stack 736 bytes; worst time 26 microseconds. */
+   Stack 240 bytes; worst time 26 microseconds. */
 struct knitout_served knitout_carriers(const struct knitout_state *state, struct knitout_carrier *list, size_t count);
 
 /* The layout that the library is built with (x86-64); crates/banthewig/proofs/Crossing.antt proves the same of it. */
