@@ -1,10 +1,17 @@
-/* The kinds of records and of log records, as bytes; numbers and limits are those of banthewig.h. */
+/* The kinds of records, by short names, and of log records; numbers and limits are those of banthewig.h. */
 #ifndef BENCH_KINDS_H
 #define BENCH_KINDS_H
 
 #include "banthewig.h"
 
-enum { RACK = 1, DROP, XFER, IN, OUT, MISS, TUCK, KNIT, SPLIT, KIND_LIMIT };
+enum {
+    RACK = KNITOUT_RACK, DROP = KNITOUT_DROP, XFER = KNITOUT_XFER, IN = KNITOUT_IN, OUT = KNITOUT_OUT,
+    MISS = KNITOUT_MISS, TUCK = KNITOUT_TUCK, KNIT = KNITOUT_KNIT, SPLIT = KNITOUT_SPLIT,
+    PLATED_TUCK = KNITOUT_PLATED_TUCK, PLATED_KNIT = KNITOUT_PLATED_KNIT, KIND_LIMIT
+};
+
+/* The loops that a plated stitch forms. */
+enum { PLATED_LOOPS = 2 };
 
 /* The C library copies by alignment: what is lent is aligned to a line, a state and the stack of a counted call to a
    page, so that counts repeat in any environment. */
@@ -17,7 +24,7 @@ enum { LEFT, RIGHT };
 enum { SWAP = 0x40, SWAP_SIZE = 3 };
 
 /* A record's size, its kind included. */
-static const uint8_t record_size[KIND_LIMIT] = { 0, 2, 3, 4, 5, 5, 5, 5, 5, 6 };
+static const uint8_t record_size[KIND_LIMIT] = { 0, 2, 3, 4, 5, 5, 5, 5, 5, 6, 6, 6 };
 
 /* An answer in one word. */
 static inline uint64_t packed(int number, size_t place) { return (uint64_t)number << 16 | place; }

@@ -6,8 +6,9 @@
 #include <stdlib.h>
 #include <string.h>
 
-/* The mixed program before its last record of a kind. */
+/* A program before its last record of a kind. */
 struct moment {
+    const struct program *program;
     struct knitout_state state;
     size_t place;
 };
@@ -21,18 +22,25 @@ int states_agree(const struct knitout_state *a, const struct knitout_state *b)
         && memcmp(a->carriers, b->carriers, sizeof a->carriers) == 0;
 }
 
-/* Steps through the mixed program and keeps, for each kind, the moment before its last record. */
-static const struct moment *find_moments(const struct program *mixed)
+/* Steps through a program and keeps, for each kind from the first one given, the moment before its last record. */
+static void keep_moments(struct moment *moments, const struct program *p, int first)
 {
-    static struct moment moments[KIND_LIMIT];
     struct knitout_state state = { 0 };
-    if (moments[KNIT].place) return moments;
-    for (size_t at = 0; at < mixed->length;) {
-        moments[mixed->bytes[at]] = (struct moment){ state, at };
-        struct knitout_served served = plain_step(&state, mixed->bytes + at, mixed->length - at);
+    for (size_t at = 0; at < p->length;) {
+        if (p->bytes[at] >= first) moments[p->bytes[at]] = (struct moment){ p, state, at };
+        struct knitout_served served = plain_step(&state, p->bytes + at, p->length - at);
         if (served.number) abort();
         at += served.length;
     }
+}
+
+/* Of the mixed program; of plated stitches, which it has none of, in the one with these. */
+static const struct moment *find_moments(void)
+{
+    static struct moment moments[KIND_LIMIT];
+    if (moments[KNIT].program) return moments;
+    keep_moments(moments, find_program("mixed"), RACK);
+    keep_moments(moments, find_program("plated-mix"), PLATED_TUCK);
     return moments;
 }
 
@@ -40,57 +48,69 @@ static void one_step(const char *name, const struct moment *moment, unsigned num
 {
     step.name = name;
     step.state = moment->state;
+    step.bytes = moment->program->bytes;
+    step.length = moment->program->length;
     step.steps = 1;
     step.places[0] = (uint16_t)moment->place;
     step.number = number;
     step.served = number ? 0 : record_size[step.bytes[moment->place]];
 }
 
-/* A knit with the carrier that the last in brings in, before it does. */
-static void step_not_in(const struct moment *in)
+/* The same record with one byte altered, which is refused. */
+static void altered_step(const char *name, const struct moment *moment, unsigned number, int at, uint8_t value)
 {
-    static uint8_t record[5];
-    one_step("refused-7", in, KNITOUT_NOT_IN);
-    memcpy(record, step.bytes + in->place, sizeof record);
-    record[0] = KNIT;
+    static uint8_t record[KNITOUT_RECORD_MOST];
+    one_step(name, moment, number);
+    step.length = record_size[step.bytes[moment->place]];
+    memcpy(record, step.bytes + moment->place, step.length);
+    record[at] = value;
     step.bytes = record;
-    step.length = sizeof record;
     step.places[0] = 0;
 }
 
 /* Every record of the program, from the empty state. */
-static void step_through(const struct program *mixed)
+static void step_through(const struct program *p)
 {
-    step.name = "mixed";
-    step.steps = mixed->records;
+    step.name = p->name;
+    step.bytes = p->bytes;
+    step.length = p->length;
+    step.steps = p->records;
     size_t at = 0;
-    for (unsigned i = 0; i < mixed->records; i++) {
+    for (unsigned i = 0; i < p->records; i++) {
         step.places[i] = (uint16_t)at;
-        at += record_size[mixed->bytes[at]];
+        at += record_size[p->bytes[at]];
     }
     step.served = at;
 }
 
 static void make_foul(struct knitout_state *state) { state->carriers[KNITOUT_CARRIERS - 1].needle = KNITOUT_NEEDLES; }
 
-const struct step_input *build_step(int i)
+/* The refused steps: a knit with the carrier that the last in brings in, before it does; the last plated knit with its
+   first carrier twice; two foul states. */
+static void build_refused(int i, const struct moment *moments)
 {
-    const struct program *mixed = find_program("mixed");
-    const struct moment *moments = find_moments(mixed);
-    step = (struct step_input){ .bytes = mixed->bytes, .length = mixed->length };
-    if (i < SPLIT) {
-        one_step(kind_name(i + 1), &moments[i + 1], KNITOUT_DONE);
-    } else if (i == SPLIT) {
-        step_through(mixed);
-    } else if (i == SPLIT + 1) {
-        step_not_in(&moments[IN]);
-    } else if (i == SPLIT + 2) {
+    const struct moment *plated = &moments[PLATED_KNIT];
+    if (i == 0) {
+        altered_step("refused-7", &moments[IN], KNITOUT_NOT_IN, 0, KNIT);
+    } else if (i == 1) {
+        altered_step("refused-16", plated, KNITOUT_YARN_TWICE, 5, plated->program->bytes[plated->place + 4]);
+    } else if (i == 2) {
         one_step("refused-15-racking", &moments[KNIT], KNITOUT_BAD_STATE);
         step.state.racking = KNITOUT_RACKING_MOST + 1;
     } else {
         one_step("refused-15-carrier-10", &moments[KNIT], KNITOUT_BAD_STATE);
         make_foul(&step.state);
     }
+}
+
+const struct step_input *build_step(int i)
+{
+    const struct moment *moments = find_moments();
+    step = (struct step_input){ 0 };
+    if (i < PLATED_KNIT) one_step(kind_name(i + 1), &moments[i + 1], KNITOUT_DONE);
+    else if (i == PLATED_KNIT) step_through(find_program("mixed"));
+    else if (i == PLATED_KNIT + 1) step_through(find_program("plated-mix"));
+    else build_refused(i - (PLATED_KNIT + 2), moments);
     return &step;
 }
 
@@ -103,7 +123,7 @@ const struct list_input *build_list(int i)
         { .name = "refused-15-carrier-10", .count = 10, .number = KNITOUT_BAD_STATE },
     };
     list = lists[i];
-    list.state = find_moments(find_program("mixed"))[KNIT].state;
+    list.state = find_moments()[KNIT].state;
     if (list.number == KNITOUT_BAD_STATE) make_foul(&list.state);
     return &list;
 }

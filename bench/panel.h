@@ -4,12 +4,12 @@
 
 #include "programs.h"
 
-enum { STEP_INPUTS = 13, LIST_INPUTS = 4 };
+enum { STEP_INPUTS = 17, LIST_INPUTS = 4 };
 
 /* A program of 32,768 bytes has no more records. */
 enum { PLACES_LIMIT = KNITOUT_PROGRAM_MOST / 2 };
 
-/* Steps of the mixed program or of one record from a state. */
+/* Steps of a mixed program or of one record from a state. */
 struct step_input {
     const char *name;
     struct knitout_state state;

@@ -6,7 +6,7 @@
 #include <stdio.h>
 #include <string.h>
 
-enum { GENERATED = 24, GENERATED_LENGTH = 2048, ALTERED = 4, ENTRIES = 12, PAINT = 0x5a };
+enum { GENERATED = 24, GENERATED_LENGTH = 2048, ALTERED = 4, PLATED = 6, ENTRIES = 12, PAINT = 0x5a };
 
 /* Where the padding byte of a state is. */
 enum { PADDING = offsetof(struct knitout_state, loops) + KNITOUT_HOOKS };
@@ -17,7 +17,7 @@ static const uint16_t word_values[] = { 0, 1, 2, 249, 250, 256, 257, 258, 259, 5
 enum { BYTES = sizeof byte_values, WORDS = sizeof word_values / sizeof word_values[0] };
 
 /* How often each number was given. */
-static unsigned seen[KNITOUT_BAD_STATE + 1];
+static unsigned seen[KNITOUT_YARN_TWICE + 1];
 
 static int differ(const char *what, struct knitout_served library, struct knitout_served plain)
 {
@@ -62,7 +62,14 @@ static int all_counts_differ(const struct knitout_state *state)
     return 0;
 }
 
-/* The record's hook with other loops and its carrier attached elsewhere: full hooks, long floats. */
+/* Another needle for a carrier's attachment. */
+static void move_attachment(struct knitout_state *state, int k, uint32_t *seed)
+{
+    struct knitout_carrier *c = &state->carriers[k - 1];
+    if (c->side != KNITOUT_UNATTACHED) c->needle = (uint16_t)choose_below(seed, KNITOUT_NEEDLES);
+}
+
+/* The record's hook with other loops and its carriers attached elsewhere: full hooks, long floats. */
 static int stray_differs(const struct knitout_state *state, const uint8_t *bytes, size_t size, uint32_t *seed)
 {
     struct knitout_state stray = *state, after;
@@ -70,9 +77,29 @@ static int stray_differs(const struct knitout_state *state, const uint8_t *bytes
     if (bytes[0] != RACK) stray.loops[KNITOUT_HOOK(at[0], at[1])] = (uint8_t)choose_below(seed, KNITOUT_LOOPS_MOST + 1);
     if (step_differs(&stray, bytes, size, &after)) return 1;
     if (bytes[0] < IN) return 0;
-    struct knitout_carrier *c = &stray.carriers[bytes[4] - 1];
-    if (c->side != KNITOUT_UNATTACHED) c->needle = (uint16_t)choose_below(seed, KNITOUT_NEEDLES);
+    move_attachment(&stray, bytes[4], seed);
+    if (step_differs(&stray, bytes, size, &after)) return 1;
+    if (bytes[0] < PLATED_TUCK) return 0;
+    move_attachment(&stray, bytes[5], seed);
     return step_differs(&stray, bytes, size, &after);
+}
+
+/* Plated stitches where a carrier waits, with any two carriers, in range or not: one yarn twice, and 7, 8 and 9 by
+   either. */
+static int plated_differ(const struct knitout_state *state, uint32_t *seed)
+{
+    for (int i = 0; i < PLATED; i++) {
+        unsigned first = choose_below(seed, KNITOUT_CARRIERS + 2), second = choose_below(seed, KNITOUT_CARRIERS + 2);
+        int right = (int)choose_below(seed, 2), back = (int)choose_below(seed, 2);
+        int column = state->carriers[choose_below(seed, KNITOUT_CARRIERS)].slot - !right;
+        int needle = back ? column - state->racking : column;
+        if (needle < 0) continue;
+        uint8_t record[] = { (uint8_t)(PLATED_TUCK + choose_below(seed, 2)), (uint8_t)right, (uint8_t)back,
+                             (uint8_t)needle, (uint8_t)first, (uint8_t)second };
+        struct knitout_state after;
+        if (step_differs(state, record, sizeof record, &after)) return 1;
+    }
+    return 0;
 }
 
 /* Records like the next one, with one byte altered and now and then cut short. */
@@ -97,7 +124,7 @@ static int program_differs(const struct program *p, uint32_t seed, struct knitou
     for (size_t at = 0; at < p->length;) {
         size_t size = record_size[p->bytes[at]];
         if (altered_differ(state, p->bytes + at, size, &seed)) return 1;
-        if (stray_differs(state, p->bytes + at, size, &seed)) return 1;
+        if (stray_differs(state, p->bytes + at, size, &seed) || plated_differ(state, &seed)) return 1;
         if (step_differs(state, p->bytes + at, p->length - at, state)) return 1;
         at += size;
     }
@@ -161,7 +188,8 @@ int generated_steps_differ(void)
         struct knitout_state state;
         if (generate(seed, &state)) return 1;
     }
-    return not_seen("step", KNITOUT_DONE, KNITOUT_DONE) || not_seen("step", KNITOUT_UNKNOWN_KIND, KNITOUT_HOOK_FULL);
+    return not_seen("step", KNITOUT_DONE, KNITOUT_DONE) || not_seen("step", KNITOUT_UNKNOWN_KIND, KNITOUT_HOOK_FULL)
+        || not_seen("step", KNITOUT_YARN_TWICE, KNITOUT_YARN_TWICE);
 }
 
 int generated_lists_differ(void)

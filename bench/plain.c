@@ -123,23 +123,27 @@ static inline int miss(struct state *s, const uint8_t *p)
     return KNITOUT_DONE;
 }
 
-/* What tuck, knit and split ask of the carrier: parked at the entry, no long float. */
-static inline int reaches(const struct state *s, const struct stitch *t)
+/* Is the float to the column too long? */
+static inline int floats(const struct state *s, const struct carrier *c, int column)
 {
-    int number = parked(t->carrier, entry_slot(t));
-    if (number) return number;
-    int hook = t->carrier->hook;
-    if (hook == UNATTACHED) return KNITOUT_DONE;
-    int distance = column_of(s, hook) - t->column;
+    if (c->hook == UNATTACHED) return KNITOUT_DONE;
+    int distance = column_of(s, c->hook) - column;
     if (distance < -KNITOUT_FLOAT_MOST || distance > KNITOUT_FLOAT_MOST) return KNITOUT_FLOAT_TOO_LONG;
     return KNITOUT_DONE;
 }
 
-static inline void attach(const struct stitch *t)
+/* What a stitch that forms a loop asks of the carrier: parked at the entry, no long float. */
+static inline int reaches(const struct state *s, const struct stitch *t)
 {
-    t->carrier->slot = exit_slot(t);
-    t->carrier->hook = (int16_t)t->hook;
-    t->carrier->side = (uint8_t)t->right;
+    int number = parked(t->carrier, entry_slot(t));
+    return number ? number : floats(s, t->carrier, t->column);
+}
+
+static inline void attach(const struct stitch *t, struct carrier *c)
+{
+    c->slot = exit_slot(t);
+    c->hook = (int16_t)t->hook;
+    c->side = (uint8_t)t->right;
 }
 
 static inline int tuck(struct state *s, const uint8_t *p)
@@ -151,7 +155,7 @@ static inline int tuck(struct state *s, const uint8_t *p)
     if (number) return number;
     if (s->loops[t.hook] >= KNITOUT_LOOPS_MOST) return KNITOUT_HOOK_FULL;
     s->loops[t.hook]++;
-    attach(&t);
+    attach(&t, t.carrier);
     return KNITOUT_DONE;
 }
 
@@ -163,7 +167,7 @@ static inline int knit(struct state *s, const uint8_t *p)
     number = reaches(s, &t);
     if (number) return number;
     s->loops[t.hook] = 1;
-    attach(&t);
+    attach(&t, t.carrier);
     return KNITOUT_DONE;
 }
 
@@ -180,8 +184,61 @@ static inline int split(struct state *s, const uint8_t *p)
     number = move(s, t.hook, other << 8 | p[5]);
     if (number) return number;
     s->loops[t.hook] = 1;
-    attach(&t);
+    attach(&t, t.carrier);
     return KNITOUT_DONE;
+}
+
+/* Reads a plated stitch. */
+static inline int read_plated(struct state *s, const uint8_t *p, struct stitch *t, struct carrier **second)
+{
+    int number = read_stitch(s, p, t);
+    if (number) return number;
+    unsigned carrier = p[5] - 1u;
+    if (carrier >= KNITOUT_CARRIERS) return KNITOUT_FIELD_RANGE;
+    if (p[4] == p[5]) return KNITOUT_YARN_TWICE;
+    *second = &s->carriers[carrier];
+    return KNITOUT_DONE;
+}
+
+/* What a plated stitch asks of its carriers: the smallest number that either gives. */
+static inline int both_reach(const struct state *s, const struct stitch *t, const struct carrier *second)
+{
+    int slot = entry_slot(t), first_slot = t->carrier->slot, second_slot = second->slot;
+    if (first_slot != slot || second_slot != slot)
+        return first_slot == INACTIVE || second_slot == INACTIVE ? KNITOUT_NOT_IN : KNITOUT_WRONG_SLOT;
+    int number = floats(s, t->carrier, t->column);
+    return number ? number : floats(s, second, t->column);
+}
+
+/* The hook holds so many loops, both carriers are attached to it. */
+static inline int attach_both(struct state *s, const struct stitch *t, struct carrier *second, int loops)
+{
+    s->loops[t->hook] = (uint8_t)loops;
+    attach(t, t->carrier);
+    attach(t, second);
+    return KNITOUT_DONE;
+}
+
+static inline int plated_tuck(struct state *s, const uint8_t *p)
+{
+    struct stitch t;
+    struct carrier *second;
+    int number = read_plated(s, p, &t, &second);
+    if (number) return number;
+    number = both_reach(s, &t, second);
+    if (number) return number;
+    if (s->loops[t.hook] > KNITOUT_LOOPS_MOST - PLATED_LOOPS) return KNITOUT_HOOK_FULL;
+    return attach_both(s, &t, second, s->loops[t.hook] + PLATED_LOOPS);
+}
+
+static inline int plated_knit(struct state *s, const uint8_t *p)
+{
+    struct stitch t;
+    struct carrier *second;
+    int number = read_plated(s, p, &t, &second);
+    if (number) return number;
+    number = both_reach(s, &t, second);
+    return number ? number : attach_both(s, &t, second, PLATED_LOOPS);
 }
 
 /* One record; its size goes to *size if its bytes are there. */
@@ -198,6 +255,8 @@ static inline int step(struct state *s, const uint8_t *p, ptrdiff_t left, int *s
     case TUCK: NEED(5); return tuck(s, p);
     case KNIT: NEED(5); return knit(s, p);
     case SPLIT: NEED(6); return split(s, p);
+    case PLATED_TUCK: NEED(6); return plated_tuck(s, p);
+    case PLATED_KNIT: NEED(6); return plated_knit(s, p);
     default: return KNITOUT_UNKNOWN_KIND;
     }
 #undef NEED

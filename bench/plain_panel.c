@@ -140,7 +140,7 @@ static inline int miss(const struct stitch *t)
     return number;
 }
 
-/* What tuck, knit and split ask of the carrier: parked at the entry, no long float. */
+/* What a stitch that forms a loop asks of the carrier: parked at the entry, no long float. */
 static inline int reaches(const struct knitout_state *s, const struct stitch *t)
 {
     const struct knitout_carrier *c = t->carrier;
@@ -186,6 +186,29 @@ static inline int split(struct knitout_state *s, const struct stitch *t, int oth
     return number ? number : attach(s, t, 1);
 }
 
+/* What a plated stitch asks of its carriers: of two numbers the smaller. */
+static inline int both_reach(const struct knitout_state *s, const struct stitch *t, const struct stitch *second)
+{
+    int number = reaches(s, t), other = reaches(s, second);
+    if (number && other) return number < other ? number : other;
+    return number | other;
+}
+
+/* A plated tuck or knit, by the loops that the hook keeps. */
+static inline int plated(struct knitout_state *s, const struct stitch *t, const uint8_t *p, int kept)
+{
+    unsigned carrier = p[5] - 1u;
+    if (carrier >= KNITOUT_CARRIERS) return KNITOUT_FIELD_RANGE;
+    if (p[4] == p[5]) return KNITOUT_YARN_TWICE;
+    struct stitch second = *t;
+    second.carrier = &s->carriers[carrier];
+    int number = both_reach(s, t, &second);
+    if (number) return number;
+    if (kept > KNITOUT_LOOPS_MOST - PLATED_LOOPS) return KNITOUT_HOOK_FULL;
+    attach(s, t, kept + PLATED_LOOPS);
+    return attach(s, &second, kept + PLATED_LOOPS);
+}
+
 /* One record of a known kind, whose bytes are there. */
 static inline int step(struct knitout_state *s, const uint8_t *p)
 {
@@ -201,7 +224,9 @@ static inline int step(struct knitout_state *s, const uint8_t *p)
     case MISS: return miss(&t);
     case TUCK: return tuck(s, &t);
     case KNIT: return knit(s, &t);
-    default: return split(s, &t, p[5]);
+    case SPLIT: return split(s, &t, p[5]);
+    case PLATED_TUCK: return plated(s, &t, p, s->loops[KNITOUT_HOOK(t.bed, t.needle)]);
+    default: return plated(s, &t, p, 0);
     }
 }
 
@@ -214,7 +239,7 @@ struct knitout_served plain_step(struct knitout_state *state, const uint8_t *byt
 {
     if (!in_range(state)) return served(KNITOUT_BAD_STATE, 0);
     if (length == 0) return served(KNITOUT_CUT_SHORT, 0);
-    if (bytes[0] < RACK || bytes[0] > SPLIT) return served(KNITOUT_UNKNOWN_KIND, 0);
+    if (bytes[0] < RACK || bytes[0] >= KIND_LIMIT) return served(KNITOUT_UNKNOWN_KIND, 0);
     size_t size = record_size[bytes[0]];
     if (length < size) return served(KNITOUT_CUT_SHORT, 0);
     return served(step(state, bytes), size);

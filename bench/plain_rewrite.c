@@ -20,7 +20,7 @@ struct copy {
     int8_t marks[MARKS];
 };
 
-/* Of kinds 4 to 9: these cover half a column to each side, too. */
+/* Of kinds 4 to 11: these cover half a column to each side, too. */
 static inline int has_carrier(const uint8_t *p) { return p[0] >= IN; }
 
 /* Bed and needle come first in drop and xfer, after the direction in the others. */
@@ -30,12 +30,18 @@ static inline int column_of(const uint8_t *p, int racking)
     return at[0] ? at[1] + racking : at[1];
 }
 
+static inline int is_plated(const uint8_t *p) { return p[0] >= PLATED_TUCK; }
+
+static inline int lesser(int a, int b) { return a < b ? a : b; }
+static inline int greater(int a, int b) { return a > b ? a : b; }
+
 static inline int lowest_layer(const uint8_t *p)
 {
     switch (p[0]) {
     case DROP: return p[1] ? BACK_LAYER : FRONT_LAYER;
     case IN: case OUT: case MISS: return p[4];
     case TUCK: case KNIT: return p[2] ? p[4] : FRONT_LAYER;
+    case PLATED_TUCK: case PLATED_KNIT: return p[2] ? lesser(p[4], p[5]) : FRONT_LAYER;
     default: return FRONT_LAYER;
     }
 }
@@ -46,6 +52,7 @@ static inline int highest_layer(const uint8_t *p)
     case DROP: return p[1] ? BACK_LAYER : FRONT_LAYER;
     case IN: case OUT: case MISS: return p[4];
     case TUCK: case KNIT: return p[2] ? BACK_LAYER : p[4];
+    case PLATED_TUCK: case PLATED_KNIT: return p[2] ? BACK_LAYER : greater(p[4], p[5]);
     default: return BACK_LAYER;
     }
 }
@@ -65,7 +72,10 @@ static inline int share_layer(const uint8_t *x, const uint8_t *y)
 
 static inline int share_carrier(const uint8_t *x, const uint8_t *y)
 {
-    return has_carrier(x) && has_carrier(y) && x[4] == y[4];
+    if (!has_carrier(x) || !has_carrier(y)) return 0;
+    if (x[4] == y[4]) return 1;
+    if (is_plated(x) && (x[5] == y[4] || (is_plated(y) && x[5] == y[5]))) return 1;
+    return is_plated(y) && x[4] == y[5];
 }
 
 /* The racking in force at record i: no more than 63 records are looked at. */

@@ -25,7 +25,7 @@ struct builder {
 };
 
 static const char *const names[KIND_LIMIT] = {
-    "", "rack", "drop", "xfer", "in", "out", "miss", "tuck", "knit", "split"
+    "", "rack", "drop", "xfer", "in", "out", "miss", "tuck", "knit", "split", "plated-tuck", "plated-knit"
 };
 
 const char *kind_name(int kind) { return names[kind]; }
@@ -100,7 +100,7 @@ static void xfer(struct builder *b, int bed, int needle)
     move(b, bed, needle, other);
 }
 
-/* A record of kind 4 to 9 with its carrier. */
+/* A record of kind 4 to 9 with its one carrier. */
 static void stitch(struct builder *b, int kind, int direction, int bed, int needle, int k)
 {
     struct carrier *c = &b->carriers[k];
@@ -114,6 +114,16 @@ static void stitch(struct builder *b, int kind, int direction, int bed, int need
     else if (kind == OUT) *c = (struct carrier){ 0 };
     else if (kind == MISS) c->slot = column + direction;
     else *c = (struct carrier){ 1, column + direction, 1, bed, needle };
+}
+
+/* A plated tuck or knit with its two carriers. */
+static void plated(struct builder *b, int kind, int direction, int bed, int needle, int k, int second)
+{
+    struct carrier after = { 1, column_of(b, bed, needle) + direction, 1, bed, needle };
+    append(b, (uint8_t[]){ (uint8_t)kind, (uint8_t)direction, (uint8_t)bed, (uint8_t)needle,
+                           (uint8_t)k, (uint8_t)second });
+    b->loops[bed][needle] = PLATED_LOOPS + (kind == PLATED_TUCK ? b->loops[bed][needle] : 0);
+    b->carriers[k] = b->carriers[second] = after;
 }
 
 /* All rack, through the 17 rackings. */
@@ -183,6 +193,22 @@ static void build_sweep(struct builder *b, int kind)
     }
 }
 
+/* The same with plated stitches: five pairs of carriers go over 50 columns each, the greater carrier first on the back
+   bed. A plated tuck needs one drop for every four of them. */
+static void build_plated_sweep(struct builder *b, int kind)
+{
+    enum { PAIRS = KNITOUT_CARRIERS / 2 };
+    for (int k = 1; k <= KNITOUT_CARRIERS; k++)
+        stitch(b, IN, RIGHT, KNITOUT_FRONT, 2 * WIDTH * ((k - 1) / 2), k);
+    for (int i = 0; room(b) >= 3 + 6; i++) {
+        int step = i % (2 * WIDTH), pair = i / (2 * WIDTH) % PAIRS, pass = i / KNITOUT_NEEDLES;
+        int direction = pass % 2 == 0 ? RIGHT : LEFT, bed = pass / 8 % 2;
+        int needle = 2 * WIDTH * pair + (direction == RIGHT ? step : 2 * WIDTH - 1 - step);
+        if (kind == PLATED_TUCK && b->loops[bed][needle] > KNITOUT_LOOPS_MOST - PLATED_LOOPS) drop(b, bed, needle);
+        plated(b, kind, direction, bed, needle, 2 * pair + 1 + bed, 2 * pair + 2 - bed);
+    }
+}
+
 unsigned choose_below(uint32_t *seed, unsigned n)
 {
     *seed = *seed * 1664525u + 1013904223u;
@@ -247,24 +273,77 @@ static void mixed_stitch(struct builder *b, int kind)
     stitch(b, kind, direction, bed, needle, k);
 }
 
-/* All kinds, ten carriers, every racking; exactly up to the limit. */
-static void build_mixed(struct builder *b)
+/* A record of one carrier or none. */
+static void mixed_record(struct builder *b)
 {
-    while (room(b) >= 6 + 2) {
-        int part = choose(b, 100);
-        if (part < 4) rack(b, choose(b, 17) - 8);
-        else if (part < 9) mixed_hook(b, DROP);
-        else if (part < 19) mixed_hook(b, XFER);
-        else if (part < 22) mixed_stitch(b, OUT);
-        else if (part < 35) mixed_stitch(b, MISS);
-        else if (part < 50) mixed_stitch(b, TUCK);
-        else if (part < 55) mixed_stitch(b, SPLIT);
-        else mixed_stitch(b, KNIT);
-    }
+    int part = choose(b, 100);
+    if (part < 4) rack(b, choose(b, 17) - 8);
+    else if (part < 9) mixed_hook(b, DROP);
+    else if (part < 19) mixed_hook(b, XFER);
+    else if (part < 22) mixed_stitch(b, OUT);
+    else if (part < 35) mixed_stitch(b, MISS);
+    else if (part < 50) mixed_stitch(b, TUCK);
+    else if (part < 55) mixed_stitch(b, SPLIT);
+    else mixed_stitch(b, KNIT);
+}
+
+/* Exactly up to the limit. */
+static void fill(struct builder *b)
+{
     while (room(b) > 3) rack(b, choose(b, 17) - 8);
     if (room(b) == 3) drop(b, KNITOUT_FRONT, 0);
     else rack(b, 0);
     if (room(b) != 0) abort();
+}
+
+/* All kinds but the plated ones, ten carriers, every racking. */
+static void build_mixed(struct builder *b)
+{
+    while (room(b) >= 6 + 2) mixed_record(b);
+    fill(b);
+}
+
+/* Would a carrier have a long float at the column? */
+static int is_far(const struct builder *b, int k, int column)
+{
+    const struct carrier *c = &b->carriers[k];
+    return c->attached && abs(column_of(b, c->bed, c->needle) - column) > KNITOUT_FLOAT_MOST;
+}
+
+/* Brings a carrier to the entry of a needle: it goes out where it is, at the front bed, and comes in here. */
+static void fetch(struct builder *b, int direction, int bed, int needle, int k)
+{
+    const struct carrier *c = &b->carriers[k];
+    if (c->active && c->slot == column_of(b, bed, needle) + !direction) return;
+    if (c->active) stitch(b, OUT, RIGHT, KNITOUT_FRONT, c->slot - 1, k);
+    stitch(b, IN, direction, bed, needle, k);
+}
+
+/* A plated stitch where its first carrier is, to which the second is brought. A knit in place of a tuck onto a hook
+   that is too full; only misses where a float would be long. */
+static void mixed_plated(struct builder *b, int kind)
+{
+    int k = 1 + choose(b, KNITOUT_CARRIERS), second = 1 + (k + choose(b, KNITOUT_CARRIERS - 1)) % KNITOUT_CARRIERS;
+    int direction = choose(b, 2), bed = choose(b, 2), column = b->carriers[k].slot - !direction;
+    if (column < 10 || column >= 240) column = choose_column(b);
+    int needle = needle_at(b, bed, column);
+    fetch(b, direction, bed, needle, k);
+    fetch(b, direction, bed, needle, second);
+    if (b->loops[bed][needle] > KNITOUT_LOOPS_MOST - PLATED_LOOPS) kind = PLATED_KNIT;
+    if (is_far(b, k, column) || is_far(b, second, column)) stitch(b, MISS, direction, bed, needle, k);
+    else plated(b, kind, direction, bed, needle, k, second);
+}
+
+/* The mixed program with plated stitches in it; one may need four records to bring its carriers. */
+static void build_plated_mix(struct builder *b)
+{
+    while (room(b) >= 4 * 5 + 6 + 2) {
+        int part = choose(b, 100);
+        if (part < 10) mixed_plated(b, PLATED_TUCK);
+        else if (part < 25) mixed_plated(b, PLATED_KNIT);
+        else mixed_record(b);
+    }
+    fill(b);
 }
 
 /* A knit with an inactive carrier, then the mixed program: not in, at 0. */
@@ -292,6 +371,8 @@ static void build_miss(struct builder *b) { build_sweep(b, MISS); }
 static void build_tuck(struct builder *b) { build_sweep(b, TUCK); }
 static void build_knit(struct builder *b) { build_sweep(b, KNIT); }
 static void build_split(struct builder *b) { build_sweep(b, SPLIT); }
+static void build_plated_tuck(struct builder *b) { build_plated_sweep(b, PLATED_TUCK); }
+static void build_plated_knit(struct builder *b) { build_plated_sweep(b, PLATED_KNIT); }
 
 static const struct {
     const char *name;
@@ -307,11 +388,14 @@ static const struct {
     { "tuck", KIND_LENGTH, build_tuck },
     { "knit", KIND_LENGTH, build_knit },
     { "split", KIND_LENGTH, build_split },
+    { "plated-tuck", KIND_LENGTH, build_plated_tuck },
+    { "plated-knit", KIND_LENGTH, build_plated_knit },
     { "mixed-2048", 2048, build_mixed },
     { "mixed-4096", 4096, build_mixed },
     { "mixed-8192", 8192, build_mixed },
     { "mixed-16384", 16384, build_mixed },
     { "mixed", KNITOUT_PROGRAM_MOST, build_mixed },
+    { "plated-mix", KNITOUT_PROGRAM_MOST, build_plated_mix },
     { "refused-first", KNITOUT_PROGRAM_MOST, build_refused_first },
     { "refused-last", KNITOUT_PROGRAM_MOST, build_refused_last },
 };
@@ -319,7 +403,7 @@ static const struct {
 void build_generated(struct program *program, size_t length, uint32_t seed)
 {
     struct builder b = begin(program, "generated", length, seed);
-    build_mixed(&b);
+    build_plated_mix(&b);
 }
 
 const struct program *build_program(int i)

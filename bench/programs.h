@@ -4,7 +4,7 @@
 
 #include "kinds.h"
 
-enum { PROGRAMS = 16 };
+enum { PROGRAMS = 19 };
 
 struct program {
     const char *name;
@@ -19,13 +19,13 @@ struct program {
 const struct program *build_program(int i);
 const struct program *find_program(const char *name);
 
-/* A valid program of all kinds, of exactly this length, which is 8 or more. */
+/* A valid program of all kinds, of exactly this length, which is 2 or more. */
 void build_generated(struct program *program, size_t length, uint32_t seed);
 
 /* A number below n, the same sequence from one seed. */
 unsigned choose_below(uint32_t *seed, unsigned n);
 
-/* The name of a kind 1 to 9. */
+/* The name of a kind 1 to 11. */
 const char *kind_name(int kind);
 
 #endif

@@ -128,7 +128,7 @@ static int torn_differs(void)
     return log_differs(in->log, SWAP_SIZE + 1) || log_differs(in->log, SWAP_SIZE - 1) || log_differs(torn, sizeof torn);
 }
 
-/* Each case's first swap alone, since a swap made twice does not show; every swap of the mixed program; torn logs. */
+/* Each case's first swap alone, since a swap made twice does not show; every swap of the mixed programs; torn logs. */
 static int checks(void)
 {
     for (int i = 0; i < inputs(); i++) {

@@ -5,11 +5,12 @@
 
 #include <inttypes.h>
 #include <stdio.h>
+#include <string.h>
 
 typedef uint64_t (*run_function)(const uint8_t *program, size_t length);
 
-/* Altered programs; a bit for each number that a run of one may give: 0 and 3 to 11. */
-enum { ALTERED = 1000, NUMBERS = 0xff9 };
+/* Altered programs; a bit for each number that a run of one may give: 0, 3 to 11 and 16. */
+enum { ALTERED = 1000, NUMBERS = 0x10ff9 };
 
 static const struct program *program;
 static unsigned seen;
@@ -109,6 +110,73 @@ static int floats_differ(size_t tuck)
     return tucks_differ(misses.bytes, 4000);
 }
 
+/* A plated tuck in place of each plated knit: full hooks. */
+static int plated_tucks_differ(uint8_t *bytes, size_t length)
+{
+    for (size_t at = 0; at < length; at += record_size[bytes[at]])
+        if (bytes[at] == PLATED_KNIT && altered_differs(bytes, length, at, PLATED_TUCK)) return 1;
+    return 0;
+}
+
+/* Every carrier, and 0 and 11, in place of both carriers of a plated stitch. */
+static int carriers_differ(uint8_t *bytes, size_t length, size_t at)
+{
+    uint8_t first = bytes[at + 4];
+    int differ = 0;
+    for (uint8_t k = 0; k <= KNITOUT_CARRIERS + 1; k++)
+        for (uint8_t second = 0; second <= KNITOUT_CARRIERS + 1; second++) {
+            bytes[at + 4] = k;
+            differ |= altered_differs(bytes, length, at + 5, second);
+        }
+    bytes[at + 4] = first;
+    return differ;
+}
+
+/* The same at each plated stitch: one yarn twice, carriers not in or elsewhere. */
+static int pairs_differ(uint8_t *bytes, size_t length)
+{
+    for (size_t at = 0; at < length; at += record_size[bytes[at]])
+        if (bytes[at] >= PLATED_TUCK && carriers_differ(bytes, length, at)) return 1;
+    return 0;
+}
+
+/* Two in at f.0, one tucks there, both go right to a column, where a plated stitch follows; there the first, the second
+   or neither comes late by a miss. */
+static int plated_float_differs(uint8_t kind, uint8_t tucks, uint8_t column, uint8_t late)
+{
+    uint8_t bytes[512];
+    size_t length = 0;
+    for (uint8_t z = 0; z <= column; z++)
+        for (uint8_t k = 1; k <= 2; k++) {
+            uint8_t in[] = { IN, RIGHT, KNITOUT_FRONT, 0, k };
+            uint8_t past[] = { z == 1 && k == tucks ? TUCK : MISS, RIGHT, KNITOUT_FRONT, (uint8_t)(z - 1), k };
+            if (z > 0 && z == column && k == late) continue;
+            memcpy(bytes + length, z == 0 ? in : past, sizeof in);
+            length += sizeof in;
+        }
+    memcpy(bytes + length, (uint8_t[]){ kind, RIGHT, KNITOUT_FRONT, column, 1, 2 }, record_size[kind]);
+    return versions_differ(bytes, length + record_size[kind]);
+}
+
+static int plated_floats_differ(void)
+{
+    for (uint8_t column = 0; column <= KNITOUT_FLOAT_MOST + 2; column++)
+        for (uint8_t i = 0; i < 9; i++)
+            if (plated_float_differs(PLATED_TUCK, i / 3, column, i % 3)
+                || plated_float_differs(PLATED_KNIT, i / 3, column, i % 3)) return 1;
+    return 0;
+}
+
+/* Both versions on altered plated stitches. */
+static int plated_differs(void)
+{
+    static struct program generated, mix;
+    build_generated(&generated, 4096, 1);
+    mix = *find_program("plated-mix");
+    return fronts_differ(&generated) || pairs_differ(generated.bytes, generated.length) || plated_floats_differ()
+        || bytes_differ(mix.bytes, mix.length) || plated_tucks_differ(mix.bytes, mix.length);
+}
+
 /* Altered programs; every number of the run must come up. */
 static int checks(void)
 {
@@ -116,6 +184,7 @@ static int checks(void)
     mixed = *find_program("mixed");
     if (fronts_differ(find_program("mixed-4096")) || floats_differ(0) || floats_differ(24)) return 1;
     if (bytes_differ(mixed.bytes, mixed.length) || tucks_differ(mixed.bytes, mixed.length)) return 1;
+    if (plated_differs()) return 1;
     if (seen == NUMBERS) return 0;
     fprintf(stderr, "bench: altered programs came to the numbers %x only\n", seen);
     return 1;

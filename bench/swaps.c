@@ -7,7 +7,7 @@
 #include <stdlib.h>
 #include <string.h>
 
-enum { WIDTH = 25, CASES_LIMIT = 160 };
+enum { WIDTH = 25, CASES_LIMIT = 256 };
 
 /* The racking of every 64th record is kept, so that a swap's walk is (position modulo 64) records long. */
 enum { STRIDE = 64 };
@@ -34,12 +34,13 @@ static void add_empty(struct swap_case c)
     add(c);
 }
 
-/* Near the front, in the middle and near the end, with one position modulo 64; short programs have fewer of them. */
-static void add_positions(struct swap_case c, unsigned modulo)
+/* Near the front (in the first stride given), in the middle and near the end, with one position modulo 64; short programs
+   have fewer of them. */
+static void add_positions(struct swap_case c, unsigned first, unsigned modulo)
 {
     unsigned last = (c.records - 2 - modulo) / STRIDE, before = c.records;
     for (unsigned half = 0; half <= 2; half++) {
-        c.position = last * half / 2 * STRIDE + modulo;
+        c.position = (first + (last - first) * half / 2) * STRIDE + modulo;
         if (c.position == before) continue;
         before = c.position;
         add_empty(c);
@@ -47,11 +48,16 @@ static void add_positions(struct swap_case c, unsigned modulo)
     }
 }
 
-static void add_swaps(const char *program, unsigned records, unsigned swaps, unsigned number)
+static void add_swaps_from(unsigned first, const char *program, unsigned records, unsigned swaps, unsigned number)
 {
     static const unsigned modulos[] = { 0, 32, 63 };
     struct swap_case c = { "swap", program, records, AT, 0, swaps, number };
-    for (int i = 0; i < 3; i++) add_positions(c, modulos[i]);
+    for (int i = 0; i < 3; i++) add_positions(c, first, modulos[i]);
+}
+
+static void add_swaps(const char *program, unsigned records, unsigned swaps, unsigned number)
+{
+    add_swaps_from(0, program, records, swaps, number);
 }
 
 static void add_one_place(void)
@@ -59,6 +65,9 @@ static void add_one_place(void)
     add_swaps("knit", 100, MANY, KNITOUT_DONE);
     add_swaps("knit", 1000, MANY, KNITOUT_DONE);
     add_swaps("knit", 6500, MANY, KNITOUT_DONE);
+    add_swaps_from(1, "plated-knit", 200, MANY, KNITOUT_DONE);
+    add_swaps_from(1, "plated-knit", 1000, MANY, KNITOUT_DONE);
+    add_swaps_from(1, "plated-knit", 5400, MANY, KNITOUT_DONE);
     add_swaps("two-drops", 100, MANY, KNITOUT_DONE);
     add_swaps("two-drops", 1000, MANY, KNITOUT_DONE);
     add_swaps("two-drops", 16383, MANY, KNITOUT_DONE);
@@ -76,6 +85,7 @@ static void add_full_logs(void)
 {
     unsigned mixed = find_program("mixed")->records;
     add_with_empty("swap", "mixed", mixed, FOUND, FEW);
+    add_with_empty("swap", "plated-mix", find_program("plated-mix")->records, FOUND, FEW);
     add_with_empty("full", "knit", 6500, SPREAD, FULL);
     add_with_empty("full", "mixed", mixed, FORTH_AND_BACK, FULL);
     add_with_empty("full", "knit", 6500, ENDS, FULL);
@@ -127,6 +137,21 @@ static void build_knit(unsigned records)
         }
         unsigned needle = WIDTH * k + (left ? WIDTH - 1 - step : step);
         append((uint8_t[]){ (uint8_t)kind, !left, k % 2 == 0, (uint8_t)needle, (uint8_t)(k + 1) });
+    }
+}
+
+/* Six-byte records but for ten in: five pairs of carriers in turn, right and left over their own 50 columns, on the front
+   and the back bed by turns. Neighbours are 49 columns apart or more. */
+static void build_plated_knit(unsigned records)
+{
+    enum { PAIRS = KNITOUT_CARRIERS / 2 };
+    for (unsigned k = 0; k < KNITOUT_CARRIERS; k++)
+        append((uint8_t[]){ IN, RIGHT, KNITOUT_FRONT, (uint8_t)(2 * WIDTH * (k % PAIRS)), (uint8_t)(k + 1) });
+    for (unsigned i = 0; i < records - KNITOUT_CARRIERS; i++) {
+        unsigned pair = i % PAIRS, round = i / PAIRS, left = round / (2 * WIDTH) % 2, step = round % (2 * WIDTH);
+        unsigned needle = 2 * WIDTH * pair + (left ? 2 * WIDTH - 1 - step : step);
+        append((uint8_t[]){ PLATED_KNIT, !left, pair % 2 == 0, (uint8_t)needle, (uint8_t)(pair + 1),
+                            (uint8_t)(pair + 1 + PAIRS) });
     }
 }
 
@@ -212,6 +237,7 @@ static void build_positions(const struct swap_case *c)
 static void build_program_of(const struct swap_case *c)
 {
     if (strcmp(c->program, "knit") == 0) build_knit(c->records);
+    else if (strcmp(c->program, "plated-knit") == 0) build_plated_knit(c->records);
     else if (strcmp(c->program, "rack") == 0) build_racks(c->records, c->records);
     else if (strcmp(c->program, "two-drops") == 0) build_racks(c->records, c->position);
     else build_listed(find_program(c->program));

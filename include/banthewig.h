@@ -19,25 +19,41 @@
 extern "C" {
 #endif
 
-/* Numbers of an answer. */
+/* Numbers of an answer. A record is looked at for 3, 4, 5, 16 and 6 to 11, in this order. */
 enum knitout_number {
     KNITOUT_DONE = 0,
     KNITOUT_TOO_LONG = 1,        /* program or log over its limit */
     KNITOUT_NO_ROOM = 2,         /* output shorter than the program, fewer work entries than half its bytes, or a carrier
                                     list under ten */
-    KNITOUT_UNKNOWN_KIND = 3,    /* a kind byte that is not 1 to 9 */
+    KNITOUT_UNKNOWN_KIND = 3,    /* a kind byte that is not 1 to 11 */
     KNITOUT_CUT_SHORT = 4,       /* no byte, or fewer than the kind needs */
     KNITOUT_FIELD_RANGE = 5,     /* a field outside its range */
     KNITOUT_ALREADY_IN = 6,      /* in for an active carrier */
-    KNITOUT_NOT_IN = 7,          /* out, miss, tuck, knit or split with an inactive one */
-    KNITOUT_WRONG_SLOT = 8,      /* carrier parked at the wrong slot */
-    KNITOUT_FLOAT_TOO_LONG = 9,  /* tuck, knit or split over 20 columns from the attachment */
+    KNITOUT_NOT_IN = 7,          /* any other use of an inactive one */
+    KNITOUT_WRONG_SLOT = 8,      /* a carrier parked at the wrong slot */
+    KNITOUT_FLOAT_TOO_LONG = 9,  /* tuck, knit, split or a plated one over 20 columns from a carrier's attachment */
     KNITOUT_NOT_OPPOSITE = 10,   /* the two needles' columns differ */
     KNITOUT_HOOK_FULL = 11,      /* over 8 loops on a hook */
     KNITOUT_NO_PAIR = 12,        /* position + 1 is not a record */
     KNITOUT_TIED = 13,           /* the two records are tied */
     KNITOUT_TORN_LOG = 14,       /* log kind not 40 (hexadecimal), or fewer than three bytes */
-    KNITOUT_BAD_STATE = 15       /* a lent machine state with a value out of its range, or not 0 in a field without meaning */
+    KNITOUT_BAD_STATE = 15,      /* a lent machine state with a value out of its range, or not 0 in a field without meaning */
+    KNITOUT_YARN_TWICE = 16      /* one yarn twice: a plated stitch whose two carriers are equal */
+};
+
+/* Kinds of records, a record's first byte, which fixes the bytes behind it. */
+enum knitout_kind {
+    KNITOUT_RACK = 1,         /* racking, two's complement */
+    KNITOUT_DROP = 2,         /* bed, needle */
+    KNITOUT_XFER = 3,         /* bed, needle, needle on the other bed */
+    KNITOUT_IN = 4,           /* direction (0 left, 1 right), bed, needle, carrier; so too 5 to 8 */
+    KNITOUT_OUT = 5,
+    KNITOUT_MISS = 6,
+    KNITOUT_TUCK = 7,
+    KNITOUT_KNIT = 8,
+    KNITOUT_SPLIT = 9,        /* these four, then the needle on the other bed */
+    KNITOUT_PLATED_TUCK = 10, /* these four, then the second carrier */
+    KNITOUT_PLATED_KNIT = 11  /* the same */
 };
 
 /* The longest program and the longest log, in bytes. */
@@ -88,17 +104,17 @@ struct knitout_served {
 #define KNITOUT_HOOK(bed, needle) ((bed) * KNITOUT_NEEDLES + (needle))
 
 /* Runs a program from the empty state: number times 65,536 plus place. The place is the refused record's start, its kind
-   byte (3 to 11), else 0. Reads program[0] to program[length - 1] at most and writes nothing.
+   byte (3 to 11 and 16), else 0. Reads program[0] to program[length - 1] at most and writes nothing.
    Stack 2,136 bytes; worst time 33 ms. */
 uint64_t knitout_run(const uint8_t *program, size_t length);
 
 /* Runs a program and makes a log's swaps in a copy of it: number times 65,536 plus place. The place is the start of
-   the refused record in the program (3 to 11) or in the log (12 to 14), else 0. Lengths are in bytes, work_count in
+   the refused record in the program (3 to 11 and 16) or in the log (12 to 14), else 0. Lengths are in bytes, work_count in
    entries; the output needs program_length bytes, work program_length / 2 entries. Output and work overlap nothing else
    that is lent; program and log are only read and may share bytes.
    0 writes the program as the swaps made it to the front of the output, and the start of each of its records to the
-   front of work; 12 to 14 the same, as the swaps before the refused one made it (KNITOUT_WRITTEN); 1 to 11 write nothing.
-   Output past the program's length and work past the last record's start keep their contents.
+   front of work; 12 to 14 the same, as the swaps before the refused one made it (KNITOUT_WRITTEN); 1 to 11 and 16 write
+   nothing. Output past the program's length and work past the last record's start keep their contents.
    Stack 2,248 bytes; worst time 200 ms. */
 uint64_t knitout_rewrite(const uint8_t *program, size_t program_length, const uint8_t *log, size_t log_length,
                          uint8_t *output, size_t output_length, uint16_t *work, size_t work_count);
@@ -114,8 +130,8 @@ uint64_t knitout_rewrite(const uint8_t *program, size_t program_length, const ui
 
 /* Makes the step of the first record of bytes[0] to bytes[length - 1] on the lent state; what follows the record is not
    looked at, and a length of 0 gives 4. 0: the state is the one after the record, and the answer's length the record's.
-   15 (looked at first) and 3 to 11: length 0, and nothing is written, not even the padding. Which of them it will be is
-   not known beforehand, so the state's memory must be writable.
+   15 (looked at first), 3 to 11 and 16: length 0, and nothing is written, not even the padding. Which of them it will be
+   is not known beforehand, so the state's memory must be writable.
    Stack 2,728 bytes; worst time 45 microseconds. */
 struct knitout_served knitout_step(struct knitout_state *state, const uint8_t *bytes, size_t length);
 

@@ -5,8 +5,6 @@
 #include <stdio.h>
 #include <string.h>
 
-/* Kinds of records. */
-enum { RACK = 1, DROP, XFER, IN, OUT, MISS, TUCK, KNIT, SPLIT };
 /* Exit statuses. */
 enum { KNITTABLE = 0, REFUSED = 1, UNREADABLE = 2, BROKEN = 3 };
 
@@ -22,12 +20,13 @@ static struct knitout_carrier list[KNITOUT_CARRIERS + 1], kept[KNITOUT_CARRIERS 
 /* Whether a promise of the library was seen not to hold. */
 static bool broken;
 
-/* The words of document 01's table. */
+/* The words of document 01's table, and document 02's behind them. */
 static const char *word(unsigned number)
 {
     static const char *const words[] = {
         "done",      "too long", "no bench",     "strange",   "cut short", "field", "already in", "not in",
-        "elsewhere", "float",    "not opposite", "hook full", "no pair",   "tied",  "torn log",   "foul state"};
+        "elsewhere", "float",    "not opposite", "hook full", "no pair",   "tied",  "torn log",   "foul state",
+        "one yarn twice"};
     return number < sizeof words / sizeof *words ? words[number] : "?";
 }
 
@@ -91,24 +90,59 @@ static void show_other(unsigned bed, unsigned needle)
     show_needle(bed == KNITOUT_FRONT ? KNITOUT_BACK : KNITOUT_FRONT, needle);
 }
 
+static const char *kind_name(unsigned kind)
+{
+    static const char *const names[] = {
+        [KNITOUT_RACK] = "rack",
+        [KNITOUT_DROP] = "drop",
+        [KNITOUT_XFER] = "xfer",
+        [KNITOUT_IN] = "in",
+        [KNITOUT_OUT] = "out",
+        [KNITOUT_MISS] = "miss",
+        [KNITOUT_TUCK] = "tuck",
+        [KNITOUT_KNIT] = "knit",
+        [KNITOUT_SPLIT] = "split",
+        [KNITOUT_PLATED_TUCK] = "plated tuck",
+        [KNITOUT_PLATED_KNIT] = "plated knit",
+    };
+    return names[kind];
+}
+
+/* Direction and needle of a record with a carrier. */
+static void show_stitch(const uint8_t *bytes)
+{
+    printf(" %s", bytes[1] == 1 ? "right" : "left");
+    show_needle(bytes[2], bytes[3]);
+}
+
 /* A record whose bytes are all there and in range. */
 static void show_record(const uint8_t *bytes)
 {
-    static const char *const kinds[] = {"", "rack", "drop", "xfer", "in", "out", "miss", "tuck", "knit", "split"};
-
-    printf(", %s", kinds[bytes[0]]);
-    if (bytes[0] == RACK) {
+    printf(", %s", kind_name(bytes[0]));
+    switch (bytes[0]) {
+    case KNITOUT_RACK:
         printf(" %d", bytes[1] < 128 ? bytes[1] : bytes[1] - 256);
-    } else if (bytes[0] == DROP || bytes[0] == XFER) {
+        break;
+    case KNITOUT_DROP:
         show_needle(bytes[1], bytes[2]);
-        if (bytes[0] == XFER)
-            show_other(bytes[1], bytes[3]);
-    } else {
-        printf(" %s", bytes[1] == 1 ? "right" : "left");
-        show_needle(bytes[2], bytes[3]);
+        break;
+    case KNITOUT_XFER:
+        show_needle(bytes[1], bytes[2]);
+        show_other(bytes[1], bytes[3]);
+        break;
+    case KNITOUT_SPLIT:
+        show_stitch(bytes);
         printf(" carrier %u", bytes[4]);
-        if (bytes[0] == SPLIT)
-            show_other(bytes[2], bytes[5]);
+        show_other(bytes[2], bytes[5]);
+        break;
+    case KNITOUT_PLATED_TUCK:
+    case KNITOUT_PLATED_KNIT:
+        show_stitch(bytes);
+        printf(" carriers %u and %u", bytes[4], bytes[5]);
+        break;
+    default:
+        show_stitch(bytes);
+        printf(" carrier %u", bytes[4]);
     }
 }
 
@@ -123,6 +157,7 @@ static bool is_of_record(unsigned number)
     case KNITOUT_FLOAT_TOO_LONG:
     case KNITOUT_NOT_OPPOSITE:
     case KNITOUT_HOOK_FULL:
+    case KNITOUT_YARN_TWICE:
         return true;
     default:
         return false;
@@ -225,7 +260,7 @@ static void try_list(const char *what, const struct knitout_state *state, size_t
 /* A damaged state is refused first, even by the drop that would empty the bad hook and for a list too short. */
 static void try_refusals(void)
 {
-    static const uint8_t drop[] = {DROP, KNITOUT_FRONT, 3};
+    static const uint8_t drop[] = {KNITOUT_DROP, KNITOUT_FRONT, 3};
     static struct knitout_state foul;
 
     foul = panel;

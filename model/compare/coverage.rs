@@ -1,13 +1,32 @@
 //! What the compared programs came to: counts of kinds, numbers, fields, floats, hooks, lengths.
 
 use crate::machine::*;
+use crate::plated_coverage::PlatedCoverage;
 
-pub const KIND_NAMES: [&str; 10] = [
-    "", "rack", "drop", "xfer", "in", "out", "miss", "tuck", "knit", "split",
+/// Kinds and numbers, 0 included.
+pub const KIND_COUNT: usize = 12;
+pub const NUMBERS: usize = 17;
+
+pub const KIND_NAMES: [&str; KIND_COUNT] = [
+    "",
+    "rack",
+    "drop",
+    "xfer",
+    "in",
+    "out",
+    "miss",
+    "tuck",
+    "knit",
+    "split",
+    "plated tuck",
+    "plated knit",
 ];
 
+/// The numbers that a run can give, in the order of looking.
+const RUN_NUMBERS: [usize; 12] = [0, 1, 3, 4, 5, 16, 6, 7, 8, 9, 10, 11];
+
 /// For each kind, the numbers it can get besides 0, 4 and 5.
-const KIND_NUMBERS: [(u8, &[u8]); 9] = [
+const KIND_NUMBERS: [(u8, &[u8]); 11] = [
     (RACK, &[]),
     (DROP, &[]),
     (XFER, &[10, 11]),
@@ -17,17 +36,25 @@ const KIND_NUMBERS: [(u8, &[u8]); 9] = [
     (TUCK, &[7, 8, 9, 11]),
     (KNIT, &[7, 8, 9]),
     (SPLIT, &[7, 8, 9, 10, 11]),
+    (PLATED_TUCK, &[16, 7, 8, 9, 11]),
+    (PLATED_KNIT, &[16, 7, 8, 9]),
 ];
 
 /// For each kind, two reasons that can hold for one record; the first is given. Reason 5 can
 /// stand before each of `KIND_NUMBERS`.
-const KIND_PAIRS: [(u8, &[(u8, u8)]); 6] = [
+const KIND_PAIRS: [(u8, &[(u8, u8)]); 12] = [
     (XFER, &[(10, 11)]),
     (TUCK, &[(7, 11), (8, 9), (8, 11), (9, 11)]),
     (KNIT, &[(8, 9)]),
     (SPLIT, &[(4, 7), (4, 8), (4, 9), (7, 10), (7, 11)]),
     (SPLIT, &[(8, 9), (8, 10), (8, 11)]),
     (SPLIT, &[(9, 10), (9, 11), (10, 11)]),
+    (PLATED_TUCK, &[(4, 7), (4, 8), (4, 9), (4, 11)]),
+    (PLATED_TUCK, &[(16, 7), (16, 8), (16, 9), (16, 11)]),
+    (PLATED_TUCK, &[(7, 8), (7, 9), (7, 11), (8, 9)]),
+    (PLATED_TUCK, &[(8, 11), (9, 11)]),
+    (PLATED_KNIT, &[(4, 7), (4, 8), (4, 9), (16, 7), (16, 8)]),
+    (PLATED_KNIT, &[(16, 9), (7, 8), (7, 9), (8, 9)]),
 ];
 
 macro_rules! events {
@@ -74,11 +101,12 @@ events! {
     TooLongFar: "too long at 65536 or more",
     LastUnknown: "unknown kind at place 32767",
     LastCut: "cut short at place 32767",
-    LateRefusal: "numbers 6 to 11 at a place of 32760 or more",
+    LateRefusal: "16 or 6 to 11 at a place of 32760 or more",
+    PlatedMoved: "plated stitch by two carriers that a transfer moved",
 }
 
-/// How a carrier came to its attachment and slot. `formed_by` is 0 for tuck, 1 for knit, 2 for
-/// split; `left` is the needle it was attached to when it went out.
+/// How a carrier came to its attachment and slot. `formed_by` is the stitch's kind from tuck on;
+/// `left` is the needle it was attached to when it went out.
 #[derive(Clone, Copy)]
 struct Past {
     formed_by: usize,
@@ -100,21 +128,26 @@ const NO_PAST: Past = Past {
 /// split from an empty hook.
 const WAYS_MOVED: usize = 5;
 
-type Values = [[[u64; 256]; 6]; 10];
+/// Kinds that form a loop; then with the second carriers of plated stitches counted apart.
+const STITCHES: usize = 5;
+const STITCHING: usize = STITCHES + 2;
+
+type Values = [[[u64; 256]; 6]; KIND_COUNT];
 
 pub struct Coverage {
-    numbers: [u64; 12],
-    kinds: [[u64; 12]; 10],
-    pairs: [[[u64; 12]; 12]; 10],
-    cuts: [[u64; 6]; 10],
-    bad_cuts: [[[u64; 6]; 6]; 10],
-    edge_needles: [[[u64; 2]; 2]; 10],
+    numbers: [u64; NUMBERS],
+    kinds: [[u64; NUMBERS]; KIND_COUNT],
+    pairs: [[[u64; NUMBERS]; NUMBERS]; KIND_COUNT],
+    cuts: [[u64; 6]; KIND_COUNT],
+    bad_cuts: [[[u64; 6]; 6]; KIND_COUNT],
+    edge_needles: [[[u64; 2]; 2]; KIND_COUNT],
     unknown: [u64; 256],
     unknown_follow: [u64; 7],
     accepted: Box<Values>,
     out_of_range: Box<Values>,
-    stitched: [u64; 192],
-    attached: [u64; 120],
+    stitched: [u64; STITCHING * 64],
+    attached: [u64; STITCHES * WAYS_MOVED * 8],
+    plated: PlatedCoverage,
     events: [u64; EVENTS.len()],
     pasts: [Past; CARRIERS],
 }
@@ -129,18 +162,19 @@ pub fn class(choices: &[(usize, usize)]) -> usize {
 impl Coverage {
     pub fn new() -> Coverage {
         Coverage {
-            numbers: [0; 12],
-            kinds: [[0; 12]; 10],
-            pairs: [[[0; 12]; 12]; 10],
-            cuts: [[0; 6]; 10],
-            bad_cuts: [[[0; 6]; 6]; 10],
-            edge_needles: [[[0; 2]; 2]; 10],
+            numbers: [0; NUMBERS],
+            kinds: [[0; NUMBERS]; KIND_COUNT],
+            pairs: [[[0; NUMBERS]; NUMBERS]; KIND_COUNT],
+            cuts: [[0; 6]; KIND_COUNT],
+            bad_cuts: [[[0; 6]; 6]; KIND_COUNT],
+            edge_needles: [[[0; 2]; 2]; KIND_COUNT],
             unknown: [0; 256],
             unknown_follow: [0; 7],
-            accepted: Box::new([[[0; 256]; 6]; 10]),
-            out_of_range: Box::new([[[0; 256]; 6]; 10]),
-            stitched: [0; 192],
-            attached: [0; 120],
+            accepted: Box::new([[[0; 256]; 6]; KIND_COUNT]),
+            out_of_range: Box::new([[[0; 256]; 6]; KIND_COUNT]),
+            stitched: [0; STITCHING * 64],
+            attached: [0; STITCHES * WAYS_MOVED * 8],
+            plated: PlatedCoverage::new(),
             events: [0; EVENTS.len()],
             pasts: [NO_PAST; CARRIERS],
         }
@@ -196,6 +230,7 @@ impl Coverage {
             return;
         }
         self.kinds[kind][usize::from(number)] += 1;
+        self.plated.record(state, bytes, number);
         match number {
             CUT_SHORT => self.cut(state, bytes),
             FIELD_RANGE => self.bad_field(state, bytes),
@@ -217,25 +252,33 @@ impl Coverage {
         }
     }
 
-    /// Counts the bytes left, each field out of range among them, and what holds for a split.
+    /// Counts the bytes left, each field out of range among them, and what holds of a split or of a
+    /// plated stitch's first carrier.
     fn cut(&mut self, state: &State, bytes: &[u8]) {
         let (kind, length) = (usize::from(bytes[0]), bytes.len());
         self.cuts[kind][length] += 1;
         for field in (1..length).filter(|&field| !in_range(bytes[0], field, bytes[field])) {
             self.bad_cuts[kind][length][field] += 1;
         }
-        if bytes[0] == SPLIT && length == 5 {
-            self.pairs_besides(state, &[bytes, &[0]].concat(), CUT_SHORT);
+        if length == 5 {
+            let mut mended = [bytes, &[0]].concat();
+            match bytes[0] {
+                PLATED_TUCK => mended[0] = TUCK,
+                PLATED_KNIT => mended[0] = KNIT,
+                _ => (),
+            }
+            self.pairs_besides(state, bytes[0], &mended, CUT_SHORT);
         }
     }
 
     /// Counts the reasons that hold for the mended bytes of a record with number 4 or 5.
-    fn pairs_besides(&mut self, state: &State, mended: &[u8], number: u8) {
+    fn pairs_besides(&mut self, state: &State, kind: u8, mended: &[u8], number: u8) {
         let Ok((record, _)) = read_record(mended) else {
             return;
         };
-        for other in (ALREADY_IN..=HOOK_FULL).filter(|&other| holds(state, &record, other)) {
-            self.pairs[usize::from(mended[0])][usize::from(number)][usize::from(other)] += 1;
+        let also = |other: &u8| holds(state, &record, *other);
+        for other in RECORD_NUMBERS.into_iter().filter(also) {
+            self.pairs[usize::from(kind)][usize::from(number)][usize::from(other)] += 1;
         }
     }
 
@@ -248,7 +291,7 @@ impl Coverage {
         self.out_of_range[usize::from(kind)][field][usize::from(bytes[field])] += 1;
         let mut mended = bytes.to_vec();
         mended[field] = 1;
-        self.pairs_besides(state, &mended, FIELD_RANGE);
+        self.pairs_besides(state, kind, &mended, FIELD_RANGE);
     }
 
     fn accepted_fields(&mut self, bytes: &[u8]) {
@@ -305,7 +348,8 @@ impl Coverage {
     }
 
     fn refused_record(&mut self, state: &State, record: &Record, kind: usize, number: u8) {
-        for other in number + 1..=HOOK_FULL {
+        let behind = RECORD_NUMBERS.iter().skip_while(|&&n| n != number).skip(1);
+        for &other in behind {
             let also = holds(state, record, other);
             self.pairs[kind][usize::from(number)][usize::from(other)] += u64::from(also);
         }
@@ -328,17 +372,20 @@ impl Coverage {
 
     /// Counts accepted floats of 20 columns and refused ones of 21.
     fn float(&mut self, state: &State, record: &Record, kind: usize, number: u8) {
-        let Some(columns) = float_columns(state, record) else {
+        if !record.forms_loop() {
             return;
-        };
+        }
         let refused = number == FLOAT_TOO_LONG;
-        self.note(Event::FloatWidest, columns >= 256 && refused);
-        let (exact, over) = (columns == 20 && number == DONE, columns == 21 && refused);
-        let Some(m) = record.carrier_move().filter(|_| exact || over) else {
-            return;
-        };
-        if let Some(attachment) = state.carriers[m.carrier].and_then(|p| p.attachment) {
-            self.float_classes(state, m, attachment, kind, over);
+        let stitch = kind - usize::from(TUCK);
+        let stitching = [stitch, stitch + STITCHING - STITCHES];
+        for (m, stitching) in record.carrier_moves().zip(stitching) {
+            let columns = float_columns(state, m).unwrap_or(0);
+            self.note(Event::FloatWidest, columns >= 256 && refused);
+            let (exact, over) = (columns == 20 && number == DONE, columns == 21 && refused);
+            let attachment = state.carriers[m.carrier].and_then(|p| p.attachment);
+            if let Some(attachment) = attachment.filter(|_| exact || over) {
+                self.float_classes(state, m, attachment, stitching, over);
+            }
         }
     }
 
@@ -347,13 +394,13 @@ impl Coverage {
         state: &State,
         m: CarrierMove,
         a: Attachment,
-        kind: usize,
+        stitching: usize,
         over: bool,
     ) {
         let past = self.pasts[m.carrier];
         let (from, to) = (state.column(a.needle), state.column(m.needle));
         self.stitched[class(&[
-            (kind - usize::from(TUCK), 3),
+            (stitching, STITCHING),
             (usize::from(over), 2),
             (a.needle.bed as usize, 2),
             (m.needle.bed as usize, 2),
@@ -362,7 +409,7 @@ impl Coverage {
             (usize::from(from < to), 2),
         ])] += 1;
         self.attached[class(&[
-            (past.formed_by, 3),
+            (past.formed_by, STITCHES),
             (past.moved_by, WAYS_MOVED),
             (usize::from(past.attach_racking != state.racking), 2),
             (a.needle.bed as usize, 2),
@@ -385,10 +432,14 @@ impl Coverage {
                 }
             }
         }
-        let Some(m) = record.carrier_move() else {
-            return;
-        };
-        self.follow_carrier(state, record, m);
+        if let Some(p) = record.plated() {
+            let moved = |carrier: usize| self.pasts[carrier].moved_by > 0;
+            let both = moved(p.first.carrier) && moved(p.second_carrier);
+            self.note(Event::PlatedMoved, both);
+        }
+        for m in record.carrier_moves() {
+            self.follow_carrier(state, record, m);
+        }
     }
 
     fn follow_carrier(&mut self, state: &State, record: &Record, m: CarrierMove) {
@@ -403,11 +454,7 @@ impl Coverage {
         if record.forms_loop() {
             let far = |needle| (state.column(needle) - column).abs() > FLOAT_LIMIT;
             self.note(Event::FreeAgain, past.left.is_some_and(far));
-            past.formed_by = match record {
-                Record::Tuck(_) => 0,
-                Record::Knit(_) => 1,
-                _ => 2,
-            };
+            past.formed_by = usize::from(record.kind() - TUCK);
             past.moved_by = 0;
             past.attach_racking = state.racking;
             past.left = None;
@@ -449,7 +496,7 @@ fn field_range(kind: u8, field: usize) -> (i32, i32) {
         (DROP | XFER, 1) => BIT,
         (DROP | XFER, _) => NEEDLE,
         (_, 1 | 2) => BIT,
-        (_, 4) => (1, CARRIERS as i32),
+        (_, 4) | (PLATED_TUCK | PLATED_KNIT, 5) => (1, CARRIERS as i32),
         _ => NEEDLE,
     }
 }
@@ -485,7 +532,7 @@ impl Coverage {
     /// The names of counts that are zero and should not be.
     pub fn missing(&self) -> Vec<String> {
         let mut missing = Vec::new();
-        for number in [0, 1, 3, 4, 5, 6, 7, 8, 9, 10, 11] {
+        for number in RUN_NUMBERS {
             if self.numbers[number] == 0 {
                 missing.push(format!("number {number}"));
             }
@@ -501,6 +548,7 @@ impl Coverage {
         self.missing_kinds(&mut missing);
         self.missing_fields(&mut missing);
         self.missing_classes(&mut missing);
+        missing.extend(self.plated.missing("run"));
         missing
     }
 
@@ -515,7 +563,7 @@ impl Coverage {
                 missing.push(format!("{name} {position}"));
             }
         }
-        for kind in usize::from(DROP)..=usize::from(SPLIT) {
+        for kind in usize::from(DROP)..KIND_COUNT {
             for (bed, counts) in ["f", "b"].iter().zip(self.edge_needles[kind]) {
                 for (needle, _) in [0, 249].iter().zip(counts).filter(|e| e.1 == 0) {
                     missing.push(format!("{} at {bed}.{needle}", KIND_NAMES[kind]));
@@ -550,7 +598,7 @@ impl Coverage {
     }
 
     fn missing_fields(&self, missing: &mut Vec<String>) {
-        for kind in RACK..=SPLIT {
+        for kind in KINDS {
             let name = KIND_NAMES[usize::from(kind)];
             for field in 1..=body_length(kind).unwrap_or(0) {
                 let (accepted, refused) = field_bounds(kind, field);
@@ -575,18 +623,24 @@ impl Coverage {
     }
 
     pub fn print(&self) {
-        let header: Vec<String> = (0..12).map(|number| format!("{number:>9}")).collect();
-        println!("number   {}", header.concat());
-        let row = |name: &str, counts: &[u64; 12]| {
-            let cells: Vec<String> = counts.iter().map(|count| format!("{count:>9}")).collect();
-            println!("{name:<9}{}", cells.concat());
+        let columns = |cell: &dyn Fn(usize) -> u64| -> String {
+            let cells = RUN_NUMBERS
+                .iter()
+                .map(|&number| format!("{:>9}", cell(number)));
+            cells.collect()
         };
-        row("programs", &self.numbers);
-        for kind in 1..10 {
-            row(KIND_NAMES[kind], &self.kinds[kind]);
+        println!("{:<11}{}", "number", columns(&|number| number as u64));
+        println!(
+            "{:<11}{}",
+            "programs",
+            columns(&|number| self.numbers[number])
+        );
+        for (name, counts) in KIND_NAMES.iter().zip(&self.kinds).skip(1) {
+            println!("{name:<11}{}", columns(&|number| counts[number]));
         }
-        println!("unknown  {:>36}", self.unknown.iter().sum::<u64>());
+        println!("unknown    {:>27}", self.unknown.iter().sum::<u64>());
         self.print_pairs();
+        self.plated.print("run");
         for (name, counts) in [
             ("stitch", &self.stitched[..]),
             ("attachment", &self.attached[..]),
@@ -602,18 +656,18 @@ impl Coverage {
     }
 
     fn print_pairs(&self) {
-        println!("records with a number while a higher one holds:");
-        for kind in 1..10 {
+        println!("records with a number while a later one holds:");
+        for kind in 1..KIND_COUNT {
             let mut cells = Vec::new();
-            for given in 4..12 {
-                for other in given + 1..12 {
+            for (place, given) in RUN_NUMBERS.into_iter().enumerate() {
+                for other in RUN_NUMBERS.into_iter().skip(place + 1) {
                     let count = self.pairs[kind][given][other];
                     if count > 0 {
                         cells.push(format!("{given}/{other} {count}"));
                     }
                 }
             }
-            println!("  {:<7}{}", KIND_NAMES[kind], cells.join(", "));
+            println!("  {:<12}{}", KIND_NAMES[kind], cells.join(", "));
         }
     }
 }

@@ -65,14 +65,14 @@ impl Random {
     }
 
     pub fn known_kind(&mut self) -> u8 {
-        self.between(RACK.into(), SPLIT.into()) as u8
+        self.between((*KINDS.start()).into(), (*KINDS.end()).into()) as u8
     }
 
     pub fn unknown_kind(&mut self) -> u8 {
         match self.below(4) {
-            0 => self.pick(&[0x00, 0x0a, 0x0b, 0x10, 0x22, 0x40, 0x7f, 0x80, 0xff]),
+            0 => self.pick(&[0x00, 0x0c, 0x0d, 0x10, 0x22, 0x40, 0x7f, 0x80, 0xff]),
             1 => 0,
-            _ => self.between(10, 255) as u8,
+            _ => self.between(12, 255) as u8,
         }
     }
 }
@@ -81,7 +81,7 @@ impl Random {
 pub fn add_bytes(random: &mut Random, bytes: &mut Vec<u8>) {
     for _ in 0..random.below(8) {
         let byte = random.byte();
-        bytes.push(if random.percent(50) { byte % 12 } else { byte });
+        bytes.push(if random.percent(50) { byte % 14 } else { byte });
     }
 }
 
@@ -110,6 +110,12 @@ fn move_bytes(kind: u8, m: CarrierMove) -> Vec<u8> {
     ]
 }
 
+fn plated_bytes(kind: u8, p: PlatedMove) -> Vec<u8> {
+    let mut bytes = move_bytes(kind, p.first);
+    bytes.push(p.second_carrier as u8 + 1);
+    bytes
+}
+
 pub fn bytes_of(record: &Record) -> Vec<u8> {
     match *record {
         Record::Rack(racking) => vec![RACK, racking as i8 as u8],
@@ -132,6 +138,8 @@ pub fn bytes_of(record: &Record) -> Vec<u8> {
             bytes.push(second.number as u8);
             bytes
         }
+        Record::PlatedTuck(p) => plated_bytes(PLATED_TUCK, p),
+        Record::PlatedKnit(p) => plated_bytes(PLATED_KNIT, p),
     }
 }
 
@@ -164,15 +172,21 @@ impl Draft {
     }
 
     pub fn inactive_carrier(&self, random: &mut Random) -> Option<usize> {
-        let inactive: Vec<usize> = (0..CARRIERS)
-            .filter(|&k| self.state.carriers[k].is_none())
-            .collect();
-        (!inactive.is_empty()).then(|| random.pick(&inactive))
+        self.carrier_where(random, |k| self.state.carriers[k].is_none())
+    }
+
+    /// An inactive carrier other than one.
+    pub fn inactive_carrier_but(&self, random: &mut Random, other: usize) -> Option<usize> {
+        self.carrier_where(random, |k| k != other && self.state.carriers[k].is_none())
     }
 
     pub fn attached_carrier(&self, random: &mut Random) -> Option<usize> {
-        let attached = |k: &usize| self.state.carriers[*k].is_some_and(|p| p.attachment.is_some());
-        let found: Vec<usize> = (0..CARRIERS).filter(attached).collect();
+        let attached = |k: usize| self.state.carriers[k].is_some_and(|p| p.attachment.is_some());
+        self.carrier_where(random, attached)
+    }
+
+    fn carrier_where(&self, random: &mut Random, fits: impl Fn(usize) -> bool) -> Option<usize> {
+        let found: Vec<usize> = (0..CARRIERS).filter(|&k| fits(k)).collect();
         (!found.is_empty()).then(|| random.pick(&found))
     }
 }

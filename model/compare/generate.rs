@@ -2,6 +2,7 @@
 
 use crate::draft::*;
 use crate::machine::*;
+use crate::plated::{plated, plated_case, plated_stitches, with_any, with_ready, with_second};
 
 /// Takes each generated program.
 pub type Check<'a> = &'a mut dyn FnMut(&[u8]);
@@ -9,10 +10,11 @@ pub type Check<'a> = &'a mut dyn FnMut(&[u8]);
 type Generator = fn(&mut Random, Check);
 
 /// Name of a group, calls a round, and its generator; one call may give several programs.
-pub const GROUPS: [(&str, usize, Generator); 10] = [
+pub const GROUPS: [(&str, usize, Generator); 11] = [
     ("crowded columns", 200, crowded),
     ("float distances", 300, floats),
     ("hooks and transfers", 30, hooks),
+    ("plated stitches", 20, plated_stitches),
     ("fields in and out of range", 20, fields),
     ("cut ends", 30, cut_ends),
     ("damaged bytes", 40, damaged),
@@ -87,6 +89,9 @@ fn carrier_candidate(random: &mut Random, state: &State, crowd: &CrowdedColumns)
             column = parked.slot - entry_slot(0, direction);
         }
     }
+    if let Some(slot) = beside(random, state, crowd, carrier) {
+        column = slot - entry_slot(0, direction);
+    }
     let needle = any_needle_at(random, state, column)?;
     let m = carrier_move(direction, needle, carrier);
     if state.carriers[carrier].is_none() && random.percent(85) {
@@ -98,6 +103,19 @@ fn carrier_candidate(random: &mut Random, state: &State, crowd: &CrowdedColumns)
         11..=27 => Record::Miss(m),
         _ => stitch(random, state, m),
     })
+}
+
+/// For an inactive carrier, at times the slot of an active one, so that two can stitch together.
+fn beside(
+    random: &mut Random,
+    state: &State,
+    crowd: &CrowdedColumns,
+    carrier: usize,
+) -> Option<i32> {
+    if state.carriers[carrier].is_some() || random.percent(60) {
+        return None;
+    }
+    Some(state.carriers[random.pick(&crowd.carriers)]?.slot)
 }
 
 /// An out, mostly over the column whose exit slot the carrier is parked at.
@@ -115,11 +133,29 @@ fn leaving(random: &mut Random, state: &State, m: CarrierMove) -> Record {
 }
 
 fn stitch(random: &mut Random, state: &State, m: CarrierMove) -> Record {
-    match random.below(4) {
+    match random.below(6) {
         0 | 1 => Record::Tuck(m),
         2 => Record::Knit(m),
-        _ => Record::Split(m, about_opposite(random, state, m.needle)),
+        3 => Record::Split(m, about_opposite(random, state, m.needle)),
+        _ => plated_stitch(random, state, m),
     }
+}
+
+/// A plated stitch, mostly with a carrier at the same slot; a tuck where there is none.
+pub fn plated_stitch(random: &mut Random, state: &State, m: CarrierMove) -> Record {
+    let together = |k: &usize| {
+        let slot = |carrier: usize| state.carriers[carrier].map(|p| p.slot);
+        *k != m.carrier && slot(*k).is_some() && slot(*k) == slot(m.carrier)
+    };
+    let carriers: Vec<usize> = (0..CARRIERS).filter(together).collect();
+    let second = match random.below(20) {
+        0 => m.carrier,
+        1 | 2 => random.below(CARRIERS),
+        _ if carriers.is_empty() => return Record::Tuck(m),
+        _ => random.pick(&carriers),
+    };
+    let p = with_second(random, m, second);
+    plated(random, p)
 }
 
 /// Adds accepted candidates until the draft has so many bytes.
@@ -178,7 +214,7 @@ fn crowded(random: &mut Random, check: Check) {
 // Floats.
 
 /// Moves a carrier by misses to a slot.
-fn miss_to(random: &mut Random, draft: &mut Draft, carrier: usize, slot: i32) -> Option<()> {
+pub fn miss_to(random: &mut Random, draft: &mut Draft, carrier: usize, slot: i32) -> Option<()> {
     loop {
         let now = draft.state.carriers[carrier]?.slot;
         if now == slot {
@@ -196,7 +232,7 @@ fn miss_to(random: &mut Random, draft: &mut Draft, carrier: usize, slot: i32) ->
 }
 
 /// Tucks by an inactive carrier until the hook holds so many loops.
-fn tuck_to(random: &mut Random, draft: &mut Draft, needle: Needle, loops: u8) -> Option<()> {
+pub fn tuck_to(random: &mut Random, draft: &mut Draft, needle: Needle, loops: u8) -> Option<()> {
     let carrier = draft.inactive_carrier(random)?;
     let mut direction = random.direction();
     draft.add(&Record::In(carrier_move(direction, needle, carrier)))?;
@@ -215,7 +251,7 @@ pub fn reverse(direction: Direction) -> Direction {
 }
 
 /// The draft, then tucks on the needle until its hook is full and one tuck more.
-fn filled(random: &mut Random, draft: &Draft, needle: Needle) -> Vec<u8> {
+pub fn filled(random: &mut Random, draft: &Draft, needle: Needle) -> Vec<u8> {
     let mut draft = draft.clone();
     if tuck_to(random, &mut draft, needle, HOOK_LIMIT).is_none() {
         return draft.bytes;
@@ -227,18 +263,23 @@ fn filled(random: &mut Random, draft: &Draft, needle: Needle) -> Vec<u8> {
     end.map_or(draft.bytes.clone(), |record| draft.with(&bytes_of(&record)))
 }
 
-/// One to three carriers attached to a needle by their own stitches there; gives the last one.
+/// Up to three stitches attach carriers to a needle; gives a carrier of the last.
 fn attach(random: &mut Random, draft: &mut Draft, needle: Needle) -> Option<usize> {
     let mut last = None;
     for _ in 0..1 + random.below(3) {
         let carrier = draft.inactive_carrier(random)?;
         let m = carrier_move(random.direction(), needle, carrier);
         draft.add(&Record::In(m))?;
-        draft.add(&match random.below(3) {
+        let record = match random.below(5) {
             0 => Record::Tuck(m),
             1 => Record::Knit(m),
-            _ => Record::Split(m, opposite(&draft.state, needle)?),
-        })?;
+            2 => Record::Split(m, opposite(&draft.state, needle)?),
+            _ => {
+                let p = with_ready(random, draft, m)?;
+                plated(random, p)
+            }
+        };
+        draft.add(&record)?;
         last = Some(carrier);
     }
     last
@@ -272,7 +313,7 @@ fn attached(random: &mut Random, draft: &mut Draft) -> Option<usize> {
 }
 
 /// Moves an attached carrier about 20 columns away, perhaps after a rack, to a stitch or an out.
-fn measured(random: &mut Random, mut draft: Draft, carrier: usize) -> Option<(Draft, Record)> {
+pub fn measured(random: &mut Random, mut draft: Draft, carrier: usize) -> Option<(Draft, Record)> {
     if random.percent(60) {
         draft.add(&Record::Rack(random.racking()))?;
     }
@@ -293,16 +334,29 @@ fn measured(random: &mut Random, mut draft: Draft, carrier: usize) -> Option<(Dr
     if random.percent(15) {
         miss_to(random, &mut draft, carrier, exit_slot(column, m.direction))?;
     }
-    let record = match random.below(19) {
+    let record = far_record(random, &mut draft, m)?;
+    Some((draft, record))
+}
+
+/// A stitch or an out; the second carrier of a plated stitch is brought to it.
+fn far_record(random: &mut Random, draft: &mut Draft, m: CarrierMove) -> Option<Record> {
+    Some(match random.below(24) {
         0 => Record::Out(CarrierMove {
             direction: reverse(m.direction),
             ..m
         }),
-        1..=6 => Record::Tuck(m),
-        7..=12 => Record::Knit(m),
-        _ => Record::Split(m, about_opposite(random, &draft.state, needle)),
-    };
-    Some((draft, record))
+        1..=4 => Record::Tuck(m),
+        5..=8 => Record::Knit(m),
+        9..=13 => Record::Split(m, about_opposite(random, &draft.state, m.needle)),
+        14..=20 => {
+            let p = with_ready(random, draft, m)?;
+            plated(random, p)
+        }
+        _ => {
+            let p = with_any(random, draft, m)?;
+            plated(random, p)
+        }
+    })
 }
 
 /// A carrier goes out, comes in again elsewhere and stitches there, free of its old attachment.
@@ -534,9 +588,10 @@ fn crowd_case(random: &mut Random) -> (Draft, Record) {
 
 /// A valid draft and a whole record after it, accepted or refused.
 fn any_case(random: &mut Random) -> (Draft, Record) {
-    match random.below(10) {
+    match random.below(12) {
         0 | 1 => float_case(random),
-        2 | 3 => {
+        2 | 3 => plated_case(random),
+        4 | 5 => {
             let (draft, pair) = pair_case(random);
             let records = pair_records(random, &draft, &pair);
             (draft, random.pick(&records))
@@ -613,7 +668,7 @@ fn unknown_kinds(random: &mut Random, check: Check) {
 fn random_bytes(random: &mut Random, check: Check) {
     let longest = random.pick(&[8, 30, 300]);
     let length = random.below(longest);
-    let bound = random.pick(&[2, 10, 11, 16, 256]);
+    let bound = random.pick(&[2, 10, 11, 12, 13, 16, 256]);
     let mut program: Vec<u8> = (0..length).map(|_| random.below(bound) as u8).collect();
     if length > 0 && random.percent(50) {
         program[0] = random.known_kind();
@@ -678,10 +733,11 @@ fn lengths(random: &mut Random, check: Check) {
         return;
     }
     if end == 1 {
-        let draft = long_draft(random, &crowd, length - 5);
-        if let Some(bytes) = refused(random, &draft, &crowd, Some(5)) {
+        let last = random.pick(&[5, 6]);
+        let draft = long_draft(random, &crowd, length - last);
+        if let Some(bytes) = refused(random, &draft, &crowd, Some(last)) {
             check(&draft.with(&bytes));
-            check(&draft.with(&bytes[..4]));
+            check(&draft.with(&bytes[..last - 1]));
             return;
         }
     }

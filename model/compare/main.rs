@@ -12,6 +12,8 @@ mod panel_coverage;
 mod panel_groups;
 mod panel_records;
 mod panel_states;
+mod plated;
+mod plated_coverage;
 mod swap_classes;
 mod swap_coverage;
 mod swap_groups;
@@ -205,7 +207,7 @@ fn by_number(counts: &[u64]) -> String {
     cells.join(", ")
 }
 
-/// Compares the rewriter; two lines tell the counts.
+/// Compares the rewriter and tells the counts.
 fn rewriter_calls(seed: u64) -> Rewriter {
     let mut rewriter = Rewriter::new(seed);
     swap_groups::compare(&mut rewriter, seed);
@@ -222,10 +224,12 @@ fn rewriter_calls(seed: u64) -> Rewriter {
         rewriter.coverage.locked.iter().sum::<u64>(),
         by_number(&rewriter.coverage.locked)
     );
+    rewriter.coverage.plated.print("rewriter");
+    rewriter.coverage.plated_ties.print();
     rewriter
 }
 
-/// Compares the panel's services; four lines tell the counts.
+/// Compares the panel's services and tells the counts.
 fn panel_services(seed: u64) -> Panel {
     let mut panel = Panel::new(seed);
     panel_groups::compare(&mut panel, seed);

@@ -1,9 +1,10 @@
 //! What the compared panel calls came to: numbers, kinds, changed values, slices, lengths of lists.
 
 use crate::by_number;
-use crate::coverage::{events, KIND_NAMES};
+use crate::coverage::{events, KIND_COUNT, KIND_NAMES, NUMBERS};
 use crate::machine::*;
 use crate::panel_states::{Change, Field};
+use crate::plated_coverage::PlatedCoverage;
 use crate::raw_state::*;
 use crate::rewrite::NO_BENCH;
 
@@ -72,15 +73,16 @@ struct Changes {
 }
 
 pub struct PanelCoverage {
-    steps: [[u64; 16]; 2],
-    lists: [[u64; 16]; 2],
-    kinds: [[u64; 10]; 2],
-    carriers: [[u64; CARRIERS]; 10],
+    steps: [[u64; NUMBERS]; 2],
+    lists: [[u64; NUMBERS]; 2],
+    kinds: [[u64; KIND_COUNT]; 2],
+    carriers: [[u64; CARRIERS]; KIND_COUNT],
     hooks: [u64; HOOKS],
-    foul_over: [u64; 16],
-    locked: [[u64; 16]; 2],
+    foul_over: [u64; NUMBERS],
+    locked: [[u64; NUMBERS]; 2],
+    plated: PlatedCoverage,
     changes: [Changes; 2],
-    counts: [[u64; 16]; MOST_COUNT + 1],
+    counts: [[u64; NUMBERS]; MOST_COUNT + 1],
     events: [u64; EVENTS.len()],
 }
 
@@ -89,19 +91,20 @@ pub struct PanelCoverage {
 impl PanelCoverage {
     pub fn new() -> PanelCoverage {
         PanelCoverage {
-            steps: [[0; 16]; 2],
-            lists: [[0; 16]; 2],
-            kinds: [[0; 10]; 2],
-            carriers: [[0; CARRIERS]; 10],
+            steps: [[0; NUMBERS]; 2],
+            lists: [[0; NUMBERS]; 2],
+            kinds: [[0; KIND_COUNT]; 2],
+            carriers: [[0; CARRIERS]; KIND_COUNT],
             hooks: [0; HOOKS],
-            foul_over: [0; 16],
-            locked: [[0; 16]; 2],
+            foul_over: [0; NUMBERS],
+            locked: [[0; NUMBERS]; 2],
+            plated: PlatedCoverage::new(),
             changes: [0; 2].map(|_| Changes {
                 rackings: [0; 256],
                 hooks: [[0; 2]; HOOKS],
                 carriers: [[[[0; 2]; 5]; 3]; CARRIERS],
             }),
-            counts: [[0; 16]; MOST_COUNT + 1],
+            counts: [[0; NUMBERS]; MOST_COUNT + 1],
             events: [0; EVENTS.len()],
         }
     }
@@ -112,6 +115,10 @@ impl PanelCoverage {
 
     pub fn step(&mut self, source: Source, states: [&RawState; 2], bytes: &[u8], served: Served) {
         self.steps[source as usize][usize::from(served.number)] += 1;
+        if served.number != FOUL_STATE && bytes.first() >= Some(&PLATED_TUCK) {
+            let before = states[0].state();
+            self.plated.record(&before, bytes, served.number);
+        }
         if served.number == DONE {
             self.kinds[source as usize][usize::from(bytes[0])] += 1;
             self.accepted(states, &bytes[..served.length]);
@@ -128,10 +135,11 @@ impl PanelCoverage {
                 self.note(Event::FullHook, after.loops[hook] == HOOK_LIMIT);
             }
         }
-        if record[0] >= IN {
-            let carrier = usize::from(record[4]) - 1;
-            self.carriers[usize::from(record[0])][carrier] += 1;
-            let (slot, active) = (after.carriers[carrier].slot, record[0] != OUT);
+        let kind = record[0];
+        let record = read_record(record).map(|(record, _)| record);
+        for m in record.iter().flat_map(Record::carrier_moves) {
+            self.carriers[usize::from(kind)][m.carrier] += 1;
+            let (slot, active) = (after.carriers[m.carrier].slot, kind != OUT);
             self.note(Event::LeftmostSlot, active && slot == LEAST_SLOT);
             self.note(Event::RightmostSlot, active && slot == MOST_SLOT);
             self.note(Event::EmptyAgain, !active && *after == RawState::empty());
@@ -191,7 +199,8 @@ const OUTCOMES: [&str; 2] = ["in range", "foul"];
 fn step_numbers() -> impl Iterator<Item = u8> {
     [DONE, FOUL_STATE]
         .into_iter()
-        .chain(UNKNOWN_KIND..=HOOK_FULL)
+        .chain(UNKNOWN_KIND..=FIELD_RANGE)
+        .chain(RECORD_NUMBERS)
 }
 
 fn want(missing: &mut Vec<String>, count: u64, least: u64, name: impl FnOnce() -> String) {
@@ -213,6 +222,7 @@ impl PanelCoverage {
         for (name, count) in EVENTS.iter().zip(self.events) {
             want(&mut missing, count, 1, || name.to_string());
         }
+        missing.extend(self.plated.missing("step"));
         missing
     }
 
@@ -243,7 +253,7 @@ impl PanelCoverage {
     }
 
     fn missing_kinds(&self, missing: &mut Vec<String>) {
-        for kind in usize::from(RACK)..=usize::from(SPLIT) {
+        for kind in KINDS.map(usize::from) {
             let name = KIND_NAMES[kind];
             for (source, kinds) in SOURCES.iter().zip(self.kinds) {
                 want(missing, kinds[kind], LEAST_KIND, || {
@@ -317,8 +327,8 @@ fn missing_changes(missing: &mut Vec<String>, service: &str, changes: &Changes) 
 
 // The summary.
 
-fn numbers(rows: &[[u64; 16]]) -> (u64, String) {
-    let sums: Vec<u64> = (0..16)
+fn numbers(rows: &[[u64; NUMBERS]]) -> (u64, String) {
+    let sums: Vec<u64> = (0..NUMBERS)
         .map(|at| rows.iter().map(|row| row[at]).sum())
         .collect();
     (sums.iter().sum(), by_number(&sums))
@@ -329,6 +339,7 @@ impl PanelCoverage {
         let (steps, cells) = numbers(&self.steps);
         let reached: u64 = self.steps[0].iter().sum();
         println!("panel: {steps} steps agree, {reached} of them on reached states; {cells}");
+        self.plated.print("step");
         let (lists, cells) = numbers(&self.lists);
         println!("panel: {lists} carrier lists agree; {cells}");
         for (service, counts) in SERVICES.iter().zip(self.locked) {

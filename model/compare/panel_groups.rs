@@ -7,6 +7,7 @@ use crate::panel_calls::Panel;
 use crate::panel_coverage::{Event, Service, Source, MOST_COUNT};
 use crate::panel_records::*;
 use crate::panel_states::*;
+use crate::plated::plated_program;
 use crate::raw_state::*;
 use crate::{fail, library_run, report_difference};
 
@@ -38,6 +39,9 @@ const PROGRAM_ROUNDS: usize = 4;
 const LONG: usize = 32_000;
 const LONG_EVERY: usize = 4;
 
+/// Programs that end with a plated stitch.
+const PLATED_PROGRAMS: usize = 6_000;
+
 fn programs(random: &mut Random, panel: &mut Panel) {
     let mut own = Random::new(random.below(usize::MAX) as u64);
     for piece in crate::pieces::pieces() {
@@ -46,6 +50,10 @@ fn programs(random: &mut Random, panel: &mut Panel) {
     let mut over = Draft::new();
     add_racks_and_drops(random, &mut over, PROGRAM_LIMIT + 2);
     step_all(&mut own, panel, &over.bytes, "over the limit");
+    for _ in 0..PLATED_PROGRAMS {
+        let program = plated_program(random);
+        step_all(&mut own, panel, &program, "plated programs");
+    }
     for _ in 0..PROGRAM_ROUNDS {
         for (name, calls, generate) in generate::GROUPS {
             for _ in 0..calls {
@@ -230,7 +238,7 @@ fn made(
 
 // Random states, several values changed, random bytes.
 
-const RANDOM_STATES: usize = 10_000;
+const RANDOM_STATES: usize = 16_000;
 const STEPS_EACH: usize = 4;
 
 /// States in range, each stepped a few times.

@@ -1,7 +1,7 @@
 //! Bytes for the panel's step: records near a state's carriers, broken ones, bytes behind them.
 
 use crate::draft::*;
-use crate::generate::{candidate, CrowdedColumns};
+use crate::generate::{candidate, plated_stitch, CrowdedColumns};
 use crate::machine::*;
 use crate::panel_states::Field;
 use crate::raw_state::*;
@@ -20,17 +20,41 @@ fn crowd(random: &mut Random, state: &State) -> CrowdedColumns {
     crowd
 }
 
-/// A whole record, accepted or refused.
+/// A plated stitch from where an active carrier is parked, if another stands there.
+fn plated_at_slot(random: &mut Random, state: &State) -> Option<Record> {
+    let (carrier, direction) = (random.below(CARRIERS), random.direction());
+    let column = state.carriers[carrier]?.slot - entry_slot(0, direction);
+    let needle = any_needle_at(random, state, column)?;
+    let record = plated_stitch(random, state, carrier_move(direction, needle, carrier));
+    record.plated().map(|_| record)
+}
+
+/// A whole record, accepted or refused, at times an accepted one of a kind chosen before.
 fn whole(random: &mut Random, state: &State) -> Vec<u8> {
+    if random.percent(15) {
+        if let Some(record) = plated_at_slot(random, state) {
+            return bytes_of(&record);
+        }
+    }
     let crowd = crowd(random, state);
-    let found = (0..20).find_map(|_| candidate(random, state, &crowd));
+    let kind = random.known_kind();
+    let any = random.percent(60);
+    let chosen = |record: &Record| record.kind() == kind && refusal(state, record).is_none();
+    let fits = |record: &Record| any || chosen(record);
+    let found = (0..40).find_map(|_| candidate(random, state, &crowd).filter(fits));
     bytes_of(&found.unwrap_or(Record::Rack(random.racking())))
 }
 
-/// A whole record that is refused with a number from 6 to 11, if one is found.
+/// A whole record that is refused with 16 or a number from 6 to 11, if one is found.
 pub fn refused(random: &mut Random, state: &State) -> Option<Vec<u8>> {
     let crowd = crowd(random, state);
-    let wanted = random.pick(&[None, None, Some(FLOAT_TOO_LONG), Some(HOOK_FULL)]);
+    let wanted = random.pick(&[
+        None,
+        None,
+        Some(FLOAT_TOO_LONG),
+        Some(HOOK_FULL),
+        Some(YARN_TWICE),
+    ]);
     let fits = |record: &Record| match (refusal(state, record), wanted) {
         (given, Some(_)) => given == wanted,
         (given, None) => given.is_some(),
@@ -92,8 +116,14 @@ pub fn touching(random: &mut Random, field: Field, state: &RawState) -> Vec<u8> 
             let direction = random.below(2) as u8;
             let slot = i32::from(state.carriers[k].slot);
             let needle = (slot - random.between(0, 1)).clamp(0, 249) as u8;
-            let kind = random.between(IN.into(), SPLIT.into()) as u8;
-            vec![kind, direction, 0, needle, k as u8 + 1, needle]
+            let kind = random.between(IN.into(), (*KINDS.end()).into()) as u8;
+            let mut bytes = vec![kind, direction, 0, needle, k as u8 + 1, needle];
+            if kind >= PLATED_TUCK {
+                let place = random.pick(&[4, 5]);
+                bytes[5] = k as u8 + 1;
+                bytes[place] = 1 + random.below(CARRIERS) as u8;
+            }
+            bytes
         }
     }
 }

@@ -76,7 +76,25 @@ pub fn random_state(random: &mut Random) -> RawState {
         let status = random.pick(&STATUSES);
         *carrier = any_carrier(random, status);
     }
+    if random.percent(50) {
+        gather(random, &mut state);
+    }
     state
+}
+
+/// Parks some active carriers at the slot of one of them, attached anew, so that two can stitch
+/// together.
+fn gather(random: &mut Random, state: &mut RawState) {
+    let active = state.carriers.iter_mut().filter(|c| c.active == 1);
+    let mut slot = None;
+    for carrier in active {
+        if random.percent(60) {
+            carrier.slot = *slot.get_or_insert(carrier.slot);
+        }
+        if carrier.side > 0 {
+            carrier.needle = any_needle(random, carrier.slot);
+        }
+    }
 }
 
 /// A state that a run ends in.

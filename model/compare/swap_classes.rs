@@ -1,6 +1,6 @@
 //! Classes of pairs of records and of lent areas, and the ones that the rewriter's calls must reach.
 
-use crate::coverage::class;
+use crate::coverage::{class, KIND_COUNT};
 use crate::machine::*;
 use crate::rewrite::*;
 use crate::swaps::{actors, lone_record};
@@ -9,8 +9,8 @@ use crate::swaps::{actors, lone_record};
 const DISTANCES: usize = 5;
 /// Layers overlap, share just one, are neighbours, or are further apart.
 const LAYER_CLASSES: usize = 4;
-/// Kinds from drop to split on two beds.
-const PLACED_KINDS: usize = 16;
+/// Kinds from drop on, on two beds.
+const PLACED_KINDS: usize = 2 * (KIND_COUNT - DROP as usize);
 pub const PAIR_CLASSES: usize = PLACED_KINDS * PLACED_KINDS * DISTANCES * LAYER_CLASSES;
 
 /// Areas against what is needed: short, one short, just enough, one more, more.

@@ -1,8 +1,9 @@
 //! What the compared rewriter calls came to: numbers, pairs of kinds, extents, racks, logs, areas.
 
-use crate::coverage::{events, KIND_NAMES};
+use crate::coverage::{events, KIND_COUNT, KIND_NAMES, NUMBERS};
 use crate::lend::place_in;
 use crate::machine::*;
+use crate::plated_coverage::{PlatedCoverage, PlatedTies};
 use crate::rewrite::*;
 use crate::swap_classes::*;
 
@@ -47,7 +48,7 @@ events! {
     TooLongRefused: "too long by the log while the program is refused",
     NoBenchRefused: "no bench while the program is refused",
     NoBenchTorn: "no bench while the log is torn",
-    RefusedTorn: "3 to 11 while the log is torn",
+    RefusedTorn: "3 to 11 or 16 while the log is torn",
     FullProgram: "swaps made in a program of 32768 bytes",
     FullWork: "done with 16384 records",
     FullFives: "swaps made in a program of 6553 records of 5 bytes",
@@ -67,16 +68,18 @@ const RACK_PLACES: [usize; 5] = [62, 63, 0, 1, 2];
 pub const LOANS: [&str; 4] = ["program", "log", "output", "work"];
 
 pub struct SwapCoverage {
-    pub numbers: [u64; 15],
+    pub numbers: [u64; NUMBERS],
     pub swapped: u64,
-    kinds: [[[u64; 2]; 10]; 10],
+    pub plated: PlatedCoverage,
+    pub plated_ties: PlatedTies,
+    kinds: [[[u64; 2]; KIND_COUNT]; KIND_COUNT],
     lengths: [[u64; 7]; 7],
     classes: Vec<[u64; 2]>,
     racks: [[[u64; 2]; 3]; 5],
     areas: [[u64; 5]; 5],
     guarded: [u64; 4],
     null: [u64; 4],
-    pub locked: [u64; 15],
+    pub locked: [u64; NUMBERS],
     events: [u64; EVENTS.len()],
 }
 
@@ -96,16 +99,18 @@ struct Progress {
 impl SwapCoverage {
     pub fn new() -> SwapCoverage {
         SwapCoverage {
-            numbers: [0; 15],
+            numbers: [0; NUMBERS],
             swapped: 0,
-            kinds: [[[0; 2]; 10]; 10],
+            plated: PlatedCoverage::new(),
+            plated_ties: PlatedTies::new(),
+            kinds: [[[0; 2]; KIND_COUNT]; KIND_COUNT],
             lengths: [[0; 7]; 7],
             classes: vec![[0; 2]; PAIR_CLASSES],
             racks: [[[0; 2]; 3]; 5],
             areas: [[0; 5]; 5],
             guarded: [0; 4],
             null: [0; 4],
-            locked: [0; 15],
+            locked: [0; NUMBERS],
             events: [0; EVENTS.len()],
         }
     }
@@ -132,6 +137,11 @@ impl SwapCoverage {
         }
         if answer.number == DONE {
             self.done(program, output.len(), work.len());
+        }
+        if !matches!(answer.number, TOO_LONG | NO_BENCH) {
+            run_watched(program, |state, bytes, number| {
+                self.plated.record(state, bytes, number);
+            });
         }
         if answer.number == TOO_LONG {
             let short = output.len() < program.len() || work.len() < program.len() / 2;
@@ -190,6 +200,7 @@ impl SwapCoverage {
         if let Some(class) = pair_class(first, second, racking) {
             self.classes[class][outcome] += 1;
         }
+        self.plated_ties.pair(first, second, racking, tied);
         let alone = tied && !extents_meet(first, second, racking);
         self.note(Event::CarrierAlone, alone);
         let drops = matches!(first, Record::Drop(_)) && first == second;
@@ -346,11 +357,11 @@ impl SwapCoverage {
     /// The names of counts that are zero and should not be.
     pub fn missing(&self) -> Vec<String> {
         let mut missing = Vec::new();
-        for number in (0..15).filter(|&number| self.numbers[number] == 0) {
-            missing.push(format!("rewriter number {number}"));
-        }
-        for number in (0..15).filter(|&number| !is_written(number)) {
-            if self.locked[usize::from(number)] == 0 {
+        for number in (DONE..=TORN_LOG).chain([YARN_TWICE]) {
+            if self.numbers[usize::from(number)] == 0 {
+                missing.push(format!("rewriter number {number}"));
+            }
+            if !is_written(number) && self.locked[usize::from(number)] == 0 {
                 missing.push(format!("rewriter number {number} in read-only memory"));
             }
         }
@@ -365,12 +376,14 @@ impl SwapCoverage {
         self.missing_kinds(&mut missing);
         self.missing_racks(&mut missing);
         self.missing_areas(&mut missing);
+        missing.extend(self.plated.missing("rewriter"));
+        missing.extend(self.plated_ties.missing());
         missing
     }
 
     fn missing_kinds(&self, missing: &mut Vec<String>) {
-        for first in RACK..=SPLIT {
-            for second in RACK..=SPLIT {
+        for first in KINDS {
+            for second in KINDS {
                 let (a, b) = (usize::from(first), usize::from(second));
                 let possible = [first != RACK && second != RACK, can_tie(first, second)];
                 for outcome in (0..2).filter(|&outcome| possible[outcome]) {

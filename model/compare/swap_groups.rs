@@ -8,6 +8,7 @@ use crate::history;
 use crate::logs;
 use crate::machine::*;
 use crate::pieces::swap_pieces;
+use crate::plated::plated_program;
 use crate::rewrite::*;
 use crate::swaps::*;
 
@@ -147,8 +148,8 @@ fn every_pair(random: &mut Random, rewriter: &mut Rewriter) {
                 let (racking, column) = middle_place(random);
                 let places = [(first, column), (second, column + distance)];
                 let made = pair(random, racking, places);
-                let one_carrier =
-                    first.kind >= IN && second.kind >= IN && first.carrier == second.carrier;
+                let records = [first, second].map(|actor| lone_record(actor, 100));
+                let one_carrier = name_one_carrier(&records[0], &records[1]);
                 match made {
                     Some(draft) => swap_last(rewriter, &draft.bytes, "every pair"),
                     None if one_carrier => (),
@@ -248,10 +249,14 @@ fn near_racks(random: &mut Random, rewriter: &mut Rewriter) {
     follow_chain(random, rewriter, program, 30, 2);
 }
 
-// Programs with a number from 3 to 11.
+// Programs with a number from 3 to 11 or with 16.
 
 fn refused(random: &mut Random, rewriter: &mut Rewriter) {
-    let mut program = whole_program(random);
+    let mut program = if random.percent(25) {
+        plated_program(random)
+    } else {
+        whole_program(random)
+    };
     match random.below(6) {
         0 => program.push(random.unknown_kind()),
         1 => program.push(random.known_kind()),

@@ -6,37 +6,61 @@ use crate::machine::*;
 
 // Pairs.
 
-/// What a record is apart from its column and direction; drop and xfer leave the carrier unused.
+/// What a record is apart from its column and direction; drop and xfer leave the carriers unused,
+/// and only plated stitches use the second.
 #[derive(Clone, Copy)]
 pub struct Actor {
     pub kind: u8,
     pub bed: Bed,
-    pub carrier: usize,
+    pub carriers: [usize; 2],
 }
 
-/// Every kind but rack, on both beds, with every carrier it can name.
+/// The carriers that a record of a kind can name.
+fn carriers_named(kind: u8) -> Vec<[usize; 2]> {
+    match kind {
+        DROP | XFER => vec![[0, 1]],
+        PLATED_TUCK | PLATED_KNIT => (0..CARRIERS)
+            .flat_map(|first| (0..CARRIERS).map(move |second| [first, second]))
+            .filter(|[first, second]| first != second)
+            .collect(),
+        _ => (0..CARRIERS).map(|carrier| [carrier, 0]).collect(),
+    }
+}
+
+/// Every kind but rack, on both beds, with all carriers it can name.
 pub fn actors() -> Vec<Actor> {
     let mut actors = Vec::new();
-    for kind in DROP..=SPLIT {
+    for kind in KINDS.filter(|&kind| kind != RACK) {
         for bed in [Bed::Front, Bed::Back] {
-            let carriers = if kind < IN { 1 } else { CARRIERS };
-            actors.extend((0..carriers).map(|carrier| Actor { kind, bed, carrier }));
+            let named = carriers_named(kind).into_iter();
+            actors.extend(named.map(|carriers| Actor {
+                kind,
+                bed,
+                carriers,
+            }));
         }
     }
     actors
 }
 
 pub fn any_actor(random: &mut Random) -> Actor {
+    let kind = random.between(DROP.into(), (*KINDS.end()).into()) as u8;
+    let bed = random.bed();
+    let carriers = random.pick(&carriers_named(kind));
     Actor {
-        kind: random.between(DROP.into(), SPLIT.into()) as u8,
-        bed: random.bed(),
-        carrier: random.below(CARRIERS),
+        kind,
+        bed,
+        carriers,
     }
 }
 
 fn placed(state: &State, actor: Actor, column: i32, direction: Direction) -> Option<Record> {
     let needle = needle_at(state, actor.bed, column)?;
-    let m = carrier_move(direction, needle, actor.carrier);
+    let m = carrier_move(direction, needle, actor.carriers[0]);
+    let p = PlatedMove {
+        first: m,
+        second_carrier: actor.carriers[1],
+    };
     Some(match actor.kind {
         DROP => Record::Drop(needle),
         XFER => Record::Xfer(needle, opposite(state, needle)?),
@@ -45,6 +69,8 @@ fn placed(state: &State, actor: Actor, column: i32, direction: Direction) -> Opt
         MISS => Record::Miss(m),
         TUCK => Record::Tuck(m),
         KNIT => Record::Knit(m),
+        PLATED_TUCK => Record::PlatedTuck(p),
+        PLATED_KNIT => Record::PlatedKnit(p),
         _ => Record::Split(m, opposite(state, needle)?),
     })
 }
@@ -54,15 +80,15 @@ pub fn lone_record(actor: Actor, column: i32) -> Record {
     placed(&State::empty(), actor, column, Direction::Right).expect("a column of both beds")
 }
 
-/// Brings the record's carrier in where the record wants it.
-fn bring(draft: &mut Draft, record: &Record) -> Option<()> {
-    match (record, record.carrier_move()) {
-        (Record::In(_), _) | (_, None) => Some(()),
-        (Record::Out(_), Some(m)) => draft.add(&Record::In(CarrierMove {
+/// Brings a carrier of the record in where the record wants it.
+fn bring(draft: &mut Draft, record: &Record, m: CarrierMove) -> Option<()> {
+    match record {
+        Record::In(_) => Some(()),
+        Record::Out(_) => draft.add(&Record::In(CarrierMove {
             direction: reverse(m.direction),
             ..m
         })),
-        (_, Some(m)) => draft.add(&Record::In(m)),
+        _ => draft.add(&Record::In(m)),
     }
 }
 
@@ -78,10 +104,12 @@ fn directed_pair(
         placed(&draft.state, actor, column, directions[at])
     });
     let (first, second) = (first?, second?);
-    bring(&mut draft, &first)?;
-    let carrier = |record: &Record| record.carrier_move().map(|m| m.carrier);
-    if carrier(&second) != carrier(&first) {
-        bring(&mut draft, &second)?;
+    for m in first.carrier_moves() {
+        bring(&mut draft, &first, m)?;
+    }
+    let named = |m: &CarrierMove| first.carrier_moves().any(|own| own.carrier == m.carrier);
+    for m in second.carrier_moves().filter(|m| !named(m)) {
+        bring(&mut draft, &second, m)?;
     }
     draft.add(&first)?;
     draft.add(&second)?;
@@ -262,7 +290,7 @@ pub fn full_of_short_records(random: &mut Random) -> Vec<u8> {
         let actor = Actor {
             kind,
             bed,
-            carrier: 0,
+            carriers: [0, 1],
         };
         let column = first + random.between(0, 3);
         let record = placed(&draft.state, actor, column, Direction::Right);

@@ -28,6 +28,7 @@ fn named_needles(record: &Record) -> Vec<Needle> {
         Record::Tuck(m) | Record::Knit(m) => vec![m.needle],
         Record::Xfer(first, second) => vec![first, second],
         Record::Split(m, second) => vec![m.needle, second],
+        Record::PlatedTuck(p) | Record::PlatedKnit(p) => vec![p.first.needle],
     }
 }
 
@@ -65,7 +66,7 @@ impl<'a> Story<'a> {
         for needle in named_needles(record) {
             self.needles[needle_index(needle)].push(known);
         }
-        if let Some(m) = record.carrier_move() {
+        for m in record.carrier_moves() {
             self.carriers[m.carrier].push(known);
         }
     }

@@ -1,4 +1,4 @@
-//! The machine of paper 01, written from that paper alone: it knows nothing of the library.
+//! The machine of papers 01 and 02, written from these alone: it knows nothing of the library.
 
 pub mod history;
 pub mod machine;

@@ -1,4 +1,6 @@
-//! The machine of paper 01: numbers, limits, state, columns, records, one step and the run.
+//! The machine of papers 01 and 02: numbers, limits, state, columns, records, one step and the run.
+
+use std::ops::RangeInclusive;
 
 pub const DONE: u8 = 0;
 pub const TOO_LONG: u8 = 1;
@@ -11,13 +13,21 @@ pub const WRONG_SLOT: u8 = 8;
 pub const FLOAT_TOO_LONG: u8 = 9;
 pub const NOT_OPPOSITE: u8 = 10;
 pub const HOOK_FULL: u8 = 11;
+pub const YARN_TWICE: u8 = 16;
 
-/// Whether a number is of a record that was read whole, its fields in range.
+/// The numbers of a record that was read whole, its fields in range, in the order of looking.
+pub const RECORD_NUMBERS: [u8; 7] = [
+    YARN_TWICE,
+    ALREADY_IN,
+    NOT_IN,
+    WRONG_SLOT,
+    FLOAT_TOO_LONG,
+    NOT_OPPOSITE,
+    HOOK_FULL,
+];
+
 pub fn is_of_record(number: u8) -> bool {
-    matches!(
-        number,
-        ALREADY_IN | NOT_IN | WRONG_SLOT | FLOAT_TOO_LONG | NOT_OPPOSITE | HOOK_FULL
-    )
+    RECORD_NUMBERS.contains(&number)
 }
 
 pub const NEEDLES: usize = 250;
@@ -36,6 +46,9 @@ pub const MISS: u8 = 0x06;
 pub const TUCK: u8 = 0x07;
 pub const KNIT: u8 = 0x08;
 pub const SPLIT: u8 = 0x09;
+pub const PLATED_TUCK: u8 = 0x0a;
+pub const PLATED_KNIT: u8 = 0x0b;
+pub const KINDS: RangeInclusive<u8> = RACK..=PLATED_KNIT;
 
 #[derive(Clone, Copy, PartialEq, Eq, Debug)]
 pub enum Bed {
@@ -86,6 +99,13 @@ pub struct CarrierMove {
     pub carrier: usize,
 }
 
+/// Two carriers (by their indices) move over the column of a needle.
+#[derive(Clone, Copy, PartialEq, Eq, Debug)]
+pub struct PlatedMove {
+    pub first: CarrierMove,
+    pub second_carrier: usize,
+}
+
 #[derive(Clone, Copy, PartialEq, Eq, Debug)]
 pub enum Record {
     Rack(i32),
@@ -97,6 +117,8 @@ pub enum Record {
     Tuck(CarrierMove),
     Knit(CarrierMove),
     Split(CarrierMove, Needle),
+    PlatedTuck(PlatedMove),
+    PlatedKnit(PlatedMove),
 }
 
 /// What a run answers; for a refusal the state precedes the refused record.
@@ -202,7 +224,7 @@ pub fn body_length(kind: u8) -> Option<usize> {
         DROP => Some(2),
         XFER => Some(3),
         IN..=KNIT => Some(4),
-        SPLIT => Some(5),
+        SPLIT | PLATED_TUCK | PLATED_KNIT => Some(5),
         _ => None,
     }
 }
@@ -248,6 +270,13 @@ fn read_move(body: &[u8]) -> Option<CarrierMove> {
     })
 }
 
+fn read_plated(body: &[u8]) -> Option<PlatedMove> {
+    Some(PlatedMove {
+        first: read_move(body)?,
+        second_carrier: read_carrier(body[4])?,
+    })
+}
+
 /// The record of a known kind and a whole body, if every field is in range.
 fn read_fields(kind: u8, body: &[u8]) -> Option<Record> {
     match kind {
@@ -268,6 +297,8 @@ fn read_fields(kind: u8, body: &[u8]) -> Option<Record> {
             let second = read_needle(first.needle.bed.other(), body[4])?;
             Some(Record::Split(first, second))
         }
+        PLATED_TUCK => Some(Record::PlatedTuck(read_plated(body)?)),
+        PLATED_KNIT => Some(Record::PlatedKnit(read_plated(body)?)),
         _ => None,
     }
 }
@@ -293,15 +324,32 @@ impl Record {
             Record::Tuck(_) => TUCK,
             Record::Knit(_) => KNIT,
             Record::Split(..) => SPLIT,
+            Record::PlatedTuck(_) => PLATED_TUCK,
+            Record::PlatedKnit(_) => PLATED_KNIT,
         }
     }
 
+    /// The move of the carrier it names, of a plated stitch of the first one.
     pub fn carrier_move(&self) -> Option<CarrierMove> {
         match *self {
             Record::Rack(_) | Record::Drop(_) | Record::Xfer(..) => None,
             Record::In(m) | Record::Out(m) | Record::Miss(m) => Some(m),
             Record::Tuck(m) | Record::Knit(m) | Record::Split(m, _) => Some(m),
+            Record::PlatedTuck(p) | Record::PlatedKnit(p) => Some(p.first),
         }
+    }
+
+    pub fn plated(&self) -> Option<PlatedMove> {
+        match *self {
+            Record::PlatedTuck(p) | Record::PlatedKnit(p) => Some(p),
+            _ => None,
+        }
+    }
+
+    /// The moves of all carriers it names, the first carrier's first.
+    pub fn carrier_moves(&self) -> impl Iterator<Item = CarrierMove> {
+        let second = self.plated().map(|p| p.second());
+        self.carrier_move().into_iter().chain(second)
     }
 
     pub fn first_needle(&self) -> Option<Needle> {
@@ -323,46 +371,67 @@ impl Record {
 
     pub fn forms_loop(&self) -> bool {
         matches!(self, Record::Tuck(_) | Record::Knit(_) | Record::Split(..))
+            || self.plated().is_some()
     }
 }
 
-// Refusals 6 to 11. Each says whether its own reason holds, whatever the others say.
+impl PlatedMove {
+    pub fn second(self) -> CarrierMove {
+        CarrierMove {
+            carrier: self.second_carrier,
+            ..self.first
+        }
+    }
+}
+
+// Refusals 16 and 6 to 11. Each says whether its own reason holds, whatever the others say.
+
+fn yarn_twice(record: &Record) -> bool {
+    record
+        .plated()
+        .is_some_and(|p| p.first.carrier == p.second_carrier)
+}
 
 fn already_in(state: &State, record: &Record) -> bool {
     matches!(record, Record::In(m) if state.carriers[m.carrier].is_some())
 }
 
 fn not_in(state: &State, record: &Record) -> bool {
-    match (record, record.carrier_move()) {
-        (Record::In(_), _) | (_, None) => false,
-        (_, Some(m)) => state.carriers[m.carrier].is_none(),
-    }
+    !matches!(record, Record::In(_)) && record.carrier_moves().any(|m| carrier_not_in(state, m))
+}
+
+pub fn carrier_not_in(state: &State, m: CarrierMove) -> bool {
+    state.carriers[m.carrier].is_none()
 }
 
 fn wrong_slot(state: &State, record: &Record) -> bool {
-    let Some(m) = record.carrier_move() else {
-        return false;
-    };
-    let Some(parked) = state.carriers[m.carrier] else {
-        return false;
-    };
-    let column = state.column(m.needle);
     match record {
         Record::In(_) => false,
-        Record::Out(_) => parked.slot != exit_slot(column, m.direction),
-        _ => parked.slot != entry_slot(column, m.direction),
+        Record::Out(m) => carrier_elsewhere(state, *m, exit_slot),
+        _ => record
+            .carrier_moves()
+            .any(|m| carrier_elsewhere(state, m, entry_slot)),
     }
 }
 
-/// Columns from a carrier's attachment to the needle it works, for records that form a loop.
-pub fn float_columns(state: &State, record: &Record) -> Option<i32> {
-    let m = record.carrier_move().filter(|_| record.forms_loop())?;
+/// Whether a carrier is parked, and not at the wanted slot of the column it moves over.
+pub fn carrier_elsewhere(state: &State, m: CarrierMove, wanted: fn(i32, Direction) -> i32) -> bool {
+    let slot = wanted(state.column(m.needle), m.direction);
+    state.carriers[m.carrier].is_some_and(|parked| parked.slot != slot)
+}
+
+/// Columns from a carrier's attachment to the needle it moves over.
+pub fn float_columns(state: &State, m: CarrierMove) -> Option<i32> {
     let attachment = state.carriers[m.carrier]?.attachment?;
     Some((state.column(attachment.needle) - state.column(m.needle)).abs())
 }
 
+pub fn carrier_too_far(state: &State, m: CarrierMove) -> bool {
+    float_columns(state, m).is_some_and(|columns| columns > FLOAT_LIMIT)
+}
+
 fn float_too_long(state: &State, record: &Record) -> bool {
-    float_columns(state, record).is_some_and(|columns| columns > FLOAT_LIMIT)
+    record.forms_loop() && record.carrier_moves().any(|m| carrier_too_far(state, m))
 }
 
 fn not_opposite(state: &State, record: &Record) -> bool {
@@ -375,6 +444,7 @@ fn not_opposite(state: &State, record: &Record) -> bool {
 fn hook_full(state: &State, record: &Record) -> bool {
     match (record, record.transfer()) {
         (Record::Tuck(m), _) => state.loops(m.needle) + 1 > HOOK_LIMIT,
+        (Record::PlatedTuck(p), _) => state.loops(p.first.needle) + 2 > HOOK_LIMIT,
         (_, Some((first, second))) => state.loops(first) + state.loops(second) > HOOK_LIMIT,
         _ => false,
     }
@@ -382,6 +452,7 @@ fn hook_full(state: &State, record: &Record) -> bool {
 
 pub fn holds(state: &State, record: &Record, number: u8) -> bool {
     match number {
+        YARN_TWICE => yarn_twice(record),
         ALREADY_IN => already_in(state, record),
         NOT_IN => not_in(state, record),
         WRONG_SLOT => wrong_slot(state, record),
@@ -392,12 +463,13 @@ pub fn holds(state: &State, record: &Record, number: u8) -> bool {
     }
 }
 
-/// The lowest number, 6 to 11, that holds.
+/// The first number in the order of looking that holds, of 16 and 6 to 11.
 pub fn refusal(state: &State, record: &Record) -> Option<u8> {
-    (ALREADY_IN..=HOOK_FULL).find(|&number| holds(state, record, number))
+    let mut numbers = RECORD_NUMBERS.into_iter();
+    numbers.find(|&number| holds(state, record, number))
 }
 
-/// The first record of the bytes and its length, or the lowest number, 3 to 11, that holds.
+/// The first record of the bytes and its length, or the first of 3, 4, 5, 16, 6 to 11 that holds.
 pub fn look(state: &State, bytes: &[u8]) -> Result<(Record, usize), u8> {
     let (record, length) = read_record(bytes)?;
     match refusal(state, &record) {
@@ -442,6 +514,11 @@ impl State {
         self.park(m);
         self.attach(m);
     }
+
+    fn plated_stitch(&mut self, p: PlatedMove, count: u8) {
+        self.stitch(p.first, count);
+        self.stitch(p.second(), count);
+    }
 }
 
 /// Makes the step of a record that has no refusal.
@@ -465,6 +542,8 @@ pub fn apply(state: &mut State, record: &Record) {
             state.transfer(m.needle, second);
             state.stitch(m, 1);
         }
+        Record::PlatedTuck(p) => state.plated_stitch(p, state.loops(p.first.needle) + 2),
+        Record::PlatedKnit(p) => state.plated_stitch(p, 2),
     }
 }
 

@@ -1,4 +1,4 @@
-//! Paper 01's pieces that concern the run and the rewriter, with the answers it gives.
+//! Paper 01's pieces for run and rewriter with the answers it gives, and rows for paper 02's W1.
 
 use crate::machine::*;
 use crate::rewrite::*;
@@ -61,6 +61,13 @@ pub fn program_p() -> Vec<u8> {
 }
 
 pub fn pieces() -> Vec<Piece> {
+    let mut pieces = paper_pieces();
+    pieces.extend(plated_pieces());
+    pieces.extend(second_carrier_pieces());
+    pieces
+}
+
+fn paper_pieces() -> Vec<Piece> {
     vec![
         piece("1", vec![], DONE, 0),
         piece("2, rack 08", vec![1, 0x08], DONE, 0),
@@ -89,7 +96,88 @@ pub fn pieces() -> Vec<Piece> {
     ]
 }
 
-/// Whether the model ends P in the state that the paper lists, and completes piece 9's in and out.
+// Plated stitches (W1).
+
+/// A record at a front needle with a carrier.
+fn by(carrier: u8, kind: u8, direction: u8, needle: u8) -> Vec<u8> {
+    vec![kind, direction, 0, needle, carrier]
+}
+
+/// A plated stitch to the right on a front needle.
+fn plated(kind: u8, needle: u8, carriers: [u8; 2]) -> Vec<u8> {
+    vec![kind, 1, 0, needle, carriers[0], carriers[1]]
+}
+
+/// Carriers 3 and 4 before f.10, and a plated knit.
+fn plated_knit() -> Vec<u8> {
+    let knit = plated(PLATED_KNIT, 10, [3, 4]);
+    [by(3, IN, 1, 10), by(4, IN, 1, 10), knit].concat()
+}
+
+/// Tucks on f.10 by carrier 3, then a plated stitch there by carriers 1 and 2.
+fn plated_onto(loops: usize, kind: u8) -> Vec<u8> {
+    let stitch = plated(kind, 10, [1, 2]);
+    [tucks(loops), by(1, IN, 1, 10), by(2, IN, 1, 10), stitch].concat()
+}
+
+/// A tuck on f.10 by carrier 4 and misses up to the column before the needle.
+fn long_float(needle: u8) -> Vec<u8> {
+    let misses = (11..needle).flat_map(|over| by(4, MISS, 1, over));
+    let start = [by(4, IN, 1, 10), by(4, TUCK, 1, 10)].concat();
+    start.into_iter().chain(misses).collect()
+}
+
+/// A plated stitch: done, onto loops, one yarn twice, fields, cut short.
+fn plated_pieces() -> Vec<Piece> {
+    let alone = |carriers| plated(PLATED_KNIT, 10, carriers);
+    let twice = |carriers| [by(3, IN, 1, 10), plated(PLATED_TUCK, 10, carriers)].concat();
+    vec![
+        piece("W1, plated knit", plated_knit(), DONE, 0),
+        piece("W1, tuck onto six", plated_onto(6, PLATED_TUCK), DONE, 0),
+        piece(
+            "W1, tuck onto 7",
+            plated_onto(7, PLATED_TUCK),
+            HOOK_FULL,
+            50,
+        ),
+        piece("W1, knit onto eight", plated_onto(8, PLATED_KNIT), DONE, 0),
+        piece("W1, twice, not in", alone([3, 3]), YARN_TWICE, 0),
+        piece("W1, twice, ready", twice([3, 3]), YARN_TWICE, 5),
+        piece("W1, twice 0", alone([0, 0]), FIELD_RANGE, 0),
+        piece("W1, twice 11", alone([11, 11]), FIELD_RANGE, 0),
+        piece("W1, second 0", twice([3, 0]), FIELD_RANGE, 5),
+        piece("W1, second 11", twice([3, 11]), FIELD_RANGE, 5),
+        piece("W1, cut", alone([3, 3])[..5].to_vec(), CUT_SHORT, 0),
+        piece("W1, kind 0C", vec![12, 1, 0, 10, 3, 4], UNKNOWN_KIND, 0),
+    ]
+}
+
+/// 7, 8 and 9 by the second carrier alone, and by one carrier while the other has a higher number.
+fn second_carrier_pieces() -> Vec<Piece> {
+    let three = by(3, IN, 1, 10);
+    let elsewhere = |carrier| by(carrier, IN, 0, 10);
+    let knit = |needle, carriers| plated(PLATED_KNIT, needle, carriers);
+    let float = |needle, carriers| {
+        let before = by(3, IN, 1, needle);
+        [long_float(needle), before, knit(needle, carriers)].concat()
+    };
+    let not_in = [three.clone(), knit(10, [3, 4])].concat();
+    let slot = [three, elsewhere(4), knit(10, [3, 4])].concat();
+    let first_slot = [elsewhere(3), knit(10, [3, 4])].concat();
+    let far_and_slot = [long_float(31), elsewhere(3), knit(31, [4, 3])].concat();
+    vec![
+        piece("W1, second not in", not_in, NOT_IN, 5),
+        piece("W1, second elsewhere", slot, WRONG_SLOT, 10),
+        piece("W1, second at 20", float(30, [3, 4]), DONE, 0),
+        piece("W1, second at 21", float(31, [3, 4]), FLOAT_TOO_LONG, 115),
+        piece("W1, first at 21", float(31, [4, 3]), FLOAT_TOO_LONG, 115),
+        piece("W1, elsewhere, not in", first_slot, NOT_IN, 5),
+        piece("W1, at 21, elsewhere", far_and_slot, WRONG_SLOT, 115),
+    ]
+}
+
+/// Whether the model ends P in the state that the paper lists and a plated knit with both carriers
+/// attached, and completes piece 9's in and out.
 pub fn states_agree() -> bool {
     let parked = |bed| {
         let needle = Needle { bed, number: 10 };
@@ -106,8 +194,13 @@ pub fn states_agree() -> bool {
     listed.back_loops[10] = 1;
     listed.carriers[2] = parked(Bed::Front);
     listed.carriers[3] = parked(Bed::Back);
+    let mut plated = State::empty();
+    plated.front_loops[10] = 2;
+    plated.carriers[2] = parked(Bed::Front);
+    plated.carriers[3] = parked(Bed::Front);
     let p = run(&program_p());
-    p.state == listed && !p.complete() && run(&in_out()).complete() && run(&[]).complete()
+    let complete = run(&in_out()).complete() && run(&[]).complete();
+    p.state == listed && !p.complete() && complete && run(&plated_knit()).state == plated
 }
 
 // The rewriter's pieces.
@@ -170,11 +263,57 @@ fn tie_pieces() -> Vec<SwapPiece> {
     ]
 }
 
+/// A plated knit by two carriers on a bed's needle 10, another record there, and how a swap ends.
+fn plated_tie(
+    name: &'static str,
+    bed: u8,
+    carriers: [u8; 2],
+    other: [u8; 5],
+    tied: bool,
+) -> SwapPiece {
+    let enter = |carrier| [IN, 1, 0, 10, carrier];
+    let [first, second] = carriers;
+    let mut program = [enter(first), enter(second), enter(other[4])].concat();
+    if second == other[4] {
+        program.truncate(10);
+    }
+    let start = program.len();
+    program.extend([PLATED_KNIT, 1, bed, 10, first, second]);
+    program.extend(other);
+    let swapped = [&program[..start], &other, &program[start..start + 6]].concat();
+    let log = [SWAP, 0, (start / 5) as u8];
+    let (number, output) = if tied {
+        (TIED, &program)
+    } else {
+        (DONE, &swapped)
+    };
+    swap_piece(name, &program, &log, (number, 0), Some(output))
+}
+
+/// Layers of a plated stitch at their edges on both beds, and its second carrier.
+fn plated_tie_pieces() -> Vec<SwapPiece> {
+    let back = |carrier| [KNIT, 1, 1, 10, carrier];
+    let front = |carrier| [KNIT, 1, 0, 10, carrier];
+    let onward = [MISS, 1, 0, 11, 5];
+    vec![
+        plated_tie("W1, front 2 5, back 6", 0, [2, 5], back(6), false),
+        plated_tie("W1, front 5 2, back 6", 0, [5, 2], back(6), false),
+        plated_tie("W1, front 2 5, back 4", 0, [2, 5], back(4), true),
+        plated_tie("W1, front 5 2, back 4", 0, [5, 2], back(4), true),
+        plated_tie("W1, back 5 8, front 4", 1, [5, 8], front(4), false),
+        plated_tie("W1, back 8 5, front 4", 1, [8, 5], front(4), false),
+        plated_tie("W1, back 5 8, front 6", 1, [5, 8], front(6), true),
+        plated_tie("W1, back 8 5, front 6", 1, [8, 5], front(6), true),
+        plated_tie("W1, second carrier", 0, [2, 5], onward, true),
+    ]
+}
+
 pub fn swap_pieces() -> Vec<SwapPiece> {
     let p = program_p();
     let (two, three) = ([SWAP, 0, 2], [SWAP, 0, 3]);
     let torn = [SWAP, 0, 2, SWAP];
     let mut pieces = tie_pieces();
+    pieces.extend(plated_tie_pieces());
     pieces.extend([
         swap_piece("1, empty program", &[], &[], (DONE, 0), Some(&[])),
         swap_piece("1, empty log", &p, &[], (DONE, 0), Some(&p)),

@@ -1,4 +1,4 @@
-//! The rewriter of paper 01: extents, ties, the log's swaps, and what it leaves in the lent areas.
+//! The rewriter of papers 01 and 02: extents, ties, the log's swaps, what it leaves in its loans.
 
 use crate::machine::*;
 use std::ops::RangeInclusive;
@@ -52,11 +52,21 @@ fn layers(record: &Record) -> Option<RangeInclusive<i32>> {
         },
         Record::Xfer(..) | Record::Split(..) => FRONT_LAYER..=BACK_LAYER,
         Record::In(m) | Record::Out(m) | Record::Miss(m) => carrier_layer(m)..=carrier_layer(m),
-        Record::Tuck(m) | Record::Knit(m) => match m.needle.bed {
-            Bed::Front => FRONT_LAYER..=carrier_layer(m),
-            Bed::Back => carrier_layer(m)..=BACK_LAYER,
-        },
+        Record::Tuck(m) | Record::Knit(m) => stitch_layers(m.needle.bed, &[carrier_layer(m)]),
+        Record::PlatedTuck(p) | Record::PlatedKnit(p) => {
+            let carriers = [carrier_layer(p.first), carrier_layer(p.second())];
+            stitch_layers(p.first.needle.bed, &carriers)
+        }
     })
+}
+
+/// From the bed's layer over the layers of all carriers.
+fn stitch_layers(bed: Bed, carriers: &[i32]) -> RangeInclusive<i32> {
+    let carriers = carriers.iter().copied();
+    match bed {
+        Bed::Front => FRONT_LAYER..=carriers.fold(FRONT_LAYER, i32::max),
+        Bed::Back => carriers.fold(BACK_LAYER, i32::min)..=BACK_LAYER,
+    }
 }
 
 /// The extent at a racking; a rack has none.
@@ -73,10 +83,12 @@ pub fn extent(record: &Record, racking: i32) -> Option<Extent> {
 }
 
 pub fn name_one_carrier(first: &Record, second: &Record) -> bool {
-    match (first.carrier_move(), second.carrier_move()) {
-        (Some(a), Some(b)) => a.carrier == b.carrier,
-        _ => false,
-    }
+    let names = |m: CarrierMove| {
+        second
+            .carrier_moves()
+            .any(|other| other.carrier == m.carrier)
+    };
+    first.carrier_moves().any(names)
 }
 
 /// Whether extents alone tie two records; a rack has no extent and is tied to all.

@@ -80,7 +80,7 @@ fn pieces() {
 
 // Further refusals of a program.
 fn refusals() {
-    case(b"kind_0a");
+    case(b"kind_0c");
     case(b"cut_split");
     case(b"cut_before_field");
     case(b"direction_02");
@@ -140,6 +140,45 @@ fn ties() {
     case(b"equal_records");
 }
 
+// Plated stitches of document 02, W1: done and refused.
+fn plated() {
+    case(b"plated_knit");
+    case(b"plated_knit_left");
+    case(b"plated_onto_six");
+    case(b"plated_onto_seven");
+    case(b"plated_xfer");
+    case(b"plated_float_20");
+    case(b"second_not_in");
+    case(b"second_elsewhere");
+    case(b"second_float_21");
+    case(b"elsewhere_and_not_in");
+    case(b"float_and_elsewhere");
+    case(b"yarn_twice");
+    case(b"yarn_twice_ready");
+    case(b"carriers_00");
+    case(b"carriers_0b");
+    case(b"twice_at_needle_250");
+    case(b"second_00");
+    case(b"second_0b");
+    case(b"cut_plated");
+    case(b"cut_plated_kind");
+}
+
+// Swaps made and refused, by a plated stitch.
+fn plated_ties() {
+    case(b"plated_front_free");
+    case(b"plated_front_tied");
+    case(b"plated_front_turned");
+    case(b"plated_back_free");
+    case(b"plated_back_tied");
+    case(b"plated_back_turned");
+    case(b"plated_drop_back");
+    case(b"plated_drop_front");
+    case(b"second_carrier");
+    case(b"second_then_first");
+    case(b"plated_pair");
+}
+
 fn main() {
     files();
     pieces();
@@ -147,4 +186,6 @@ fn main() {
     states();
     swaps();
     ties();
+    plated();
+    plated_ties();
 }

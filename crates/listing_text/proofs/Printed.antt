@@ -14,7 +14,7 @@ use Rattle.machine.specs.Geometry.{eqZ, columnOf, entryOf, exitOf, sameColumn, 
 use Rattle.record.specs.Kinds.{byKind}
 use Rattle.record.specs.Format.{decodeOf, readOf, fieldsOk, recordFrom, refusedAs, rackOk, needleOk, workOk, signedOf}
 use Rattle.record.specs.Names.{needlesOf, carriersOf}
-use Rattle.run.specs.Step.{lookOf, seeOf, parkedNo, floatNo, carrierNo, oppositeNo, firstAfter, secondAfter, roomNo, decidedNo, edit, actOf, acted, moveAttachments, numberAt, applyOf}
+use Rattle.run.specs.Step.{lookOf, seeOf, twiceNo, parkedNo, floatNo, carrierNo, oppositeNo, firstAfter, secondAfter, roomNo, decidedNo, edit, actOf, acted, moveAttachments, numberAt, applyOf}
 use Rattle.run.specs.Run.{stepOf, turn, runFrom, answerOf, runOf}
 use Rattle.rewrite.specs.Extents.{halfColumn, layerOf, extentOf, meets, member, common}
 use Rattle.rewrite.specs.Programs.{cut, startsOf, sameBytes, recordsOf}
@@ -54,7 +54,7 @@ each (r ∷ l) e = (
 )
 
 computed : (output work : List ℕ) → every output work listings ≡ true
-unfolding test bytesIn text digitsOf letterOf signOf flagOf lines hookLine attachmentOf carrierLine programLine bedsOf stateOf shownOf listingOf writes replayFrom cut startsOf sameBytes halfColumn layerOf extentOf meets member common byKind runOf runFrom turn stepOf answerOf emptyState completeOf all inactiveCarrier movedTo attachedAt sameNeedle eqZ columnOf entryOf exitOf sameColumn withinFloat decodeOf readOf fieldsOk recordFrom refusedAs rackOk needleOk workOk signedOf needlesOf carriersOf lookOf seeOf parkedNo floatNo carrierNo oppositeNo firstAfter secondAfter roomNo decidedNo edit actOf acted moveAttachments numberAt applyOf
+unfolding test bytesIn text digitsOf letterOf signOf flagOf lines hookLine attachmentOf carrierLine programLine bedsOf stateOf shownOf listingOf writes replayFrom cut startsOf sameBytes halfColumn layerOf extentOf meets member common byKind runOf runFrom turn stepOf answerOf emptyState completeOf all inactiveCarrier movedTo attachedAt sameNeedle eqZ columnOf entryOf exitOf sameColumn withinFloat decodeOf readOf fieldsOk recordFrom refusedAs rackOk needleOk workOk signedOf needlesOf carriersOf lookOf seeOf twiceNo parkedNo floatNo carrierNo oppositeNo firstAfter secondAfter roomNo decidedNo edit actOf acted moveAttachments numberAt applyOf
 computed output work = refl
 
 pub listings-printed : ListingsPrinted

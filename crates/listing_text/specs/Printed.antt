@@ -77,6 +77,10 @@ listings =
     ∷ listing ((0x01 ∷ 0x09 ∷ []) ∷ []) [] ("5 0 1" ∷ "r 0" ∷ "p" ∷ [])
     ∷ listing (work 4 1 0 10 3 ∷ work 8 0 0 10 3 ∷ []) [] ("8 5 0" ∷ "r 0" ∷ "c 3 10 none" ∷ "p" ∷ [])
     ∷ listing (work 4 1 0 10 1 ∷ tucks (tucks (tucks (tucks (work 7 1 0 10 1 ∷ []))))) [] ("11 45 0" ∷ "r 0" ∷ "f 10 8" ∷ "c 1 10 f 10 -" ∷ "p" ∷ [])
+    -- 02, W1: a plated knit; and after 16, the same with one yarn twice
+    ∷ listing (work 4 1 0 10 3 ∷ work 4 1 0 10 4 ∷ (0x0b ∷ 0x01 ∷ 0x00 ∷ 0x0a ∷ 0x03 ∷ 0x04 ∷ []) ∷ []) []
+    ("0 0 0" ∷ "r 0" ∷ "f 10 2" ∷ "c 3 11 f 10 +" ∷ "c 4 11 f 10 +" ∷ "p 0401000a030401000a040b01000a0304" ∷ [])
+    ∷ listing (work 4 1 0 10 3 ∷ work 4 1 0 10 4 ∷ (0x0b ∷ 0x01 ∷ 0x00 ∷ 0x0a ∷ 0x03 ∷ 0x03 ∷ []) ∷ []) [] ("16 10 0" ∷ "r 0" ∷ "c 3 10 none" ∷ "c 4 10 none" ∷ "p" ∷ [])
     -- a program that leaves the empty state, and the other hexadecimal digits: drop f.249, f.188, f.222, f.103
     ∷ listing ((0x02 ∷ 0x00 ∷ 0xf9 ∷ []) ∷ (0x02 ∷ 0x00 ∷ 0xbc ∷ []) ∷ (0x02 ∷ 0x00 ∷ 0xde ∷ []) ∷ (0x02 ∷ 0x00 ∷ 0x67 ∷ []) ∷ []) []
     ("0 0 1" ∷ "r 0" ∷ "p 0200f90200bc0200de020067" ∷ [])
@@ -110,7 +114,7 @@ ListsPRead =
 abbrev pub ListingsPrinted : Type 0
 ListingsPrinted = Each Printed listings
 
--- '"p" alone after 1 to 11 and for an empty program': after a number that writes nothing, the listing of no bytes
+-- '"p" alone after 1 to 11 and for an empty program', and so after 16 (02, W1: 'handled like' 5): after a number that writes nothing, the listing of no bytes
 abbrev pub PAloneRefused : Type 0
 PAloneRefused =
     (program log output work : List ℕ) → let w = rewriteOf program log output work in

@@ -30,3 +30,5 @@ pub const TIED: u8 = 13;
 pub const TORN_LOG: u8 = 14;
 // foul state
 pub const BAD_STATE: u8 = 15;
+// one yarn twice
+pub const YARN_TWICE: u8 = 16;

@@ -16,7 +16,7 @@ use Rattle.machine.specs.Geometry.{eqZ, columnOf, entryOf, exitOf, sameColumn, 
 use Rattle.record.specs.Kinds.{byKind}
 use Rattle.record.specs.Format.{decodeOf, readOf, fieldsOk, recordFrom, refusedAs, rackOk, needleOk, workOk, signedOf}
 use Rattle.record.specs.Names.{needlesOf, carriersOf}
-use Rattle.run.specs.Step.{lookOf, seeOf, parkedNo, floatNo, carrierNo, oppositeNo, firstAfter, secondAfter, roomNo, decidedNo, edit, actOf, acted, moveAttachments, numberAt, applyOf}
+use Rattle.run.specs.Step.{lookOf, seeOf, twiceNo, parkedNo, floatNo, carrierNo, oppositeNo, firstAfter, secondAfter, roomNo, decidedNo, edit, actOf, acted, moveAttachments, numberAt, applyOf}
 use Rattle.run.specs.declared.Answer.{Answer}
 use Rattle.run.specs.Run.{stepOf, turn, runFrom, answerOf, runOf}
 use Rattle.trace.specs.Records.{tied}
@@ -125,11 +125,11 @@ pair-says r e =
 
 -- the tests, computed: rows, swaps and ties apart, since a declaration is checked in fifty million steps at most
 rows-computed : every rowTest rows ≡ true
-unfolding rowTest saysTest stateTest hooksTest carriersTest sameBool sameCarrier runOf runFrom turn stepOf answerOf emptyState completeOf all inactiveCarrier movedTo attachedAt sameNeedle eqZ columnOf entryOf exitOf sameColumn withinFloat decodeOf readOf fieldsOk recordFrom refusedAs rackOk needleOk workOk signedOf needlesOf carriersOf lookOf seeOf parkedNo floatNo carrierNo oppositeNo firstAfter secondAfter roomNo decidedNo edit actOf acted moveAttachments numberAt applyOf byKind
+unfolding rowTest saysTest stateTest hooksTest carriersTest sameBool sameCarrier runOf runFrom turn stepOf answerOf emptyState completeOf all inactiveCarrier movedTo attachedAt sameNeedle eqZ columnOf entryOf exitOf sameColumn withinFloat decodeOf readOf fieldsOk recordFrom refusedAs rackOk needleOk workOk signedOf needlesOf carriersOf lookOf seeOf twiceNo parkedNo floatNo carrierNo oppositeNo firstAfter secondAfter roomNo decidedNo edit actOf acted moveAttachments numberAt applyOf byKind
 rows-computed = refl
 
 swaps-computed : every swapTest swaps ≡ true
-unfolding swapTest saysTest rewriteOf lentNo replayFrom cut startsOf sameBytes halfColumn layerOf extentOf meets member common byKind stateTest hooksTest carriersTest sameBool sameCarrier runOf runFrom turn stepOf answerOf emptyState completeOf all inactiveCarrier movedTo attachedAt sameNeedle eqZ columnOf entryOf exitOf sameColumn withinFloat decodeOf readOf fieldsOk recordFrom refusedAs rackOk needleOk workOk signedOf needlesOf carriersOf lookOf seeOf parkedNo floatNo carrierNo oppositeNo firstAfter secondAfter roomNo decidedNo edit actOf acted moveAttachments numberAt applyOf
+unfolding swapTest saysTest rewriteOf lentNo replayFrom cut startsOf sameBytes halfColumn layerOf extentOf meets member common byKind stateTest hooksTest carriersTest sameBool sameCarrier runOf runFrom turn stepOf answerOf emptyState completeOf all inactiveCarrier movedTo attachedAt sameNeedle eqZ columnOf entryOf exitOf sameColumn withinFloat decodeOf readOf fieldsOk recordFrom refusedAs rackOk needleOk workOk signedOf needlesOf carriersOf lookOf seeOf twiceNo parkedNo floatNo carrierNo oppositeNo firstAfter secondAfter roomNo decidedNo edit actOf acted moveAttachments numberAt applyOf
 swaps-computed = refl
 
 ties-computed : (every pairTest pairs && every pairTest edges) ≡ true

@@ -1,4 +1,4 @@
--- Ties (document 01, 'Extents and ties'): pairs of records; and what a record of each kind covers, each of its edges seen by a probe that just meets it and by one
+-- Ties (document 01, 'Extents and ties'; 02, W1): pairs of records; and what a record of each kind covers, each of its edges seen by a probe that just meets it and by one
 -- that just does not.
 use Prim.Native.Nat.{ℕ}
 use mathlib.Core.Bool.{Bool, true, false, _&&_, cond}
@@ -6,7 +6,7 @@ use mathlib.Core.List.{List, [], _∷_, _++_, map}
 use lib.IntN.{ℤ, pos, negsuc}
 use lib.Dec.{eqb, leb}
 use Rattle.machine.specs.declared.Needle.{Needle}
-use Rattle.pieces.specs.Spelled.{f, b, left, right, rack, drop, xfer, bring-in, take-out, miss, tuck, knit, split}
+use Rattle.pieces.specs.Spelled.{f, b, left, right, rack, drop, xfer, bring-in, take-out, miss, tuck, knit, split, plated-tuck, plated-knit}
 
 -- two records at a racking in force, and whether they are tied, in either order
 pub record Pair : Type 0 where
@@ -30,6 +30,20 @@ pairs =
     -- one carrier, however far apart, and two
     ∷ pair (negsuc 7) (knit right (f 249) 10) (miss left (b 0) 10) true
     ∷ pair (negsuc 7) (knit right (f 249) 10) (miss left (b 0) 9) false
+    -- 'sharing either carrier ties': a plated stitch, however far apart, through its first, through its second alone, through neither
+    ∷ pair (negsuc 7) (plated-knit right (f 249) 10 3) (miss left (b 0) 10) true
+    ∷ pair (negsuc 7) (plated-knit right (f 249) 3 10) (miss left (b 0) 10) true
+    ∷ pair (negsuc 7) (plated-tuck right (f 249) 3 10) (miss left (b 0) 10) true
+    ∷ pair (negsuc 7) (plated-knit right (f 249) 3 10) (miss left (b 0) 9) false
+    -- two plated stitches: first and first, first and second, second and second, none
+    ∷ pair (pos 0) (plated-knit right (f 10) 3 4) (plated-tuck left (b 200) 3 5) true
+    ∷ pair (pos 0) (plated-knit right (f 10) 3 4) (plated-tuck left (b 200) 5 3) true
+    ∷ pair (pos 0) (plated-knit right (f 10) 3 4) (plated-tuck left (b 200) 4 5) true
+    ∷ pair (pos 0) (plated-knit right (f 10) 3 4) (plated-tuck left (b 200) 5 4) true
+    ∷ pair (pos 0) (plated-knit right (f 10) 3 4) (plated-tuck left (b 200) 5 6) false
+    -- a split's last byte is a needle and no carrier
+    ∷ pair (pos 0) (split right (f 10) 3 4) (miss left (b 200) 4) false
+    ∷ pair (pos 0) (split right (f 10) 3 4) (plated-knit left (b 200) 5 4) false
     -- either is a rack, though it set the racking that is in force
     ∷ pair (pos 2) (rack 2) (drop (f 249)) true
     ∷ pair (pos 0) (rack 0) (rack 0) true
@@ -115,12 +129,21 @@ on-front k = broad (λ n. tuck left n k) 0 k ∷ broad (λ n. knit left n k) 0 k
 abbrev on-back : ℕ → List Cover
 on-back k = broad (λ n. tuck left n k) k 11 ∷ broad (λ n. knit left n k) k 11 ∷ on-carrier k
 
--- 'A drop covers 2z on its bed's layer. An xfer covers 2z on layers 0 to 11'; the rest with each of some carriers
-abbrev covers : List ℕ → Needle → List Cover
-covers ks n =
+-- plated, with the smaller and the greater carrier, either one first: 'On the front the layers run from 0 to the greater carrier, on the back from the smaller to 11'
+abbrev plated : ℕ → ℕ → ℕ → ℕ → List Cover
+plated k j low high =
+    broad (λ n. plated-tuck left n k j) low high
+    ∷ broad (λ n. plated-tuck left n j k) low high
+    ∷ broad (λ n. plated-knit left n k j) low high
+    ∷ broad (λ n. plated-knit left n j k) low high
+    ∷ []
+
+-- 'A drop covers 2z on its bed's layer. An xfer covers 2z on layers 0 to 11'; the rest with each of some carriers, and of some pairs
+abbrev covers : List ℕ → List (ℕ × ℕ) → Needle → List Cover
+covers ks ps n =
     cond (eqb (n .0) 0)
-    (narrow drop 0 0 ∷ narrow (λ m. xfer m 200) 0 11 ∷ forEach ks on-front)
-    (narrow drop 11 11 ∷ narrow (λ m. xfer m 200) 0 11 ∷ forEach ks on-back)
+    (narrow drop 0 0 ∷ narrow (λ m. xfer m 200) 0 11 ∷ forEach ks on-front ++ forEach ps (λ p. plated (p .0) (p .1) 0 (p .1)))
+    (narrow drop 11 11 ∷ narrow (λ m. xfer m 200) 0 11 ∷ forEach ks on-back ++ forEach ps (λ p. plated (p .0) (p .1) (p .0) 11))
 
 -- ---- probes: records at needles, each with the half column or the layer that it sees
 abbrev seeing : ℕ → (Needle → List ℕ) → List Needle → List (ℕ × List ℕ)
@@ -158,9 +181,9 @@ edgesOf s n c =
     probed (s .racking) (c .made n) (c .left) (c .right) (half-columns s)
     ++ probed (s .racking) (c .made n) (c .low) (c .high) (layers s n)
 
-abbrev edgesAt : List ℕ → Spot → List Pair
-edgesAt ks s = forEach (s .here) (λ n. forEach (covers ks n) (edgesOf s n))
+abbrev edgesAt : List ℕ → List (ℕ × ℕ) → Spot → List Pair
+edgesAt ks ps s = forEach (s .here) (λ n. forEach (covers ks ps n) (edgesOf s n))
 
--- with carriers 1, 5 and 10; in the outer columns with 5
+-- with carriers 1, 5 and 10, with 3 and 5, with 1 and 10; in the outer columns with 5, with 3 and 5
 abbrev pub edges : List Pair
-edges = forEach middle (edgesAt (1 ∷ 5 ∷ 10 ∷ [])) ++ forEach outer (edgesAt (5 ∷ []))
+edges = forEach middle (edgesAt (1 ∷ 5 ∷ 10 ∷ []) ((3, 5) ∷ (1, 10) ∷ [])) ++ forEach outer (edgesAt (5 ∷ []) ((3, 5) ∷ []))

@@ -12,10 +12,10 @@ use Rattle.trace.specs.Lists.{Nth}
 use Rattle.trace.specs.Order.{stretch, tiedIn}
 use Rattle.rewrite.specs.Programs.{flat, recordsOf, sameBytes, knitting, Named, needle, carrier, historyOf}
 use Rattle.rewrite.specs.Rewrite.{rackingZero}
-use Rattle.pieces.specs.Spelled.{f, b, left, right, rack, drop, xfer, bring-in, take-out, miss, tuck, knit, split}
+use Rattle.pieces.specs.Spelled.{f, b, left, right, rack, drop, xfer, bring-in, take-out, miss, tuck, knit, split, plated-tuck, plated-knit}
 use Rattle.pieces.specs.Rows.{on-left, on-right}
 
--- a program of three stretches: needles f.10, b.10 and f.12, carriers 3 and 4
+-- a program of three stretches: needles f.10, b.10 and f.12, carriers 3 to 5
 abbrev pub listed : List (List ℕ)
 listed =
     bring-in right (f 10) 3
@@ -32,20 +32,25 @@ listed =
     ∷ drop (b 10)
     ∷ bring-in left (f 10) 4
     ∷ take-out left (f 10) 3
+    ∷ bring-in left (f 10) 5
+    ∷ plated-knit left (f 10) 4 5
+    ∷ plated-tuck right (f 10) 5 4
     ∷ []
 
 abbrev pub program : List ℕ
 program = flat listed
 
--- 'A needle's history is the list of drop, xfer, tuck, knit and split records naming it', first or second; 'a carrier's is the list of all records naming it'
+-- 'A needle's history is the list of drop, xfer, tuck, knit and split records naming it', first or second; 'a carrier's is the list of all records naming it'.
+-- A plated stitch enters its needle's and both its carriers'
 abbrev pub histories : List (Named × List (List ℕ))
 histories =
-    (needle (f 10), tuck left (f 10) 3 ∷ xfer (f 10) 10 ∷ knit right (f 10) 3 ∷ split left (f 10) 3 10 ∷ [])
+    (needle (f 10), tuck left (f 10) 3 ∷ xfer (f 10) 10 ∷ knit right (f 10) 3 ∷ split left (f 10) 3 10 ∷ plated-knit left (f 10) 4 5 ∷ plated-tuck right (f 10) 5 4 ∷ [])
     ∷ (needle (b 10), drop (b 10) ∷ xfer (f 10) 10 ∷ drop (b 10) ∷ split left (f 10) 3 10 ∷ drop (b 10) ∷ [])
     ∷ (needle (f 12), drop (f 12) ∷ [])
     ∷ (needle (f 3), [])
     ∷ (carrier 3, bring-in right (f 10) 3 ∷ miss right (f 10) 3 ∷ tuck left (f 10) 3 ∷ knit right (f 10) 3 ∷ split left (f 10) 3 10 ∷ take-out left (f 10) 3 ∷ [])
-    ∷ (carrier 4, bring-in left (f 10) 4 ∷ [])
+    ∷ (carrier 4, bring-in left (f 10) 4 ∷ plated-knit left (f 10) 4 5 ∷ plated-tuck right (f 10) 5 4 ∷ [])
+    ∷ (carrier 5, bring-in left (f 10) 5 ∷ plated-knit left (f 10) 4 5 ∷ plated-tuck right (f 10) 5 4 ∷ [])
     ∷ (carrier 10, [])
     ∷ []
 
@@ -54,7 +59,7 @@ abbrev pub stretches : List (ℕ × List (List ℕ))
 stretches =
     (0, bring-in right (f 10) 3 ∷ miss right (f 10) 3 ∷ tuck left (f 10) 3 ∷ drop (b 10) ∷ xfer (f 10) 10 ∷ [])
     ∷ (1, knit right (f 10) 3 ∷ drop (b 10) ∷ drop (f 12) ∷ [])
-    ∷ (2, split left (f 10) 3 10 ∷ drop (b 10) ∷ bring-in left (f 10) 4 ∷ take-out left (f 10) 3 ∷ [])
+    ∷ (2, split left (f 10) 3 10 ∷ drop (b 10) ∷ bring-in left (f 10) 4 ∷ take-out left (f 10) 3 ∷ bring-in left (f 10) 5 ∷ plated-knit left (f 10) 4 5 ∷ plated-tuck right (f 10) 5 4 ∷ [])
     ∷ (3, [])
     ∷ []
 
@@ -85,6 +90,11 @@ tie-places =
     ∷ places 5 9 (rack 2) (rack 0) true
     ∷ places 0 13 (bring-in right (f 10) 3) (take-out left (f 10) 3) true
     ∷ places 0 12 (bring-in right (f 10) 3) (bring-in left (f 10) 4) false
+    -- a plated stitch through either of its carriers
+    ∷ places 12 15 (bring-in left (f 10) 4) (plated-knit left (f 10) 4 5) true
+    ∷ places 14 15 (bring-in left (f 10) 5) (plated-knit left (f 10) 4 5) true
+    ∷ places 15 16 (plated-knit left (f 10) 4 5) (plated-tuck right (f 10) 5 4) true
+    ∷ places 0 15 (bring-in right (f 10) 3) (plated-knit left (f 10) 4 5) false
     ∷ []
 
 -- 'a record is known by its bytes and by how many equal ones stand before it in the program': which, how many, its position

@@ -54,4 +54,4 @@ pub record Ties (r : Pair) : Type 0 where
 
 -- the one theorem; the edges are listed by a function: that many
 abbrev pub PiecesHold : Type 0
-PiecesHold = Each Holds rows × Each Rewrites swaps × Each Ties pairs × Each Ties edges × (length edges ≡ 4440) × OrdersHold
+PiecesHold = Each Holds rows × Each Rewrites swaps × Each Ties pairs × Each Ties edges × (length edges ≡ 6308) × OrdersHold

@@ -7,7 +7,7 @@ use lib.ListN.{length, replicate}
 use Rattle.machine.specs.declared.Needle.{Needle}
 use Rattle.machine.specs.declared.Carrier.{Carrier}
 use Rattle.machine.specs.Machine.{inactive}
-use Rattle.pieces.specs.Spelled.{f, b, left, right, rack, drop, xfer, bring-in, take-out, miss, tuck, knit, split}
+use Rattle.pieces.specs.Spelled.{f, b, left, right, rack, drop, xfer, bring-in, take-out, miss, tuck, knit, split, plated-tuck, plated-knit}
 
 -- what an answer says: number, place, complete; of the state its racking, some needles with their loops, some carriers
 pub record Expected : Type 0 where
@@ -245,7 +245,8 @@ refusals =
     row (replicate 32769 0) 1 0
     ∷ row (replicate 32768 0) 3 0
     -- 3: also behind a record; before 4
-    ∷ row (10 ∷ []) 3 0
+    ∷ row (12 ∷ []) 3 0
+    ∷ row (12 ∷ 1 ∷ 0 ∷ 10 ∷ 3 ∷ 4 ∷ []) 3 0
     ∷ row (255 ∷ 0 ∷ 0 ∷ 0 ∷ 0 ∷ 0 ∷ []) 3 0
     ∷ knitted (in-3 ++ (0 ∷ [])) 3 5 [] ((3, unattached 10) ∷ [])
     -- 4: each kind without its last byte; before 5
@@ -306,7 +307,7 @@ refusals =
     ((3, on-right 11 (b 10)) ∷ [])
     ∷ []
 
--- 5 for each field of direction, bed, needle and carrier, by the kind; a split has a byte more
+-- 5 for each field of direction, bed, needle and carrier, by the kind; a split or a plated stitch has a byte more
 abbrev outside : ℕ → List ℕ → List Row
 outside kind more =
     row (kind ∷ 2 ∷ 0 ∷ 10 ∷ 3 ∷ more) 5 0
@@ -331,8 +332,79 @@ fields =
     ∷ row (split right (b 249) 3 249) 7 0
     ∷ (outside 4 [] ++ outside 5 [] ++ outside 6 [] ++ outside 7 [] ++ outside 8 [] ++ outside 9 (10 ∷ []))
 
+-- ---- plated stitches (02, W1): carriers 3 and 4 parked at slot 10
+abbrev both-in : List ℕ
+both-in = in-3 ++ bring-in right (f 10) 4
+
+abbrev plated : List Row
+plated =
+    -- a plated knit leaves 2 loops, over none, over eight and from the back bed; 'both leave at the exit slot, attached'
+    knitted (both-in ++ plated-knit right (f 10) 3 4) 0 0 ((f 10, 2) ∷ []) ((3, on-right 11 (f 10)) ∷ (4, on-right 11 (f 10)) ∷ (5, inactive) ∷ [])
+    ∷ knitted (both-in ++ tucks (f 10) 3 ++ tucks (f 10) 3 ++ plated-knit right (f 10) 4 3) 0 0 ((f 10, 2) ∷ []) ((3, on-right 11 (f 10)) ∷ (4, on-right 11 (f 10)) ∷ [])
+    ∷ knitted (bring-in left (b 10) 3 ++ bring-in left (b 10) 4 ++ plated-knit left (b 10) 3 4) 0 0 ((b 10, 2) ∷ (f 10, 0) ∷ []) ((3, on-left 10 (b 10)) ∷ (4, on-left 10 (b 10)) ∷ [])
+    -- a plated tuck adds 2, onto none, one and six; onto seven it gets 11
+    ∷ knitted (both-in ++ plated-tuck right (f 10) 3 4) 0 0 ((f 10, 2) ∷ []) ((3, on-right 11 (f 10)) ∷ (4, on-right 11 (f 10)) ∷ [])
+    ∷ knitted (bring-in right (f 10) 5 ++ tuck right (f 10) 5 ++ both-in ++ plated-tuck right (f 10) 3 4) 0 0 ((f 10, 3) ∷ [])
+    ((3, on-right 11 (f 10)) ∷ (4, on-right 11 (f 10)) ∷ (5, on-right 11 (f 10)) ∷ [])
+    ∷ knitted (both-in ++ tucks (f 10) 3 ++ tuck right (f 10) 3 ++ tuck left (f 10) 3 ++ plated-tuck right (f 10) 3 4) 0 0 ((f 10, 8) ∷ [])
+    ((3, on-right 11 (f 10)) ∷ (4, on-right 11 (f 10)) ∷ [])
+    ∷ knitted (in-3 ++ bring-in left (f 10) 4 ++ tucks (f 10) 3 ++ tuck right (f 10) 3 ++ tuck left (f 10) 3 ++ tuck right (f 10) 3 ++ plated-tuck left (f 10) 3 4) 11 45 ((f 10, 7) ∷ [])
+    ((3, on-right 11 (f 10)) ∷ (4, unattached 11) ∷ [])
+    -- at racking 2; at the last needle with the first and the last carrier; an xfer takes both attachments along
+    ∷ racked (rack 2 ++ bring-in right (b 10) 3 ++ bring-in right (b 10) 4 ++ plated-tuck right (b 10) 3 4) 0 0 (pos 2) ((b 10, 2) ∷ []) ((3, on-right 13 (b 10)) ∷ (4, on-right 13 (b 10)) ∷ [])
+    ∷ knitted (bring-in right (f 249) 1 ++ bring-in right (f 249) 10 ++ plated-knit right (f 249) 10 1) 0 0 ((f 249, 2) ∷ []) ((1, on-right 250 (f 249)) ∷ (10, on-right 250 (f 249)) ∷ [])
+    ∷ knitted (both-in ++ plated-knit right (f 10) 3 4 ++ xfer (f 10) 10) 0 0 ((f 10, 0) ∷ (b 10, 2) ∷ []) ((3, on-right 11 (b 10)) ∷ (4, on-right 11 (b 10)) ∷ [])
+    -- 9 by either carrier alone, at 21 columns; at 20 it passes
+    ∷ knitted (led-20 ++ bring-in right (f 30) 4 ++ plated-knit right (f 30) 3 4) 0 0 ((f 30, 2) ∷ []) ((3, on-right 31 (f 30)) ∷ (4, on-right 31 (f 30)) ∷ [])
+    ∷ knitted (led-20 ++ bring-in right (f 30) 4 ++ plated-tuck right (f 30) 4 3) 0 0 ((f 30, 2) ∷ []) ((3, on-right 31 (f 30)) ∷ (4, on-right 31 (f 30)) ∷ [])
+    ∷ knitted (led-21 ++ bring-in right (f 31) 4 ++ plated-knit right (f 31) 3 4) 9 115 ((f 31, 0) ∷ []) ((3, on-right 31 (f 10)) ∷ (4, unattached 31) ∷ [])
+    ∷ knitted (led-21 ++ bring-in right (f 31) 4 ++ plated-knit right (f 31) 4 3) 9 115 ((f 31, 0) ∷ []) ((3, on-right 31 (f 10)) ∷ (4, unattached 31) ∷ [])
+    ∷ knitted (led-21 ++ bring-in right (f 31) 4 ++ plated-tuck right (f 31) 4 3) 9 115 ((f 31, 0) ∷ []) ((3, on-right 31 (f 10)) ∷ (4, unattached 31) ∷ [])
+    -- 7 by either alone
+    ∷ knitted (in-3 ++ plated-knit right (f 10) 3 4) 7 5 ((f 10, 0) ∷ []) ((3, unattached 10) ∷ (4, inactive) ∷ [])
+    ∷ knitted (in-3 ++ plated-knit right (f 10) 4 3) 7 5 ((f 10, 0) ∷ []) ((3, unattached 10) ∷ (4, inactive) ∷ [])
+    ∷ knitted (in-3 ++ plated-tuck right (f 10) 3 4) 7 5 ((f 10, 0) ∷ []) ((3, unattached 10) ∷ (4, inactive) ∷ [])
+    -- 8 by either alone: one column off, and at the exit slot
+    ∷ knitted (in-3 ++ bring-in right (f 11) 4 ++ plated-knit right (f 10) 3 4) 8 10 ((f 10, 0) ∷ []) ((3, unattached 10) ∷ (4, unattached 11) ∷ [])
+    ∷ knitted (in-3 ++ bring-in right (f 11) 4 ++ plated-knit right (f 10) 4 3) 8 10 ((f 10, 0) ∷ []) ((3, unattached 10) ∷ (4, unattached 11) ∷ [])
+    ∷ knitted (in-3 ++ bring-in right (f 11) 4 ++ plated-tuck left (f 10) 4 3) 8 10 ((f 10, 0) ∷ []) ((3, unattached 10) ∷ (4, unattached 11) ∷ [])
+    -- by number: 7 before 8, 8 before 9, whichever carrier it is; 8 and 9 before 11
+    ∷ knitted (bring-in right (f 20) 3 ++ plated-knit right (f 10) 3 4) 7 5 ((f 10, 0) ∷ []) ((3, unattached 20) ∷ (4, inactive) ∷ [])
+    ∷ knitted (bring-in right (f 20) 3 ++ plated-knit right (f 10) 4 3) 7 5 ((f 10, 0) ∷ []) ((3, unattached 20) ∷ (4, inactive) ∷ [])
+    ∷ knitted (led-21 ++ bring-in right (f 50) 4 ++ plated-knit right (f 31) 3 4) 8 115 ((f 31, 0) ∷ []) ((3, on-right 31 (f 10)) ∷ (4, unattached 50) ∷ [])
+    ∷ knitted (led-21 ++ bring-in right (f 50) 4 ++ plated-knit right (f 31) 4 3) 8 115 ((f 31, 0) ∷ []) ((3, on-right 31 (f 10)) ∷ (4, unattached 50) ∷ [])
+    ∷ knitted (in-3 ++ tucks (f 10) 3 ++ tucks (f 10) 3 ++ bring-in right (f 20) 4 ++ plated-tuck right (f 10) 3 4) 8 50 ((f 10, 8) ∷ []) ((3, on-left 10 (f 10)) ∷ (4, unattached 20) ∷ [])
+    ∷ knitted (bring-in right (f 31) 5 ++ tucks (f 31) 5 ++ tucks (f 31) 5 ++ led-21 ++ bring-in right (f 31) 4 ++ plated-tuck right (f 31) 3 4) 9 160 ((f 31, 8) ∷ [])
+    ((3, on-right 31 (f 10)) ∷ (4, unattached 31) ∷ [])
+    -- 16: before 7, 8, 9 and 11, and where nothing else is wrong
+    ∷ row (plated-knit right (f 10) 3 3) 16 0
+    ∷ row (plated-tuck right (f 10) 3 3) 16 0
+    ∷ knitted (in-3 ++ plated-knit left (f 10) 3 3) 16 5 ((f 10, 0) ∷ []) ((3, unattached 10) ∷ [])
+    ∷ knitted (led-21 ++ plated-knit right (f 31) 3 3) 16 110 ((f 31, 0) ∷ []) ((3, on-right 31 (f 10)) ∷ [])
+    ∷ knitted (in-3 ++ tucks (f 10) 3 ++ tucks (f 10) 3 ++ plated-tuck right (f 10) 3 3) 16 45 ((f 10, 8) ∷ []) ((3, on-left 10 (f 10)) ∷ [])
+    ∷ knitted (in-3 ++ plated-knit right (f 10) 3 3) 16 5 ((f 10, 0) ∷ []) ((3, unattached 10) ∷ [])
+    ∷ []
+
+-- a plated kind cut short at every length, before 5 and 16; 5 for each field, carriers 0 and 11 as the second and as both, before 16
+abbrev plated-bytes : ℕ → List Row
+plated-bytes kind =
+    row (kind ∷ []) 4 0
+    ∷ row (kind ∷ 1 ∷ []) 4 0
+    ∷ row (kind ∷ 1 ∷ 0 ∷ []) 4 0
+    ∷ row (kind ∷ 1 ∷ 0 ∷ 10 ∷ []) 4 0
+    ∷ row (kind ∷ 1 ∷ 0 ∷ 10 ∷ 3 ∷ []) 4 0
+    ∷ row (kind ∷ 2 ∷ 2 ∷ 250 ∷ 0 ∷ []) 4 0
+    ∷ knitted (in-3 ++ (kind ∷ 1 ∷ 0 ∷ 10 ∷ 3 ∷ [])) 4 5 [] ((3, unattached 10) ∷ [])
+    ∷ row (kind ∷ 1 ∷ 0 ∷ 10 ∷ 3 ∷ 0 ∷ []) 5 0
+    ∷ row (kind ∷ 1 ∷ 0 ∷ 10 ∷ 3 ∷ 11 ∷ []) 5 0
+    ∷ row (kind ∷ 1 ∷ 0 ∷ 10 ∷ 0 ∷ 0 ∷ []) 5 0
+    ∷ row (kind ∷ 1 ∷ 0 ∷ 10 ∷ 11 ∷ 11 ∷ []) 5 0
+    ∷ row (kind ∷ 1 ∷ 0 ∷ 250 ∷ 3 ∷ 3 ∷ []) 5 0
+    ∷ knitted (in-3 ++ (kind ∷ 1 ∷ 0 ∷ 10 ∷ 3 ∷ 11 ∷ [])) 5 5 [] ((3, unattached 10) ∷ [])
+    ∷ outside kind (4 ∷ [])
+
 abbrev pub rows : List Row
-rows = pieces ++ steps ++ floats ++ refusals ++ fields
+rows = pieces ++ steps ++ floats ++ refusals ++ fields ++ plated ++ plated-bytes 10 ++ plated-bytes 11
 
 -- ---- the rewriter: program, log, the lengths of output and work area; its answer, the program at the front of the output and the starts at the front of the work area
 pub record Swap : Type 0 where
@@ -392,6 +464,16 @@ abbrev evens : ℕ → ℕ → List ℕ
 evens place zero = []
 evens place (suc n) = place ∷ evens (place + 2) n
 
+-- carriers 1 to 4 parked at slot 10; two stitches of theirs at f.10 and at b.10
+abbrev four-in : List ℕ
+four-in = in-1 ++ bring-in right (f 10) 2 ++ bring-in right (f 10) 3 ++ bring-in right (f 10) 4
+
+abbrev two-sheets : ℕ → Expected
+two-sheets n = expected n 0 false (pos 0) ((f 10, 2) ∷ (b 10, 2) ∷ []) ((1, on-right 11 (f 10)) ∷ (4, on-right 11 (b 10)) ∷ [])
+
+abbrev six-starts : List ℕ
+six-starts = 0 ∷ 5 ∷ 10 ∷ 15 ∷ 20 ∷ 26 ∷ []
+
 abbrev pub swaps : List Swap
 swaps =
     -- 1: an empty log: the output equals the program
@@ -429,6 +511,11 @@ swaps =
     -- a split is six bytes
     ∷ swap (in-3 ++ split right (f 10) 3 10 ++ drop (f 50)) (at 1) (expected 0 0 false (pos 0) ((f 10, 1) ∷ (b 10, 0) ∷ []) ((3, on-right 11 (f 10)) ∷ []))
     (in-3 ++ drop (f 50) ++ split right (f 10) 3 10) (0 ∷ 5 ∷ 8 ∷ [])
+    -- so is a plated stitch; two of them, the front one on layers 0 to 2, the back one on 3 to 11; with carriers 3 and 2 exchanged they are tied
+    ∷ swap (both-in ++ plated-knit right (f 10) 3 4 ++ drop (f 50)) (at 2) (expected 0 0 false (pos 0) ((f 10, 2) ∷ []) ((3, on-right 11 (f 10)) ∷ (4, on-right 11 (f 10)) ∷ []))
+    (both-in ++ drop (f 50) ++ plated-knit right (f 10) 3 4) (0 ∷ 5 ∷ 10 ∷ 13 ∷ [])
+    ∷ swap (four-in ++ plated-knit right (f 10) 2 1 ++ plated-tuck right (b 10) 3 4) (at 4) (two-sheets 0) (four-in ++ plated-tuck right (b 10) 3 4 ++ plated-knit right (f 10) 2 1) six-starts
+    ∷ swap (four-in ++ plated-knit right (f 10) 3 1 ++ plated-tuck right (b 10) 2 4) (at 4) (two-sheets 13) (four-in ++ plated-knit right (f 10) 3 1 ++ plated-tuck right (b 10) 2 4) six-starts
     -- 12: one record, none; a position's high byte comes first; after a swap that was made
     ∷ swap (drop (f 1)) (at 0) (empty 12 0) (drop (f 1)) (0 ∷ [])
     ∷ swap [] (at 0) (empty 12 0) [] []
@@ -449,9 +536,10 @@ swaps =
     ∷ swap P (at 2 ++ (66 ∷ 0 ∷ 2 ∷ [])) (of-P 14 3) swapped-P fives
     ∷ swap P (at 2 ++ (64 ∷ 0 ∷ [])) (of-P 14 3) swapped-P fives
     ∷ swap P (63 ∷ 0 ∷ 3 ∷ []) (of-P 14 0) P fives
-    -- 3 to 11: a program that is refused is not written; before 14
+    -- 3 to 11 and 16: a program that is refused is not written; before 14
     ∷ swap (1 ∷ 9 ∷ []) (at 0) (empty 5 0) [] []
     ∷ swap (in-3 ++ knit left (f 10) 3) (63 ∷ []) (expected 8 5 false (pos 0) ((f 10, 0) ∷ []) ((3, unattached 10) ∷ [])) [] []
+    ∷ swap (both-in ++ plated-knit right (f 10) 3 3) (63 ∷ []) (expected 16 10 false (pos 0) ((f 10, 0) ∷ []) ((3, unattached 10) ∷ (4, unattached 10) ∷ [])) [] []
     -- 1: program or log; before 2. One byte fewer is not too long
     ∷ unmade (replicate 32769 0) [] 32769 16384 1
     ∷ unmade (replicate 32769 0) [] 0 0 1

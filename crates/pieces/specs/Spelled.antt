@@ -1,4 +1,4 @@
--- Needles, and records as their bytes (document 01, 'Records'): what the rows are written in.
+-- Needles, and records as their bytes (document 01, 'Records'; 02, W1): what the rows are written in.
 use Prim.Native.Nat.{ℕ}
 use mathlib.Core.List.{List, [], _∷_}
 use Rattle.machine.specs.declared.Needle.{Needle}
@@ -43,3 +43,10 @@ knit d n k = 8 ∷ d ∷ n .0 ∷ n .1 ∷ k ∷ []
 
 abbrev pub split : ℕ → Needle → ℕ → ℕ → List ℕ
 split d n k m = 9 ∷ d ∷ n .0 ∷ n .1 ∷ k ∷ m ∷ []
+
+-- with two carriers
+abbrev pub plated-tuck : ℕ → Needle → ℕ → ℕ → List ℕ
+plated-tuck d n k j = 10 ∷ d ∷ n .0 ∷ n .1 ∷ k ∷ j ∷ []
+
+abbrev pub plated-knit : ℕ → Needle → ℕ → ℕ → List ℕ
+plated-knit d n k j = 11 ∷ d ∷ n .0 ∷ n .1 ∷ k ∷ j ∷ []

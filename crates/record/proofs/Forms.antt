@@ -1,13 +1,13 @@
 -- Decoding against the form of a record, the bytes that encode it: what was decoded is the form at the front of the bytes, and a form decodes to its record. Assumes nothing.
 use Prim.Native.Nat.{ℕ, zero, suc, _+_, _-_, _≤_, _<_}
 use mathlib.Core.Path.{_≡_, refl, sym, ap, subst, _∙_}
-use mathlib.Core.Bool.{true, false}
+use mathlib.Core.Bool.{true, false, _&&_}
 use mathlib.Core.List.{List, [], _∷_, _++_}
 use native.Mathlib.Omega.{arith}
 use lib.IntN.{natAbs}
 use lib.ListN.{length, take, drop, length-append}
 use lib.Seq.{drop-cons, getD-take, length-take-le}
-use lib.Dec.{eqb, ltb}
+use lib.Dec.{eqb, leb, ltb}
 use borrow.Author.Tests.{ne-eqb, eqb-true, eqb-false, leb-true, le-leb, ltb-true, ltb-false, le-ltb, lt-ltb}
 use Rattle.machine.specs.Limits.{lastNeedle, carrierCount, rackingMost}
 use Rattle.machine.specs.Machine.{OnBed, hookOf}
@@ -16,20 +16,40 @@ use Rattle.machine.proofs.Laws.{and-two}
 use Rattle.machine.proofs.Ranges.{bed-ok}
 use Rattle.record.specs.declared.Record.{Record}
 use Rattle.record.specs.declared.Decoded.{Decoded}
-use Rattle.record.specs.Kinds.{IN, KNIT, byKind, sizeOf, hooksWorked, carriersNamed}
-use Rattle.record.specs.Format.{Encodes, signedOf, rackOk, needleOk, workOk, needle, noNeedle, workRecord, byte, workFieldsOk, fieldsOk, recordFrom, refusedAs, readOf, decodeOf}
-use Rattle.record.proofs.Shapes.{Known, cond-cases, in-work, known-size, sized-known, work-size}
+use Rattle.record.specs.Kinds.{IN, KNIT, SPLIT, PLATED-TUCK, PLATED-KNIT, byKind, sizeOf, hooksWorked, carriersNamed, isPlated}
+use Rattle.record.specs.Format.{Encodes, signedOf, rackOk, needleOk, workOk, needle, noNeedle, workRecord, platedRecord, carrierNumberOk, byte, workFieldsOk, fieldsOk, recordFrom, refusedAs, readOf, decodeOf}
+use Rattle.record.proofs.Shapes.{Known, cond-cases, in-work, in-plated, known-size, sized-known, work-size, plated-size, one-named, two-named}
 use Rattle.record.proofs.Ranges.{InRange, needle-bed, needle-number, work-right, work-bed, work-number, work-low, work-high}
 
 -- ---- in to knit (bytes 04 to 08) are read as one
 module _ (l : List ℕ) (h : IN ≤ byte l 0) (j : byte l 0 ≤ KNIT) where
+  single : isPlated (byte l 0) ≡ false
+  single = simp (one-named (byte l 0) h (omega arith))
+
   pub work-fields : fieldsOk l ≡ workFieldsOk l
   unfolding fieldsOk
-  work-fields = simp (ne-eqb (byte l 0) 1 (λ q. omega arith), ne-eqb (byte l 0) 2 (λ q. omega arith), ne-eqb (byte l 0) 3 (λ q. omega arith), ne-eqb (byte l 0) 9 (λ q. omega arith))
+  work-fields =
+      simp (ne-eqb (byte l 0) 1 (λ q. omega arith), ne-eqb (byte l 0) 2 (λ q. omega arith), ne-eqb (byte l 0) 3 (λ q. omega arith), ne-eqb (byte l 0) 9 (λ q. omega arith), single)
 
   pub work-record : recordFrom l ≡ workRecord (byte l 0) (eqb (byte l 1) 1) (needle (byte l 2) (byte l 3)) (byte l 4)
   unfolding recordFrom
-  work-record = simp (ne-eqb (byte l 0) 1 (λ q. omega arith), ne-eqb (byte l 0) 2 (λ q. omega arith), ne-eqb (byte l 0) 3 (λ q. omega arith), ne-eqb (byte l 0) 9 (λ q. omega arith))
+  work-record =
+      simp (ne-eqb (byte l 0) 1 (λ q. omega arith), ne-eqb (byte l 0) 2 (λ q. omega arith), ne-eqb (byte l 0) 3 (λ q. omega arith), ne-eqb (byte l 0) 9 (λ q. omega arith), single)
+
+-- ---- and so are the plated ones
+module _ (l : List ℕ) (h : PLATED-TUCK ≤ byte l 0) (j : byte l 0 ≤ PLATED-KNIT) where
+  double : isPlated (byte l 0) ≡ true
+  double = simp (two-named (byte l 0) h j)
+
+  pub plated-fields : fieldsOk l ≡ (workFieldsOk l && carrierNumberOk (byte l 5))
+  unfolding fieldsOk
+  plated-fields =
+      simp (ne-eqb (byte l 0) 1 (λ q. omega arith), ne-eqb (byte l 0) 2 (λ q. omega arith), ne-eqb (byte l 0) 3 (λ q. omega arith), ne-eqb (byte l 0) 9 (λ q. omega arith), double)
+
+  pub plated-record : recordFrom l ≡ platedRecord (byte l 0) (eqb (byte l 1) 1) (needle (byte l 2) (byte l 3)) (byte l 4) (byte l 5)
+  unfolding recordFrom
+  plated-record =
+      simp (ne-eqb (byte l 0) 1 (λ q. omega arith), ne-eqb (byte l 0) 2 (λ q. omega arith), ne-eqb (byte l 0) 3 (λ q. omega arith), ne-eqb (byte l 0) 9 (λ q. omega arith), double)
 
 -- ---- a form decodes to its record, whatever follows it
 on-bed : (bed n : ℕ) → bed ≤ 1 → n ≤ lastNeedle → OnBed (needle bed n)
@@ -42,6 +62,9 @@ needle-in bed n a b = bed-ok (needle bed n) (on-bed bed n a b)
 work-in : (right bed n k : ℕ) → right ≤ 1 → bed ≤ 1 → n ≤ lastNeedle → 1 ≤ k → k ≤ carrierCount → workOk right bed n k ≡ true
 unfolding workOk
 work-in right bed n k a b c d e = simp (le-leb right 1 a, needle-in bed n b c, le-leb 1 k d, le-leb k carrierCount e)
+
+carrier-in : (k : ℕ) → 1 ≤ k → k ≤ carrierCount → carrierNumberOk k ≡ true
+carrier-in k a b = simp (le-leb 1 k a, le-leb k carrierCount b)
 
 -- what bytes give that begin with a form: its length, fields in range, its record
 record Formed (bytes l : List ℕ) (x : Record) : Type 0 where
@@ -61,6 +84,14 @@ formed (Encodes.work {kind = kind} {right = right} {bed = bed} {n = n} {k = k} a
     record { size = work-size kind a b; some = omega arith; fields = work-fields l a b ∙ work-in right bed n k c d e f g; reads = work-record l a b }
 formed (Encodes.split {right = right} {bed = bed} {n = n} {k = k} {m = m} c d e f g h) rest =
     record { size = refl; some = omega arith; fields = simp (work-in right bed n k c d e f g) (le-leb m lastNeedle h); reads = refl }
+formed (Encodes.plated {kind = kind} {right = right} {bed = bed} {n = n} {k = k} {j = j} a b c d e f g p q) rest =
+    let l = kind ∷ right ∷ bed ∷ n ∷ k ∷ j ∷ rest in
+    record {
+      size = plated-size kind a b;
+      some = omega arith;
+      fields = plated-fields l a b ∙ simp (work-in right bed n k c d e f g) (carrier-in j p q);
+      reads = plated-record l a b;
+    }
 
 -- bytes with a known kind: too few, or with fields out of range or in range
 pub decode-known : (l : List ℕ) → 0 < length l → (sizeOf (byte l 0) ≡ 0 → ⊥) → decodeOf l ≡ readOf l
@@ -148,6 +179,14 @@ module _ (l : List ℕ) where
       let g = kept 6 4 (omega arith) in let h = kept 6 5 (omega arith) in
       (simp (b, c, d, f, g, h, e), simp (b, c, d, f, g, h, e))
 
+  plated-alike : PLATED-TUCK ≤ byte l 0 → byte l 0 ≤ PLATED-KNIT → Alike 6
+  plated-alike h j =
+      let b = kept 6 0 (omega arith) in
+      let low : PLATED-TUCK ≤ byte (take 6 l) 0 = omega arith in
+      let high : byte (take 6 l) 0 ≤ PLATED-KNIT = omega arith in
+      let c = kept 6 1 (omega arith) in let d = kept 6 2 (omega arith) in let e = kept 6 3 (omega arith) in let f = kept 6 4 (omega arith) in let g = kept 6 5 (omega arith) in
+      (plated-fields (take 6 l) low high ∙ simp (c, d, e, f, g) (sym (plated-fields l h j)), plated-record (take 6 l) low high ∙ simp (b, c, d, e, f, g) (sym (plated-record l h j)))
+
   of-size : {n : ℕ} → sizeOf (byte l 0) ≡ n → Alike n → Alike (sizeOf (byte l 0))
   of-size {n} e h = subst Alike (sym e) h
 
@@ -162,6 +201,8 @@ module _ (l : List ℕ) where
   alike (Known.tuck e) = of-size {n = 5} (simp e) (work-alike (omega arith) (omega arith))
   alike (Known.knit e) = of-size {n = 5} (simp e) (work-alike (omega arith) (omega arith))
   alike (Known.split e) = of-size {n = 6} (simp e) (split-alike e)
+  alike (Known.plated-tuck e) = of-size {n = 6} (simp e) (plated-alike (omega arith) (omega arith))
+  alike (Known.plated-knit e) = of-size {n = 6} (simp e) (plated-alike (omega arith) (omega arith))
 
   read-front : sizeOf (byte l 0) ≤ length l → sizeOf (byte (take (sizeOf (byte l 0)) l) 0) ≡ sizeOf (byte l 0) → Alike (sizeOf (byte l 0))
       → readOf (take (sizeOf (byte l 0)) l) ≡ readOf l
@@ -236,6 +277,15 @@ module _ (l : List ℕ) (t : fieldsOk l ≡ true) where
       (work-number (byte l 1) (byte l 2) (byte l 3) (byte l 4) p) (work-low (byte l 1) (byte l 2) (byte l 3) (byte l 4) p) (work-high (byte l 1) (byte l 2) (byte l 3) (byte l 4) p)
       (leb-true (byte l 5) lastNeedle q))
 
+  plated-form : PLATED-TUCK ≤ byte l 0 → byte l 0 ≤ PLATED-KNIT → Form 6
+  unfolding bytesFrom
+  plated-form a b =
+      let (p, q) = and-two (workFieldsOk l) (carrierNumberOk (byte l 5)) (sym (plated-fields l a b) ∙ t) in
+      let (low, high) = and-two (leb 1 (byte l 5)) (leb (byte l 5) carrierCount) q in
+      rw (plated-record l a b) (Encodes.plated a b (work-right (byte l 1) (byte l 2) (byte l 3) (byte l 4) p) (work-bed (byte l 1) (byte l 2) (byte l 3) (byte l 4) p)
+      (work-number (byte l 1) (byte l 2) (byte l 3) (byte l 4) p) (work-low (byte l 1) (byte l 2) (byte l 3) (byte l 4) p) (work-high (byte l 1) (byte l 2) (byte l 3) (byte l 4) p)
+      (leb-true 1 (byte l 5) low) (leb-true (byte l 5) carrierCount high))
+
   of-length : {n : ℕ} → sizeOf (byte l 0) ≡ n → Form n → Form (sizeOf (byte l 0))
   of-length {n} e h = subst Form (sym e) h
 
@@ -250,6 +300,8 @@ module _ (l : List ℕ) (t : fieldsOk l ≡ true) where
   fields-form (Known.tuck e) = of-length {n = 5} (simp e) (work-form (omega arith) (omega arith))
   fields-form (Known.knit e) = of-length {n = 5} (simp e) (work-form (omega arith) (omega arith))
   fields-form (Known.split e) = of-length {n = 6} (simp e) (split-form e)
+  fields-form (Known.plated-tuck e) = of-length {n = 6} (simp e) (plated-form (omega arith) (omega arith))
+  fields-form (Known.plated-knit e) = of-length {n = 6} (simp e) (plated-form (omega arith) (omega arith))
 
 refused-number : (n : ℕ) → refusedAs (suc n) .number ≡ 0 → ⊥
 unfolding refusedAs
@@ -295,27 +347,46 @@ module _ (l : List ℕ) (e : decodeOf l .number ≡ 0) where
   decode-form = decodes .form
 
 -- ---- its fields are in range
-work-needles : (k : ℕ) → IN ≤ k → k ≤ KNIT → hooksWorked k ≡ 2 → ⊥
+one-hook : (k : ℕ) → IN ≤ k → k ≤ KNIT → hooksWorked k ≡ 2 → ⊥
 unfolding byKind
-work-needles = in-work (λ (k : ℕ). hooksWorked k ≡ 2 → ⊥) (λ e. omega arith) (λ e. omega arith) (λ e. omega arith) (λ e. omega arith) (λ e. omega arith)
+one-hook = in-work (λ (k : ℕ). hooksWorked k ≡ 2 → ⊥) (λ e. omega arith) (λ e. omega arith) (λ e. omega arith) (λ e. omega arith) (λ e. omega arith)
+
+plated-hook : (k : ℕ) → PLATED-TUCK ≤ k → k ≤ PLATED-KNIT → hooksWorked k ≡ 2 → ⊥
+unfolding byKind
+plated-hook = in-plated (λ (k : ℕ). hooksWorked k ≡ 2 → ⊥) (λ e. omega arith) (λ e. omega arith)
 
 no-needle : OnBed noNeedle
 no-needle = on-bed 0 0 (omega arith) (omega arith)
 
+-- of a record with one carrier at most
 in-range : {x : Record} → Known (x .kind) → OnBed (x .at) → OnBed (x .to) → (1 ≤ carriersNamed (x .kind) → 1 ≤ x .carrier) → x .carrier ≤ carrierCount
-    → (hooksWorked (x .kind) ≡ 2 → hookOf (x .at) ≡ hookOf (x .to) → ⊥) → InRange x
-in-range a c d e f g = record { known = a; at-bed = c; to-bed = d; carrier-low = e; carrier-high = f; beds-differ = g }
+    → (carriersNamed (x .kind) ≡ 2 → ⊥) → x .second ≡ 0 → (hooksWorked (x .kind) ≡ 2 → hookOf (x .at) ≡ hookOf (x .to) → ⊥) → InRange x
+in-range a c d e f one z g =
+    record { known = a; at-bed = c; to-bed = d; carrier-low = e; carrier-high = f; second-low = λ q. absurd (one q); second-high = omega (arith, z); beds-differ = g }
 
 pub form-in : {bytes : List ℕ} {x : Record} → Encodes bytes x → InRange x
 unfolding byKind
-form-in (Encodes.rack h) = in-range (Known.rack refl) no-needle no-needle (λ q. omega arith) (omega arith) (λ p q. omega arith)
-form-in (Encodes.drop {bed = bed} {n = n} h i) = in-range (Known.drop refl) (on-bed bed n h i) no-needle (λ q. omega arith) (omega arith) (λ p q. omega arith)
+form-in (Encodes.rack h) = in-range (Known.rack refl) no-needle no-needle (λ q. omega arith) (omega arith) (λ q. omega arith) refl (λ p q. omega arith)
+form-in (Encodes.drop {bed = bed} {n = n} h i) =
+    in-range (Known.drop refl) (on-bed bed n h i) no-needle (λ q. omega arith) (omega arith) (λ q. omega arith) refl (λ p q. omega arith)
 form-in (Encodes.xfer {bed = bed} {n = n} {m = m} h i j) =
-    in-range (Known.xfer refl) (on-bed bed n h i) (on-bed (1 - bed) m (omega arith) j) (λ q. omega arith) (omega arith) (λ p q. omega arith)
+    in-range (Known.xfer refl) (on-bed bed n h i) (on-bed (1 - bed) m (omega arith) j) (λ q. omega arith) (omega arith) (λ q. omega arith) refl (λ p q. omega arith)
 form-in (Encodes.work {kind = kind} {bed = bed} {n = n} a b c d e f g) =
     in-range (in-work Known (Known.carrier-in refl) (Known.carrier-out refl) (Known.miss refl) (Known.tuck refl) (Known.knit refl) kind a b) (on-bed bed n d e) no-needle (λ q. f) g
-    (λ p q. work-needles kind a b p)
-form-in (Encodes.split {bed = bed} {n = n} {m = m} c d e f g h) = in-range (Known.split refl) (on-bed bed n d e) (on-bed (1 - bed) m (omega arith) h) (λ q. f) g (λ p q. omega arith)
+    (λ q. omega (arith, q, one-named kind a (omega arith))) refl (λ p q. one-hook kind a b p)
+form-in (Encodes.split {bed = bed} {n = n} {m = m} c d e f g h) =
+    in-range (Known.split refl) (on-bed bed n d e) (on-bed (1 - bed) m (omega arith) h) (λ q. f) g (λ q. omega arith) refl (λ p q. omega arith)
+form-in (Encodes.plated {kind = kind} {bed = bed} {n = n} a b c d e f g p q) =
+    record {
+      known = in-plated Known (Known.plated-tuck refl) (Known.plated-knit refl) kind a b;
+      at-bed = on-bed bed n d e;
+      to-bed = no-needle;
+      carrier-low = λ h. f;
+      carrier-high = g;
+      second-low = λ h. p;
+      second-high = q;
+      beds-differ = λ h i. plated-hook kind a b h;
+    }
 
 pub decode-in : (l : List ℕ) → decodeOf l .number ≡ 0 → InRange (decodeOf l .what)
 decode-in l e = form-in (decode-form l e)

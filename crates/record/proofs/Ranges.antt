@@ -59,4 +59,6 @@ pub record InRange (x : Record) : Type 0 where
   pub to-bed : OnBed (x .to)
   pub carrier-low : 1 ≤ carriersNamed (x .kind) → 1 ≤ x .carrier
   pub carrier-high : x .carrier ≤ carrierCount
+  pub second-low : carriersNamed (x .kind) ≡ 2 → 1 ≤ x .second
+  pub second-high : x .second ≤ carrierCount
   pub beds-differ : hooksWorked (x .kind) ≡ 2 → hookOf (x .at) ≡ hookOf (x .to) → ⊥

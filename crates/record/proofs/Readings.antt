@@ -1,15 +1,17 @@
 -- Lengths, fields and records of the kinds that are read as one: drop and xfer, and those with a carrier. Assumes nothing.
+use borrow.Table.Steps.{cases}
 use Prim.Native.Nat.{ℕ, _-_, _≤_}
 use mathlib.Core.Path.{_≡_, _∙_}
 use mathlib.Core.Bool.{false, _&&_}
 use mathlib.Core.List.{List}
 use native.Mathlib.Omega.{arith}
-use lib.Dec.{eqb}
+use lib.Dec.{eqb, leb}
+use borrow.Author.Tests.{leb-true, leb-false}
 use Rattle.machine.specs.Range.{numberOk}
-use Rattle.record.specs.Kinds.{DROP, XFER, IN, KNIT, SPLIT, byKind, sizeOf}
-use Rattle.record.specs.Format.{needle, needleOk, dropRecord, xferRecord, workRecord, splitRecord, byte, workFieldsOk, fieldsOk, recordFrom}
-use Rattle.record.proofs.Shapes.{is, work-size}
-use Rattle.record.proofs.Forms.{work-fields, work-record}
+use Rattle.record.specs.Kinds.{DROP, XFER, IN, KNIT, SPLIT, PLATED-TUCK, PLATED-KNIT, byKind, sizeOf}
+use Rattle.record.specs.Format.{needle, needleOk, dropRecord, xferRecord, splitRecord, byte, workFieldsOk, fieldsOk, recordFrom}
+use Rattle.record.proofs.Shapes.{is, work-size, plated-size}
+use Rattle.record.proofs.Forms.{work-fields, plated-fields}
 
 module _ (l : List ℕ) where
   -- drop and xfer
@@ -60,18 +62,12 @@ module _ (l : List ℕ) where
     unfolding recordFrom
     split-record = simp e
 
-  module _ (low : IN ≤ byte l 0) (high : byte l 0 ≤ SPLIT) where
-    carried-cases : {G : Type 0} → (byte l 0 ≤ KNIT → G) → (byte l 0 ≡ SPLIT → G) → G
-    carried-cases f g = is (byte l 0) SPLIT g (λ d. f (omega arith))
+  module _ (low : IN ≤ byte l 0) (high : byte l 0 ≤ PLATED-KNIT) where
+    carried-cases : {G : Type 0} → (byte l 0 ≤ KNIT → G) → (byte l 0 ≡ SPLIT → G) → (PLATED-TUCK ≤ byte l 0 → G) → G
+    carried-cases f g h = is (byte l 0) SPLIT g (λ d. cases (leb (byte l 0) KNIT) (λ t. f (leb-true (byte l 0) KNIT t)) (λ t. h (omega (arith, leb-false (byte l 0) KNIT t))))
 
     pub carried-size : 5 ≤ sizeOf (byte l 0)
-    carried-size = carried-cases (λ h. omega (arith, work-size (byte l 0) low h)) (λ e. omega (arith, split-size e))
+    carried-size = carried-cases (λ h. omega (arith, work-size (byte l 0) low h)) (λ e. omega (arith, split-size e)) (λ h. omega (arith, plated-size (byte l 0) h high))
 
     pub carried-outside : workFieldsOk l ≡ false → fieldsOk l ≡ false
-    carried-outside h = carried-cases (λ j. work-fields l low j ∙ h) (λ e. split-fields e ∙ simp h)
-
-    pub one-fields : (byte l 0 ≡ SPLIT → ⊥) → fieldsOk l ≡ workFieldsOk l
-    one-fields d = work-fields l low (omega arith)
-
-    pub one-record : (byte l 0 ≡ SPLIT → ⊥) → recordFrom l ≡ workRecord (byte l 0) (eqb (byte l 1) 1) (needle (byte l 2) (byte l 3)) (byte l 4)
-    one-record d = work-record l low (omega arith)
+    carried-outside h = carried-cases (λ j. work-fields l low j ∙ h) (λ e. split-fields e ∙ simp h) (λ j. plated-fields l j high ∙ simp h)

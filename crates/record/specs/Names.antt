@@ -15,7 +15,7 @@ unfoldable pub needlesOf : Record → List Needle
 needlesOf x = take (hooksWorked (x .kind)) (x .at ∷ x .to ∷ [])
 
 unfoldable pub carriersOf : Record → List ℕ
-carriersOf x = take (carriersNamed (x .kind)) (x .carrier ∷ [])
+carriersOf x = take (carriersNamed (x .kind)) (x .carrier ∷ x .second ∷ [])
 
 -- a rack, and the racking in force after a record
 abbrev pub isRack : Record → Bool
@@ -24,9 +24,9 @@ isRack x = eqb (x .kind) RACK
 abbrev pub rackingAfter : Racking → Record → Racking
 rackingAfter r x = cond (isRack x) (x .racking) r
 
--- what extents and ties look at: kind, first needle and carrier; the other fields 0
-abbrev pub outlineAt : ℕ → Needle → ℕ → Record
-outlineAt kind a k = recordOf kind (pos 0) false a k noNeedle
+-- what extents and ties look at: kind, first needle and carriers; the other fields 0
+abbrev pub outlineAt : ℕ → Needle → ℕ → ℕ → Record
+outlineAt kind a k j = recordOf kind (pos 0) false a k j noNeedle
 
 unfoldable pub outlineOf : Record → Record
-outlineOf x = outlineAt (x .kind) (x .at) (x .carrier)
+outlineOf x = outlineAt (x .kind) (x .at) (x .carrier) (x .second)

@@ -1,10 +1,9 @@
 // The byte format: the kinds and lengths of records, their fields, and a record decoded.
 ghost use mathlib.Core.Path.{_≡_};
 ghost use Prim.Native.Nat.{_≤_, _<_};
-ghost use lib.Dec.{leb};
 ghost use lib.ListN.{length, getD};
-ghost use Rattle.record.specs.Kinds.{RACK, DROP, XFER, IN, SPLIT, sizeOf, carriersNamed};
-ghost use Rattle.record.specs.Format.{signedOf, needleOk, workOk, blankRecord, byte, refusedAs, readOf, decodeOf};
+ghost use Rattle.record.specs.Kinds.{RACK, DROP, XFER, IN, PLATED-KNIT, sizeOf, carriersNamed};
+ghost use Rattle.record.specs.Format.{signedOf, needleOk, carrierNumberOk, workOk, blankRecord, byte, refusedAs, readOf, decodeOf};
 ghost use Rattle.record.specs.Names.{outlineOf};
 use machine::Needle;
 use machine::Racking;
@@ -21,6 +20,8 @@ pub struct Record {
     pub right: bool,
     pub at: Needle,
     pub carrier: u8,
+    // the second carrier, of a plated stitch
+    pub second: u8,
     pub to: Needle,
 }
 
@@ -31,7 +32,7 @@ pub struct Decoded {
     pub what: Record,
 }
 
-// The kinds: rack, drop, xfer; in, out, miss, tuck and knit, which have fields of one form; split.
+// The kinds: rack, drop, xfer; in, out, miss, tuck and knit, which have fields of one form; split; plated tuck and knit.
 pub const RACK: u8 = 1;
 
 pub const DROP: u8 = 2;
@@ -50,6 +51,10 @@ pub const KNIT: u8 = 8;
 
 pub const SPLIT: u8 = 9;
 
+pub const PLATED_TUCK: u8 = 10;
+
+pub const PLATED_KNIT: u8 = 11;
+
 // The whole length of a record of this kind, 0 for an unknown kind.
 pub fn size_of(kind: u8) -> usize
     ensures { λ n. ⌜ n ≡ sizeOf kind ⌝ }
@@ -59,18 +64,19 @@ pub fn size_of(kind: u8) -> usize
         DROP => 3,
         XFER => 4,
         IN..=KNIT => 5,
-        SPLIT => 6,
+        SPLIT..=PLATED_KNIT => 6,
         _ => 0,
     }
 }
 
-// Whether a record of this kind names a carrier.
-pub fn names_carrier(kind: u8) -> bool
-    ensures { λ b. ⌜ b ≡ leb 1 (carriersNamed kind) ⌝ }
+// How many carriers a record of this kind names.
+pub fn carriers_named(kind: u8) -> u8
+    ensures { λ n. ⌜ n ≡ carriersNamed kind ⌝ }
 {
     match kind {
-        IN..=SPLIT => true,
-        _ => false,
+        IN..=SPLIT => 1,
+        PLATED_TUCK..=PLATED_KNIT => 2,
+        _ => 0,
     }
 }
 
@@ -103,6 +109,7 @@ fn blank(kind: u8) -> Record
         right: false,
         at: Needle(0, 0),
         carrier: 0,
+        second: 0,
         to: Needle(0, 0),
     }
 }
@@ -149,14 +156,18 @@ fn needle_ok(bed: u8, n: u8) -> bool
     a.on_bed()
 }
 
+// Whether the machine has the carrier.
+fn carrier_ok(k: u8) -> bool
+    ensures { λ b. ⌜ b ≡ carrierNumberOk k ⌝ }
+{
+    1 <= k && k <= State::CARRIER_MOST
+}
+
 // Whether carrier, needle and direction are in range.
 fn work_ok(right: u8, bed: u8, n: u8, k: u8) -> bool
     ensures { λ b. ⌜ b ≡ workOk right bed n k ⌝ }
 {
-    if k < 1 {
-        return false;
-    }
-    if State::CARRIER_MOST < k {
+    if !carrier_ok(k) {
         return false;
     }
     if !needle_ok(bed, n) {
@@ -197,9 +208,10 @@ fn bare(kind: u8, l: &[u8]) -> Decoded
     }
 }
 
-// A record with a carrier: direction, bed, needle, carrier; of a split also the needle on the other bed.
+// A record with a carrier: direction, bed, needle, carrier; of a split also the needle on the other bed, of a plated
+// stitch the second carrier.
 fn work(kind: u8, l: &[u8]) -> Decoded
-    requires { ⌜ (byte (now l) 0 ≡ kind) × (IN ≤ kind) × (kind ≤ SPLIT) ⌝ }
+    requires { ⌜ (byte (now l) 0 ≡ kind) × (IN ≤ kind) × (kind ≤ PLATED-KNIT) ⌝ }
     ensures { λ d. ⌜ d ≡ readOf (now (l .entry)) ⌝ }
 {
     let size = size_of(kind);
@@ -218,13 +230,23 @@ fn work(kind: u8, l: &[u8]) -> Decoded
     let at = Needle(bed as u16, n as u16);
     what.at = at;
     what.carrier = k;
-    if kind == SPLIT {
-        let m = byte(l, 5);
-        if State::NEEDLE_MOST < m {
-            return refused(FIELD_RANGE);
+    match kind {
+        SPLIT => {
+            let m = byte(l, 5);
+            if State::NEEDLE_MOST < m {
+                return refused(FIELD_RANGE);
+            }
+            let to = Needle((1 - bed) as u16, m as u16);
+            what.to = to;
         }
-        let to = Needle((1 - bed) as u16, m as u16);
-        what.to = to;
+        PLATED_TUCK..=PLATED_KNIT => {
+            let j = byte(l, 5);
+            if !carrier_ok(j) {
+                return refused(FIELD_RANGE);
+            }
+            what.second = j;
+        }
+        _ => {}
     }
     Decoded {
         number: 0,
@@ -248,6 +270,9 @@ pub fn decode(l: &[u8]) -> Decoded
         XFER => bare(XFER, l),
         IN..=KNIT => work(kind, l),
         SPLIT => work(SPLIT, l),
+        // and one for each plated kind: with a range the other arms would be slower
+        PLATED_TUCK => work(PLATED_TUCK, l),
+        PLATED_KNIT => work(PLATED_KNIT, l),
         _ => refused(UNKNOWN_KIND),
     }
 }
@@ -260,7 +285,8 @@ pub fn outline(l: &[u8]) -> Record
 {
     let kind = byte(l, 0);
     let mut x = blank(kind);
-    if !names_carrier(kind) {
+    let carriers = carriers_named(kind);
+    if carriers == 0 {
         let bed = byte(l, 1);
         let n = byte(l, 2);
         let at = Needle(bed as u16, n as u16);
@@ -272,5 +298,8 @@ pub fn outline(l: &[u8]) -> Record
     let at = Needle(bed as u16, n as u16);
     x.at = at;
     x.carrier = byte(l, 4);
+    if carriers == 2 {
+        x.second = byte(l, 5);
+    }
     x
 }

@@ -18,16 +18,16 @@ use Rattle.machine.specs.Geometry.{columnOf, sameColumn}
 use Rattle.machine.proofs.Signed.{eqZ-true}
 use Rattle.machine.proofs.Laws.{and-two}
 use Rattle.record.specs.declared.Record.{Record}
-use Rattle.record.specs.Kinds.{IN, OUT, MISS, TUCK, hooksWorked, carriersNamed, loopsFormed}
+use Rattle.record.specs.Kinds.{IN, OUT, MISS, hooksWorked, carriersNamed, loopsFormed, isPlated, tucks}
 use Rattle.record.specs.Names.{isRack, rackingAfter}
 use Rattle.record.proofs.Ranges.{InRange}
-use Rattle.run.specs.Step.{lookOf, Seen, seeOf, orNumber, carrierNo, oppositeNo, firstAfter, secondAfter, roomNo, decidedNo, edit, stored, Act, actOf, acted, moveAttachments, numberAt, applyOf}
-use Rattle.record.proofs.Shapes.{is, one-carrier, no-carrier, uncarried, formed-works, tuck-works}
+use Rattle.run.specs.Step.{lookOf, Seen, seeOf, orNumber, twiceNo, carrierNo, oppositeNo, firstAfter, secondAfter, roomNo, decidedNo, edit, stored, Act, actOf, acted, moveAttachments, numberAt, applyOf}
+use Rattle.record.proofs.Shapes.{is, uncarried, formed-works, tuck-works}
 use Rattle.trace.specs.Machine.{andThen}
 use Rattle.rewrite.specs.Extents.{extentOf, meets, shareCarrier}
 use Rattle.rewrite.proofs.Machine.{stepped}
 use Rattle.rewrite.proofs.Edits.{Away, Apart, apart-sym, edit-other, edit-edit, map-at, map-edit, map-map}
-use Rattle.rewrite.proofs.Footprints.{hooksOf, placesOf, first-hook, second-hook, carrier-place, Settled, hooks-apart, carriers-apart}
+use Rattle.rewrite.proofs.Footprints.{hooksOf, placesOf, first-hook, second-hook, first-place, second-place, Settled, hooks-apart, carriers-apart}
 
 -- ---- a decision rests on what the record works and names
 record Agree (x : Record) (a b : Seen) : Type 0 where
@@ -35,26 +35,30 @@ record Agree (x : Record) (a b : Seen) : Type 0 where
   limit : a .limit ≡ b .limit
   here : 1 ≤ hooksWorked (x .kind) → a .here ≡ b .here
   there : hooksWorked (x .kind) ≡ 2 → a .there ≡ b .there
-  look : carriersNamed (x .kind) ≡ 1 → a .look ≡ b .look
+  look : 1 ≤ carriersNamed (x .kind) → a .look ≡ b .look
+  other : carriersNamed (x .kind) ≡ 2 → a .other ≡ b .other
 
 -- a record that names no carrier asks nothing of one
-unasked : (x : Record) (v : Seen) → carriersNamed (x .kind) ≡ 0 → carrierNo x (v .racking) (v .look) ≡ 0
+unasked : (x : Record) (v : Seen) → carriersNamed (x .kind) ≡ 0 → carrierNo x (v .racking) (v .look) (v .other) ≡ 0
 unfolding carrierNo
 unasked x v e =
     let u = uncarried (x .kind) e in
-    simp (ne-eqb (x .kind) IN (u .not-in), ne-eqb (x .kind) OUT (u .not-out), ne-eqb (x .kind) MISS (u .not-miss), ap (leb 1) (u .forms-none))
+    simp (e, ne-eqb (x .kind) IN (u .not-in), ne-eqb (x .kind) OUT (u .not-out), ne-eqb (x .kind) MISS (u .not-miss), ap (leb 1) (u .forms-none))
 
 module _ (x : Record) (a b : Seen) (g : Agree x a b) where
-  same-carrier : carrierNo x (a .racking) (a .look) ≡ carrierNo x (b .racking) (b .look)
+  same-carrier : carrierNo x (a .racking) (a .look) (a .other) ≡ carrierNo x (b .racking) (b .look) (b .other)
   unfolding carrierNo
   same-carrier =
-      cases (leb 1 (carriersNamed (x .kind))) (λ e. let l = g .look (one-carrier (x .kind) e) in rw (l, g .racking))
-      (λ e. let z = no-carrier (x .kind) e in unasked x a z ∙ sym (unasked x b z))
+      is (carriersNamed (x .kind)) 0 (λ z. unasked x a z ∙ sym (unasked x b z))
+      (λ d. let l = g .look (omega (arith, d)) in
+      cases (isPlated (x .kind))
+      (λ t. let o = g .other (eqb-true (carriersNamed (x .kind)) 2 t) in rw (t, l, o, g .racking))
+      (λ t. rw (t, l, g .racking)))
 
   same-first : firstAfter (x .kind) (a .here) ≡ firstAfter (x .kind) (b .here)
   unfolding firstAfter
   same-first =
-      cases (eqb (x .kind) TUCK) (λ e. let h = g .here (tuck-works (eqb-true (x .kind) TUCK e)) in rw (e, h)) (λ e. rw e)
+      cases (tucks (x .kind)) (λ e. let h = g .here (tuck-works (x .kind) e) in rw (e, h)) (λ e. rw e)
 
   same-second : secondAfter (x .kind) (a .here) (a .there) ≡ secondAfter (x .kind) (b .here) (b .there)
   unfolding secondAfter
@@ -71,7 +75,7 @@ module _ (x : Record) (a b : Seen) (g : Agree x a b) where
 abbrev after : State → Record → Seen → State
 after s x v =
     changed s (rackingAfter (v .racking) x) (edit stored 0 (hooksOf x) (firstAfter (x .kind) (v .here) ∷ secondAfter (x .kind) (v .here) (v .there) ∷ []) (s .loops))
-    (edit acted inactive (placesOf x) (actOf x (v .racking) ∷ []) (moveAttachments x (s .carriers)))
+    (edit acted inactive (placesOf x) (actOf x (v .racking) ∷ actOf x (v .racking) ∷ []) (moveAttachments x (s .carriers)))
 
 after-is : (s : State) (x : Record) → applyOf s x ≡ after s x (seeOf s x)
 unfolding applyOf seeOf
@@ -141,6 +145,10 @@ record Clear (r : Racking) (x y : Record) : Type 0 where
   carriers : Apart (placesOf x) (placesOf y)
 
 module _ (s : State) (x y : Record) (C : Clear (s .racking) x y) where
+  -- what each carrier of a record does
+  abbrev acts : Record → List Act
+  acts z = actOf z (s .racking) ∷ actOf z (s .racking) ∷ []
+
   -- hooks of x are none of y's
   first-away : 1 ≤ hooksWorked (x .kind) → Away (hookOf (x .at)) (hooksOf y)
   first-away t = first-hook (λ (i : ℕ). Away i (hooksOf y)) x (C .hooks) t
@@ -165,26 +173,26 @@ module _ (s : State) (x y : Record) (C : Clear (s .racking) x y) where
         limit = refl;
         here = λ t. edit-other stored 0 (hooksOf y) _ (s .loops) (hookOf (x .at)) (first-away t);
         there = λ t. edit-other stored 0 (hooksOf y) _ (s .loops) (hookOf (x .to)) (second-away t);
-        look = λ t. rw (
-          C .racking,
-          edit-other acted inactive (placesOf y) (actOf y (s .racking) ∷ []) (moveAttachments y (s .carriers)) (x .carrier - 1)
-              (carrier-place (λ (i : ℕ). Away i (placesOf y)) x t (C .carriers)),
-        )
-            (look-kept (s .carriers) (x .carrier - 1));
+        look = λ t. seen-again (x .carrier - 1) (first-place (λ (i : ℕ). Away i (placesOf y)) x (C .carriers) t);
+        other = λ t. seen-again (x .second - 1) (second-place (λ (i : ℕ). Away i (placesOf y)) x (C .carriers) t);
       }
+    where
+      seen-again : (i : ℕ) → Away i (placesOf y)
+          → lookOf (rackingAfter (s .racking) y) (getD (edit acted inactive (placesOf y) (acts y) (moveAttachments y (s .carriers))) i inactive) ≡ lookOf (s .racking) (getD (s .carriers) i inactive)
+      seen-again i away =
+          rw (C .racking, edit-other acted inactive (placesOf y) (acts y) (moveAttachments y (s .carriers)) i away) (look-kept (s .carriers) i)
 
   -- the attachments that y moves are not the one that x makes
   moves-edit : (cs : List Carrier)
-      → moveAttachments y (edit acted inactive (placesOf x) (actOf x (s .racking) ∷ []) cs) ≡ edit acted inactive (placesOf x) (actOf x (s .racking) ∷ []) (moveAttachments y cs)
+      → moveAttachments y (edit acted inactive (placesOf x) (acts x) cs) ≡ edit acted inactive (placesOf x) (acts x) (moveAttachments y cs)
   unfolding moveAttachments
   moves-edit cs =
       cases (eqb (hooksWorked (y .kind)) 2)
       (λ e. let t = eqb-true (hooksWorked (y .kind)) 2 e in
-      rw e (map-edit acted inactive (movedTo (y .at) (y .to)) (inactive-moved (y .at) (y .to)) (placesOf x) (actOf x (s .racking) ∷ []) cs (
-        moved-acted (y .at) (y .to) (actOf x (s .racking)) (act-free x (s .racking) (y .at)
-            (λ u. other-needle (x .at) (y .at) (first-hook (λ (j : ℕ). hookOf (x .at) ≡ j → ⊥) y (first-away u) (omega arith)))),
-        tt,
-      )))
+      let free : (c : Carrier) → movedTo (y .at) (y .to) (acted (actOf x (s .racking)) c) ≡ acted (actOf x (s .racking)) (movedTo (y .at) (y .to) c) =
+      moved-acted (y .at) (y .to) (actOf x (s .racking)) (act-free x (s .racking) (y .at)
+      (λ u. other-needle (x .at) (y .at) (first-hook (λ (j : ℕ). hookOf (x .at) ≡ j → ⊥) y (first-away u) (omega arith)))) in
+      rw e (map-edit acted inactive (movedTo (y .at) (y .to)) (inactive-moved (y .at) (y .to)) (placesOf x) (acts x) cs (free, (free, tt))))
       (λ e. rw e)
 
   moves-moves : (cs : List Carrier) → moveAttachments x (moveAttachments y cs) ≡ moveAttachments y (moveAttachments x cs)
@@ -220,10 +228,10 @@ module _ (s : State) (x y : Record) (C : Clear (s .racking) x y) (D : Clear (s .
   both-carriers : after (after s x xs) y ys .carriers ≡ after (after s y ys) x xs .carriers
   unfolding seeOf
   both-carriers =
-      let A = edit acted inactive (placesOf x) (actOf x (s .racking) ∷ []) in
-      let B = edit acted inactive (placesOf y) (actOf y (s .racking) ∷ []) in
+      let A = edit acted inactive (placesOf x) (acts s x y C x) in
+      let B = edit acted inactive (placesOf y) (acts s x y C y) in
       ap B (moves-edit s x y C (moveAttachments x (s .carriers)))
-      ∙ edit-edit acted inactive (placesOf y) (placesOf x) (actOf y (s .racking) ∷ []) (actOf x (s .racking) ∷ []) (moveAttachments y (moveAttachments x (s .carriers))) (D .carriers)
+      ∙ edit-edit acted inactive (placesOf y) (placesOf x) (acts s x y C y) (acts s x y C x) (moveAttachments y (moveAttachments x (s .carriers))) (D .carriers)
       ∙ ap (λ (l : List Carrier). A (B l)) (sym (moves-moves s x y C (s .carriers)))
       ∙ ap A (sym (moves-edit s y x D (moveAttachments y (s .carriers))))
 
@@ -272,7 +280,8 @@ or-right a b e = cases (eqb a 0) (λ h. sym (simp h) ∙ e) (λ h. absurd (eqb-f
 -- its two needles are opposite, which rests on the racking alone
 number-opposite : (s : State) (x : Record) → numberAt s x ≡ 0 → oppositeNo x (s .racking) ≡ 0
 unfolding numberAt decidedNo seeOf
-number-opposite s x e = or-left (oppositeNo x (s .racking)) _ (or-right (carrierNo x (s .racking) (seeOf s x .look)) _ e)
+number-opposite s x e =
+    or-left (oppositeNo x (s .racking)) _ (or-right (carrierNo x (s .racking) (seeOf s x .look) (seeOf s x .other)) _ (or-right (twiceNo x) _ e))
 
 opposite-columns : (x : Record) (r : Racking) → oppositeNo x r ≡ 0 → hooksWorked (x .kind) ≡ 2 → columnOf (x .at) r ≡ columnOf (x .to) r
 unfolding oppositeNo sameColumn

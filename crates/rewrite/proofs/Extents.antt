@@ -16,13 +16,13 @@ use Rattle.machine.proofs.Laws.{and-two}
 use Rattle.machine.specs.Geometry.{columnOf}
 use Rattle.machine.specs.declared.Racking.{Racking}
 use Rattle.record.specs.declared.Record.{Record}
-use Rattle.record.specs.Kinds.{DROP, XFER, IN, OUT, MISS, TUCK, KNIT}
+use Rattle.record.specs.Kinds.{DROP, XFER, IN, OUT, MISS, TUCK, KNIT, PLATED-TUCK, PLATED-KNIT}
 use Rattle.record.specs.Names.{carriersOf, isRack, outlineOf}
 use Rattle.record.proofs.Shapes.{is}
 use Rattle.record.proofs.Shapes.{cond-cases}
 use Rattle.trace.specs.Records.{tied}
 use Rattle.rewrite.specs.declared.Extent.{Extent}
-use Rattle.rewrite.specs.Extents.{halfColumn, layerOf, narrow, broad, formExtent, extentOf, meets, member, shareCarrier}
+use Rattle.rewrite.specs.Extents.{halfColumn, layerOf, narrow, broad, smaller, greater, formExtent, extentOf, meets, member, shareCarrier}
 use Rattle.rewrite.specs.Programs.{what, knitting}
 use Rattle.rewrite.specs.Laid.{farApart}
 use Rattle.rewrite.proofs.Signed.{le-from, le-trans, le-self, le-next, le-before}
@@ -43,14 +43,18 @@ module _ (r : Racking) (x : Record) where
   unfolding extentOf member
   pass-extent a b = is (x .kind) IN (λ e. simp e) (λ c. is (x .kind) OUT (λ e. simp e) (λ d. let e : x .kind ≡ MISS = omega arith in simp e))
 
-  pub form-extent : TUCK ≤ x .kind → x .kind ≤ KNIT → extentOf r x ≡ formExtent h (x .at) (x .carrier)
+  pub form-extent : TUCK ≤ x .kind → x .kind ≤ KNIT → extentOf r x ≡ formExtent h (x .at) (x .carrier) (x .carrier)
   unfolding extentOf member
   form-extent a b = is (x .kind) TUCK (λ e. simp e) (λ c. let e : x .kind ≡ KNIT = omega arith in simp e)
 
-  -- a rack, a split, and what is no kind
-  pub other-extent : (x .kind ≡ DROP → ⊥) → (x .kind ≡ XFER → ⊥) → (IN ≤ x .kind → x .kind ≤ KNIT → ⊥) → extentOf r x ≡ broad h 0 11
+  pub plated-extent : PLATED-TUCK ≤ x .kind → x .kind ≤ PLATED-KNIT → extentOf r x ≡ formExtent h (x .at) (smaller (x .carrier) (x .second)) (greater (x .carrier) (x .second))
   unfolding extentOf member
-  other-extent a b w =
+  plated-extent a b = is (x .kind) PLATED-TUCK (λ e. simp e) (λ c. let e : x .kind ≡ PLATED-KNIT = omega arith in simp e)
+
+  -- a rack, a split, and what is no kind
+  pub other-extent : (x .kind ≡ DROP → ⊥) → (x .kind ≡ XFER → ⊥) → (IN ≤ x .kind → x .kind ≤ KNIT → ⊥) → (PLATED-TUCK ≤ x .kind → x .kind ≤ PLATED-KNIT → ⊥) → extentOf r x ≡ broad h 0 11
+  unfolding extentOf member
+  other-extent a b w z =
       let k = x .kind in
       simp (
         ne-eqb k DROP a,
@@ -60,6 +64,8 @@ module _ (r : Racking) (x : Record) where
         ne-eqb k MISS (λ e. w (omega arith) (omega arith)),
         ne-eqb k TUCK (λ e. w (omega arith) (omega arith)),
         ne-eqb k KNIT (λ e. w (omega arith) (omega arith)),
+        ne-eqb k PLATED-TUCK (λ e. z (omega arith) (omega arith)),
+        ne-eqb k PLATED-KNIT (λ e. z (omega arith) (omega arith)),
       )
 
 -- a comparison of 32-bit values, as code reads them back
@@ -125,7 +131,8 @@ unfolding extentOf
 spread r x =
     cond-cases P (eqb (x .kind) DROP) (λ e. one) (λ e. cond-cases P (eqb (x .kind) XFER) (λ e. one)
     (λ e. cond-cases P (member (x .kind) (IN ∷ OUT ∷ MISS ∷ [])) (λ e. three) (λ e. cond-cases P (member (x .kind) (TUCK ∷ KNIT ∷ []))
-    (λ e. cond-cases P (eqb (x .at .0) 0) (λ e. three) (λ e. three)) (λ e. three))))
+    (λ e. cond-cases P (eqb (x .at .0) 0) (λ e. three) (λ e. three)) (λ e. cond-cases P (member (x .kind) (PLATED-TUCK ∷ PLATED-KNIT ∷ []))
+    (λ e. cond-cases P (eqb (x .at .0) 0) (λ e. three) (λ e. three)) (λ e. three)))))
   where
     h : ℤ
     h = halfColumn (x .at) r

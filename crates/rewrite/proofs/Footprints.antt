@@ -8,7 +8,7 @@ use native.Mathlib.Omega.{arith}
 use lib.IntN.{ℤ, _+ℤ_}
 use lib.Signed.{leZ}
 use lib.ListN.{take}
-use lib.Dec.{eqb, leb}
+use lib.Dec.{eqb, leb, ltb}
 use borrow.Author.Tests.{ne-eqb, eqb-false, leb-true, le-leb}
 use Rattle.machine.specs.declared.Needle.{Needle}
 use Rattle.machine.specs.declared.Column.{Column}
@@ -20,11 +20,11 @@ use Rattle.machine.proofs.Laws.{and-two}
 use Rattle.record.specs.declared.Record.{Record}
 use Rattle.record.specs.Kinds.{byKind, hooksWorked, carriersNamed}
 use Rattle.record.specs.Names.{needlesOf, carriersOf}
-use Rattle.record.proofs.Shapes.{Known, Named, named, any-kind, one-carrier, no-carrier}
+use Rattle.record.proofs.Shapes.{Known, Named, Count, none, one, two, named, hook-count, carrier-count}
 use Rattle.record.proofs.Ranges.{InRange}
 use Rattle.record.proofs.Shapes.{cond-cases}
 use Rattle.rewrite.specs.declared.Extent.{Extent}
-use Rattle.rewrite.specs.Extents.{halfColumn, layerOf, narrow, broad, formExtent, extentOf, Covers, Share, meets, member, common, shareCarrier}
+use Rattle.rewrite.specs.Extents.{halfColumn, layerOf, narrow, broad, smaller, greater, formExtent, extentOf, Covers, Share, meets, member, common, shareCarrier}
 use Rattle.rewrite.proofs.Edits.{Away, Apart}
 use Rattle.rewrite.proofs.Signed.{le-trans, le-self, le-next, le-before, later, higher}
 
@@ -61,10 +61,17 @@ pub data Footprint (h : ℤ) (n : Needle) (k : ℕ) : ℕ → Extent → Type 0 
   drop : Footprint h n k 1 (narrow h (layerOf n) (layerOf n))
   xfer : Footprint h n k 2 (narrow h 0 11)
   pass : Footprint h n k 0 (broad h k k)
-  form : Footprint h n k 1 (formExtent h n k)
+  form : (low high : ℕ) → low ≤ carrierCount → Footprint h n k 1 (formExtent h n low high)
   split : Footprint h n k 2 (broad h 0 11)
 
-module _ (r : Racking) (x : Record) where
+-- both carriers that a record has room for are in range, or 0
+abbrev pub CarriersHigh : Record → Type 0
+CarriersHigh x = (x .carrier ≤ carrierCount) × (x .second ≤ carrierCount)
+
+module _ (r : Racking) (x : Record) (h : CarriersHigh x) where
+  smaller-in : smaller (x .carrier) (x .second) ≤ carrierCount
+  smaller-in = cond-cases (λ (k : ℕ). k ≤ carrierCount) (ltb (x .carrier) (x .second)) (λ e. h .0) (λ e. h .1)
+
   pub footprint : Footprint (halfColumn (x .at) r) (x .at) (x .carrier) (hooksWorked (x .kind)) (extentOf r x)
   unfolding byKind extentOf member
   footprint = go (named (x .kind))
@@ -76,9 +83,11 @@ module _ (r : Racking) (x : Record) where
       go (Named.known (Known.carrier-in e)) = simp e pass
       go (Named.known (Known.carrier-out e)) = simp e pass
       go (Named.known (Known.miss e)) = simp e pass
-      go (Named.known (Known.tuck e)) = simp e form
-      go (Named.known (Known.knit e)) = simp e form
+      go (Named.known (Known.tuck e)) = simp e (form (x .carrier) (x .carrier) (h .0))
+      go (Named.known (Known.knit e)) = simp e (form (x .carrier) (x .carrier) (h .0))
       go (Named.known (Known.split e)) = simp e split
+      go (Named.known (Known.plated-tuck e)) = simp e (form (smaller (x .carrier) (x .second)) (greater (x .carrier) (x .second)) smaller-in)
+      go (Named.known (Known.plated-knit e)) = simp e (form (smaller (x .carrier) (x .second)) (greater (x .carrier) (x .second)) smaller-in)
       go (Named.unknown d z) =
           let k = x .kind in
           simp (
@@ -91,6 +100,8 @@ module _ (r : Racking) (x : Record) where
             ne-eqb k 7 (λ e. d (Known.tuck e)),
             ne-eqb k 8 (λ e. d (Known.knit e)),
             ne-eqb k 9 (λ e. d (Known.split e)),
+            ne-eqb k 10 (λ e. d (Known.plated-tuck e)),
+            ne-eqb k 11 (λ e. d (Known.plated-knit e)),
           ) rack
 
 on-narrow : (h : ℤ) {low high layer : ℕ} → low ≤ layer → layer ≤ high → Covers (narrow h low high) h layer
@@ -103,47 +114,39 @@ layer-high : (n : Needle) → layerOf n ≤ 11
 unfolding layerOf
 layer-high n = cond-cases (λ (m : ℕ). m ≤ 11) (eqb (n .0) 0) (λ e. omega arith) (λ e. omega arith)
 
--- a tuck or knit covers its needle's bed
-on-form : (h : ℤ) (n : Needle) (k : ℕ) → k ≤ carrierCount → Covers (formExtent h n k) h (layerOf n)
+-- a tuck or knit, plain or plated, covers its needle's bed
+on-form : (h : ℤ) (n : Needle) (low high : ℕ) → low ≤ carrierCount → Covers (formExtent h n low high) h (layerOf n)
 unfolding layerOf
-on-form h n k le = cases (eqb (n .0) 0) (λ e. simp e (on-broad h (omega arith) (omega arith))) (λ e. simp e (on-broad h (omega arith) (omega arith)))
+on-form h n low high le = cases (eqb (n .0) 0) (λ e. simp e (on-broad h (omega arith) (omega arith))) (λ e. simp e (on-broad h (omega arith) (omega arith)))
 
 module _ {h : ℤ} {n : Needle} {k : ℕ} where
   -- every extent covers something
-  pub some-layer : {m : ℕ} {e : Extent} → Footprint h n k m e → k ≤ carrierCount → (layer : ℕ) × Covers e h layer
-  some-layer rack le = (0, on-broad h (omega arith) (omega arith))
-  some-layer drop le = (layerOf n, on-narrow h (omega arith) (omega arith))
-  some-layer xfer le = (0, on-narrow h (omega arith) (omega arith))
-  some-layer pass le = (k, on-broad h (omega arith) (omega arith))
-  some-layer form le = (layerOf n, on-form h n k le)
-  some-layer split le = (0, on-broad h (omega arith) (omega arith))
+  pub some-layer : {m : ℕ} {e : Extent} → Footprint h n k m e → (layer : ℕ) × Covers e h layer
+  some-layer rack = (0, on-broad h (omega arith) (omega arith))
+  some-layer drop = (layerOf n, on-narrow h (omega arith) (omega arith))
+  some-layer xfer = (0, on-narrow h (omega arith) (omega arith))
+  some-layer pass = (k, on-broad h (omega arith) (omega arith))
+  some-layer (form low high le) = (layerOf n, on-form h n low high le)
+  some-layer split = (0, on-broad h (omega arith) (omega arith))
 
   -- that of a record which works a hook covers its first needle; that of one which works two covers both beds
-  first-covered : {m : ℕ} {e : Extent} → Footprint h n k m e → k ≤ carrierCount → 1 ≤ m → Covers e h (layerOf n)
-  first-covered rack le t = absurd (omega arith)
-  first-covered drop le t = on-narrow h (omega arith) (omega arith)
-  first-covered xfer le t = on-narrow h (omega arith) (layer-high n)
-  first-covered pass le t = absurd (omega arith)
-  first-covered form le t = on-form h n k le
-  first-covered split le t = on-broad h (omega arith) (layer-high n)
+  first-covered : {m : ℕ} {e : Extent} → Footprint h n k m e → 1 ≤ m → Covers e h (layerOf n)
+  first-covered rack t = absurd (omega arith)
+  first-covered drop t = on-narrow h (omega arith) (omega arith)
+  first-covered xfer t = on-narrow h (omega arith) (layer-high n)
+  first-covered pass t = absurd (omega arith)
+  first-covered (form low high le) t = on-form h n low high le
+  first-covered split t = on-broad h (omega arith) (layer-high n)
 
   both-covered : {m : ℕ} {e : Extent} → Footprint h n k m e → m ≡ 2 → (layer : ℕ) → layer ≤ 11 → Covers e h layer
   both-covered rack t layer le = absurd (omega arith)
   both-covered drop t layer le = absurd (omega arith)
   both-covered xfer t layer le = on-narrow h (omega arith) le
   both-covered pass t layer le = absurd (omega arith)
-  both-covered form t layer le = absurd (omega arith)
+  both-covered (form low high q) t layer le = absurd (omega arith)
   both-covered split t layer le = on-broad h (omega arith) le
 
--- ---- the needles that a record works
-data Count : ℕ → Type 0 where
-  none : Count 0
-  one : Count 1
-  two : Count 2
-
-count : (kind : ℕ) → Count (hooksWorked kind)
-count = any-kind Count none one two none none none one one two none
-
+-- ---- the needles that a record works and the carriers that it names, none, one or two
 each-counted : {A : Type 0} (P : A → Type 0) (a b : A) {n : ℕ} → Count n → (1 ≤ n → P a) → (n ≡ 2 → P b) → Each P (take n (a ∷ b ∷ []))
 each-counted P a b none f g = tt
 each-counted P a b one f g = (f (omega arith), tt)
@@ -169,15 +172,19 @@ placesOf x = map (λ (k : ℕ). k - 1) (carriersOf x)
 module _ (P : ℕ → Type 0) (x : Record) where
   pub first-hook : Each P (hooksOf x) → 1 ≤ hooksWorked (x .kind) → P (hookOf (x .at))
   unfolding needlesOf
-  first-hook e t = first-counted hookOf P (x .at) (x .to) (count (x .kind)) e t
+  first-hook e t = first-counted hookOf P (x .at) (x .to) (hook-count (x .kind)) e t
 
   pub second-hook : Each P (hooksOf x) → hooksWorked (x .kind) ≡ 2 → P (hookOf (x .to))
   unfolding needlesOf
-  second-hook e t = second-counted hookOf P (x .at) (x .to) (count (x .kind)) e t
+  second-hook e t = second-counted hookOf P (x .at) (x .to) (hook-count (x .kind)) e t
 
-  pub carrier-place : carriersNamed (x .kind) ≡ 1 → Each P (placesOf x) → P (x .carrier - 1)
+  pub first-place : Each P (placesOf x) → 1 ≤ carriersNamed (x .kind) → P (x .carrier - 1)
   unfolding carriersOf
-  carrier-place t = simp t (λ e. e .0)
+  first-place e t = first-counted (λ (k : ℕ). k - 1) P (x .carrier) (x .second) (carrier-count (x .kind)) e t
+
+  pub second-place : Each P (placesOf x) → carriersNamed (x .kind) ≡ 2 → P (x .second - 1)
+  unfolding carriersOf
+  second-place e t = second-counted (λ (k : ℕ). k - 1) P (x .carrier) (x .second) (carrier-count (x .kind)) e t
 
 -- ---- the law of footprints
 -- fields in range, and two needles opposite: what a record must have before the state is looked at
@@ -191,18 +198,21 @@ pub record Inside (r : Racking) (e : Extent) (n : Needle) : Type 0 where
   covered : Covers e (halfColumn n r) (layerOf n)
 
 module _ (r : Racking) (x : Record) (S : Settled r x) where
+  abbrev print : Footprint (halfColumn (x .at) r) (x .at) (x .carrier) (hooksWorked (x .kind)) (extentOf r x)
+  print = footprint r x (S .in-range .carrier-high, S .in-range .second-high)
+
   to-covered : hooksWorked (x .kind) ≡ 2 → Covers (extentOf r x) (halfColumn (x .to) r) (layerOf (x .to))
   unfolding halfColumn
   to-covered t =
       subst (λ (z : Column). Covers (extentOf r x) (z .0 +ℤ z .0) (layerOf (x .to))) (S .opposite t)
-      (both-covered (footprint r x) t (layerOf (x .to)) (layer-high (x .to)))
+      (both-covered print t (layerOf (x .to)) (layer-high (x .to)))
 
   -- each needle that a settled record works lies inside its extent
   pub inside : Each (Inside r (extentOf r x)) (needlesOf x)
   unfolding needlesOf
   inside =
-      each-counted (Inside r (extentOf r x)) (x .at) (x .to) (count (x .kind))
-      (λ t. record { on-bed = S .in-range .at-bed; covered = first-covered (footprint r x) (S .in-range .carrier-high) t })
+      each-counted (Inside r (extentOf r x)) (x .at) (x .to) (hook-count (x .kind))
+      (λ t. record { on-bed = S .in-range .at-bed; covered = first-covered print t })
       (λ t. record { on-bed = S .in-range .to-bed; covered = to-covered t })
 
 -- one hook is one needle
@@ -243,8 +253,7 @@ Numbered l = Each (λ (k : ℕ). 1 ≤ k) l
 
 numbered : (x : Record) → InRange x → Numbered (carriersOf x)
 unfolding carriersOf
-numbered x h =
-    cases (leb 1 (carriersNamed (x .kind))) (λ e. simp (one-carrier (x .kind) e) (h .carrier-low (leb-true 1 (carriersNamed (x .kind)) e), tt)) (λ e. simp (no-carrier (x .kind) e) tt)
+numbered x h = each-counted (λ (k : ℕ). 1 ≤ k) (x .carrier) (x .second) (carrier-count (x .kind)) (h .carrier-low) (h .second-low)
 
 member-away : (i : ℕ) (l : List ℕ) → 1 ≤ i → Numbered l → member i l ≡ false → Away (i - 1) (map (λ (k : ℕ). k - 1) l)
 unfolding member

@@ -79,6 +79,8 @@ module _ (n : Needle) (x : Record) where
   named-enters (Known.tuck k) e = Enters.by-tuck k (works-one (simp k) .0 e)
   named-enters (Known.knit k) e = Enters.by-knit k (works-one (simp k) .0 e)
   named-enters (Known.split k) e = ⊎-elim (Enters.split-from k) (Enters.split-to k) (works-two (simp k) .0 e)
+  named-enters (Known.plated-tuck k) e = Enters.by-plated-tuck k (works-one (simp k) .0 e)
+  named-enters (Known.plated-knit k) e = Enters.by-plated-knit k (works-one (simp k) .0 e)
 
   enters-named : Enters n x → Named
   unfolding byKind
@@ -89,6 +91,8 @@ module _ (n : Needle) (x : Record) where
   enters-named (Enters.by-knit k e) = works-one (simp k) .1 e
   enters-named (Enters.split-from k e) = works-two (simp k) .1 (inl e)
   enters-named (Enters.split-to k e) = works-two (simp k) .1 (inr e)
+  enters-named (Enters.by-plated-tuck k e) = works-one (simp k) .1 e
+  enters-named (Enters.by-plated-knit k e) = works-one (simp k) .1 e
 
 pub enters-exactly : EntersExactly
 enters-exactly n bytes x form = rw (form-what form) (named-enters n x (form-in form .known), enters-named n x)
@@ -109,6 +113,14 @@ module _ (k : ℕ) (x : Record) where
     (λ e. simp (c, eq-eqb k (x .carrier) (sym e))),
   )
 
+  names-two : carriersNamed (x .kind) ≡ 2 → Carried ↔ ((x .carrier ≡ k) ⊎ (x .second ≡ k))
+  unfolding member carriersOf
+  names-two c = (
+    (λ e. cases (eqb k (x .carrier)) (λ q. inl (sym (eqb-true k (x .carrier) q))) λ q.
+        cases (eqb k (x .second)) (λ s. inr (sym (eqb-true k (x .second) s))) (λ s. absurd (true≢false (sym e ∙ simp (c, q, s))))),
+    ⊎-elim (λ e. simp (c, eq-eqb k (x .carrier) (sym e))) (λ e. cases (eqb k (x .carrier)) (λ q. simp (c, q)) (λ q. simp (c, q, eq-eqb k (x .second) (sym e)))),
+  )
+
   named-carries : Known (x .kind) → Carried → Carries k x
   unfolding byKind
   named-carries (Known.rack c) e = absurd (names-none (simp c) e)
@@ -120,6 +132,8 @@ module _ (k : ℕ) (x : Record) where
   named-carries (Known.tuck c) e = Carries.by-tuck c (names-one (simp c) .0 e)
   named-carries (Known.knit c) e = Carries.by-knit c (names-one (simp c) .0 e)
   named-carries (Known.split c) e = Carries.by-split c (names-one (simp c) .0 e)
+  named-carries (Known.plated-tuck c) e = ⊎-elim (Carries.plated-tuck-first c) (Carries.plated-tuck-second c) (names-two (simp c) .0 e)
+  named-carries (Known.plated-knit c) e = ⊎-elim (Carries.plated-knit-first c) (Carries.plated-knit-second c) (names-two (simp c) .0 e)
 
   carries-named : Carries k x → Carried
   unfolding byKind
@@ -129,6 +143,10 @@ module _ (k : ℕ) (x : Record) where
   carries-named (Carries.by-tuck c e) = names-one (simp c) .1 e
   carries-named (Carries.by-knit c e) = names-one (simp c) .1 e
   carries-named (Carries.by-split c e) = names-one (simp c) .1 e
+  carries-named (Carries.plated-tuck-first c e) = names-two (simp c) .1 (inl e)
+  carries-named (Carries.plated-tuck-second c e) = names-two (simp c) .1 (inr e)
+  carries-named (Carries.plated-knit-first c e) = names-two (simp c) .1 (inl e)
+  carries-named (Carries.plated-knit-second c e) = names-two (simp c) .1 (inr e)
 
 pub carrier-exactly : CarrierExactly
 carrier-exactly k bytes x form = rw (form-what form) (named-carries k x (form-in form .known), carries-named k x)

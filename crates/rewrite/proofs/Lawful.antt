@@ -35,13 +35,13 @@ use Rattle.rewrite.specs.Exact.{Tied}
 use Rattle.rewrite.specs.Laid.{isRecord}
 use Rattle.rewrite.proofs.Machine.{machine, had, Good}
 use Rattle.rewrite.proofs.Records.{record-form}
-use Rattle.rewrite.proofs.Footprints.{footprint, some-layer, share-meets, meets-share, Settled, Inside, inside, inside-meets}
+use Rattle.rewrite.proofs.Footprints.{CarriersHigh, footprint, some-layer, share-meets, meets-share, Settled, Inside, inside, inside-meets}
 use Rattle.rewrite.proofs.Commute.{needle-eq, number-settled, racking-applied, untied-commute}
 
 -- ---- extents
-meets-exactly : (r : Racking) (x y : Record) → x .carrier ≤ 10 → y .carrier ≤ 10 → (meets (extentOf r x) (extentOf r y) ≡ true) ↔ Share (extentOf r x) (extentOf r y)
+meets-exactly : (r : Racking) (x y : Record) → CarriersHigh x → CarriersHigh y → (meets (extentOf r x) (extentOf r y) ≡ true) ↔ Share (extentOf r x) (extentOf r y)
 meets-exactly r x y g h =
-    let (k, p) = some-layer (footprint r x) g in let (m, q) = some-layer (footprint r y) h in (
+    let (k, p) = some-layer (footprint r x g) in let (m, q) = some-layer (footprint r y h) in (
       meets-share (extentOf r x) (extentOf r y) (halfColumn (x .at) r) (halfColumn (y .at) r) k m p q,
       λ (z, layer, a, b). share-meets (extentOf r x) (extentOf r y) z layer a b,
     )
@@ -50,23 +50,23 @@ meets-sym : (a b : Extent) → meets a b ≡ meets b a
 unfolding meets
 meets-sym a b = cc (and-comm (leZ (a .left) (b .right)) (leZ (b .left) (a .right)), and-comm (leb (a .low) (b .high)) (leb (b .low) (a .high)))
 
-meets-self : (r : Racking) (x : Record) → x .carrier ≤ 10 → meets (extentOf r x) (extentOf r x) ≡ true
-meets-self r x h = let (k, p) = some-layer (footprint r x) h in share-meets (extentOf r x) (extentOf r x) (halfColumn (x .at) r) k p p
+meets-self : (r : Racking) (x : Record) → CarriersHigh x → meets (extentOf r x) (extentOf r x) ≡ true
+meets-self r x h = let (k, p) = some-layer (footprint r x h) in share-meets (extentOf r x) (extentOf r x) (halfColumn (x .at) r) k p p
 
--- whatever the bytes, the carrier that they name is at most 10
-read-carrier : {x : List ℕ} {d : Decoded} → Reads x d → (d .number ≡ 0 → InRange (d .what)) → d .what .carrier ≤ 10
+-- whatever the bytes, the carriers that they name are at most 10
+read-carriers : {x : List ℕ} {d : Decoded} → Reads x d → (d .number ≡ 0 → InRange (d .what)) → CarriersHigh (d .what)
 unfolding refusedAs
-read-carrier (Reads.none a) h = omega arith
-read-carrier (Reads.strange a b) h = omega arith
-read-carrier (Reads.short f a b) h = omega arith
-read-carrier (Reads.outside f a b) h = omega arith
-read-carrier (Reads.done f a b) h = h refl .carrier-high
+read-carriers (Reads.none a) h = (omega arith, omega arith)
+read-carriers (Reads.strange a b) h = (omega arith, omega arith)
+read-carriers (Reads.short f a b) h = (omega arith, omega arith)
+read-carriers (Reads.outside f a b) h = (omega arith, omega arith)
+read-carriers (Reads.done f a b) h = let r = h refl in (r .carrier-high, r .second-high)
 
-carrier-high : (x : List ℕ) → what x .carrier ≤ 10
-carrier-high x = read-carrier (reads x) (decode-in x)
+carriers-high : (x : List ℕ) → CarriersHigh (what x)
+carriers-high x = read-carriers (reads x) (decode-in x)
 
 bytes-meet : (r : Racking) (x : List ℕ) → meets (extentOf r (what x)) (extentOf r (what x)) ≡ true
-bytes-meet r x = meets-self r (what x) (carrier-high x)
+bytes-meet r x = meets-self r (what x) (carriers-high x)
 
 -- ---- carriers in common
 eqb-sym : (m n : ℕ) → eqb m n ≡ eqb n m
@@ -202,7 +202,7 @@ tied-words r x y e =
     cases (isRack (what x)) (λ a. Tied.first-rack (eqb-true _ RACK a)) λ a.
     cases (isRack (what y)) (λ b. Tied.second-rack (eqb-true _ RACK b)) λ b.
     cases (shareCarrier (what x) (what y)) (λ c. let (k, p, q) = common-some (carriersOf (what x)) (carriersOf (what y)) c in Tied.one-carrier k p q) λ c.
-    Tied.extents-meet (meets-exactly r (what x) (what y) (carrier-high x) (carrier-high y) .0 (sym (simp (a, b, c)) ∙ e))
+    Tied.extents-meet (meets-exactly r (what x) (what y) (carriers-high x) (carriers-high y) .0 (sym (simp (a, b, c)) ∙ e))
 
 words-tied : (r : Racking) (x y : List ℕ) → Tied r x y → tied knitting r x y ≡ true
 words-tied r x y t = tied-by (isRack (what x)) (isRack (what y)) (last t)
@@ -211,7 +211,7 @@ words-tied r x y t = tied-by (isRack (what x)) (isRack (what y)) (last t)
     last (Tied.first-rack e) a b c = absurd (eqb-false _ 1 a e)
     last (Tied.second-rack e) a b c = absurd (eqb-false _ 1 b e)
     last (Tied.one-carrier k p q) a b c = absurd (true≢false (sym (common-member k (carriersOf (what x)) (carriersOf (what y)) p q) ∙ c))
-    last (Tied.extents-meet s) a b c = meets-exactly r (what x) (what y) (carrier-high x) (carrier-high y) .1 s
+    last (Tied.extents-meet s) a b c = meets-exactly r (what x) (what y) (carriers-high x) (carriers-high y) .1 s
 
 pub tied-exactly : TiedExactly
 tied-exactly r x y = (tied-words r x y, words-tied r x y)

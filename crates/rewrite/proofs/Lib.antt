@@ -11,6 +11,7 @@ pub mod Replays
 pub mod Handed
 pub mod Demand
 pub mod HalfColumns
+pub mod Carriers
 pub mod Extents
 pub mod Rotations
 pub mod Laying

@@ -65,6 +65,7 @@ form-rack (Encodes.drop h i) b = refl
 form-rack (Encodes.xfer h i j) b = refl
 form-rack (Encodes.work {kind = k} a c d e f g h) b = let n = ne-eqb k RACK (λ q. omega arith) in simp n
 form-rack (Encodes.split c d e f g h) b = refl
+form-rack (Encodes.plated {kind = k} a c d e f g h i j) b = let n = ne-eqb k RACK (λ q. omega arith) in simp n
 
 form-kind : {x : List ℕ} {y : Record} → Encodes x y → eqb (byte x 0) RACK ≡ isRack y
 form-kind (Encodes.rack h) = refl
@@ -72,6 +73,7 @@ form-kind (Encodes.drop h i) = refl
 form-kind (Encodes.xfer h i j) = refl
 form-kind (Encodes.work a c d e f g h) = refl
 form-kind (Encodes.split c d e f g h) = refl
+form-kind (Encodes.plated a c d e f g h i j) = refl
 
 in-force : (b : ℕ) (u : List (List ℕ)) → Each (λ (x : List ℕ). isRecord x ≡ true) u → inForce knitting (racked b) u ≡ racked (rackByte b u)
 unfolding rackByte

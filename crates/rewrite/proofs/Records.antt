@@ -15,7 +15,7 @@ use Rattle.record.specs.declared.Record.{Record}
 use Rattle.record.specs.declared.Decoded.{Decoded}
 use Rattle.record.specs.Kinds.{byKind, sizeOf}
 use Rattle.record.specs.Format.{Encodes, byte, decodeOf}
-use Rattle.record.proofs.Shapes.{work-size}
+use Rattle.record.proofs.Shapes.{work-size, plated-size}
 use Rattle.record.proofs.Forms.{form-decode, decode-form}
 use Rattle.run.specs.Relation.{Steps}
 use Rattle.run.specs.Run.{runOf}
@@ -77,6 +77,7 @@ form-size (Encodes.xfer h i j) = record { least = omega arith; most = omega arit
 form-size (Encodes.work {kind = k} a b c d e f g) =
     record { least = omega arith; most = omega arith; kind = sym (work-size k a b) }
 form-size (Encodes.split c d e f g h) = record { least = omega arith; most = omega arith; kind = refl }
+form-size (Encodes.plated {kind = k} a b c d e f g h i) = record { least = omega arith; most = omega arith; kind = sym (plated-size k a b) }
 
 pub record-size : (x : List ℕ) → isRecord x ≡ true → Sized x
 record-size x w = form-size (record-form x w)

@@ -11,7 +11,7 @@ use Rattle.machine.specs.Limits.{programMost}
 use Rattle.machine.specs.declared.State.{State}
 use Rattle.machine.specs.Machine.{Each}
 use Rattle.record.specs.declared.Record.{Record}
-use Rattle.record.specs.Kinds.{DROP, XFER, IN, OUT, MISS, TUCK, KNIT, SPLIT}
+use Rattle.record.specs.Kinds.{DROP, XFER, IN, OUT, MISS, TUCK, KNIT, SPLIT, PLATED-TUCK, PLATED-KNIT}
 use Rattle.record.specs.Format.{Encodes}
 use Rattle.run.specs.Relation.{Valid}
 use Rattle.trace.specs.Records.{tied}
@@ -39,7 +39,8 @@ TiedExactly = (r : Racking) (x y : List ℕ) → (tied knitting r x y ≡ true) 
 abbrev pub EqualRecordsTied : Type 0
 EqualRecordsTied = (r : Racking) (x : List ℕ) → tied knitting r x x ≡ true
 
--- 'A needle's history is the list of drop, xfer, tuck, knit and split records naming it', first or second; 'in, out and miss pass by the hook and don't enter'
+-- 'A needle's history is the list of drop, xfer, tuck, knit and split records naming it', first or second; 'in, out and miss pass by the hook and don't enter'.
+-- 02, W1: plated stitches enter as tuck and knit do
 pub data Enters (n : Needle) (x : Record) : Type 0 where
   by-drop : x .kind ≡ DROP → x .at ≡ n → Enters n x
   xfer-from : x .kind ≡ XFER → x .at ≡ n → Enters n x
@@ -48,11 +49,13 @@ pub data Enters (n : Needle) (x : Record) : Type 0 where
   by-knit : x .kind ≡ KNIT → x .at ≡ n → Enters n x
   split-from : x .kind ≡ SPLIT → x .at ≡ n → Enters n x
   split-to : x .kind ≡ SPLIT → x .to ≡ n → Enters n x
+  by-plated-tuck : x .kind ≡ PLATED-TUCK → x .at ≡ n → Enters n x
+  by-plated-knit : x .kind ≡ PLATED-KNIT → x .at ≡ n → Enters n x
 
 abbrev pub EntersExactly : Type 0
 EntersExactly = (n : Needle) (bytes : List ℕ) (x : Record) → Encodes bytes x → (names (needle n) bytes ≡ true) ↔ Enters n x
 
--- 'a carrier's is the list of all records naming it': in, out, miss, tuck, knit and split name one
+-- 'a carrier's is the list of all records naming it': in, out, miss, tuck, knit and split name one, plated stitches two
 pub data Carries (k : ℕ) (x : Record) : Type 0 where
   by-in : x .kind ≡ IN → x .carrier ≡ k → Carries k x
   by-out : x .kind ≡ OUT → x .carrier ≡ k → Carries k x
@@ -60,6 +63,10 @@ pub data Carries (k : ℕ) (x : Record) : Type 0 where
   by-tuck : x .kind ≡ TUCK → x .carrier ≡ k → Carries k x
   by-knit : x .kind ≡ KNIT → x .carrier ≡ k → Carries k x
   by-split : x .kind ≡ SPLIT → x .carrier ≡ k → Carries k x
+  plated-tuck-first : x .kind ≡ PLATED-TUCK → x .carrier ≡ k → Carries k x
+  plated-tuck-second : x .kind ≡ PLATED-TUCK → x .second ≡ k → Carries k x
+  plated-knit-first : x .kind ≡ PLATED-KNIT → x .carrier ≡ k → Carries k x
+  plated-knit-second : x .kind ≡ PLATED-KNIT → x .second ≡ k → Carries k x
 
 abbrev pub CarrierExactly : Type 0
 CarrierExactly = (k : ℕ) (bytes : List ℕ) (x : Record) → Encodes bytes x → (names (carrier k) bytes ≡ true) ↔ Carries k x

@@ -113,7 +113,7 @@ module _ (program log output work : List ℕ) where
   pub data Rewrites : Rewritten → Type 0 where
     too-long : Long → Rewrites (unlooked 1)
     no-bench : (Long → ⊥) → Short → Rewrites (unlooked 2)
-    -- 3 to 11, as the run answers; nothing is written
+    -- 3 to 11 and 16, as the run answers; nothing is written
     not-valid : {a : Answer} → Lent → FirstRefusal program a → Complete (a .complete) (a .state) → Rewrites (refused a output work)
     gone-through : {t : State} {c : Bool} {front : List ℕ} {m : List (List ℕ)} → Followed t c front [] m → Rewrites (leaving 0 0 t c m)
     torn : {t : State} {c : Bool} {front rest : List ℕ} {m : List (List ℕ)} → Followed t c front rest m → Torn rest → Rewrites (leaving 14 (length front) t c m)

@@ -3,7 +3,8 @@ ghost use mathlib.Core.Path.{_≡_};
 ghost use mathlib.Core.List.{List, _++_};
 ghost use Prim.Native.Nat.{ℕ, _+_, _-_, _*_, _/_, _≤_, _<_};
 ghost use lib.ListN.{length, take, drop};
-ghost use Rattle.rewrite.specs.Extents.{halfColumn, layerOf, narrow, broad, formExtent, extentOf, meets, shareCarrier};
+ghost use Rattle.record.specs.Names.{carriersOf};
+ghost use Rattle.rewrite.specs.Extents.{member, halfColumn, layerOf, narrow, broad, smaller, greater, formExtent, extentOf, meets, shareCarrier};
 ghost use Rattle.rewrite.specs.Programs.{flat, recordsOf, startsOf};
 ghost use Rattle.rewrite.specs.Rewrite.{swapOf, logRecordOf, replay, lentNo, writes, rewriteOf};
 ghost use Rattle.rewrite.specs.Laid.{farApart, Sound, Laid, Marked, startAt, pairAt, rackByte, inForceAt, tiedPair, swapNo, leftBy, InTwoBytes, followNo, leftAfter, exchanged};
@@ -20,6 +21,8 @@ use record::DROP;
 use record::IN;
 use record::KNIT;
 use record::MISS;
+use record::PLATED_KNIT;
+use record::PLATED_TUCK;
 use record::RACK;
 use record::Record;
 use record::SPLIT;
@@ -99,14 +102,24 @@ fn layer(n: Needle) -> u8
     if n.0 == 0 { 0 } else { BACK }
 }
 
-// From the needle's bed to the carrier.
-fn form(n: Needle, r: Racking, k: u8) -> Extent
-    ensures { λ e. ⌜ e ≡ formExtent (halfColumn n r) n k ⌝ }
+// From the needle's bed to carriers, of which low is the smallest and high the greatest.
+fn form(n: Needle, r: Racking, low: u8, high: u8) -> Extent
+    ensures { λ e. ⌜ e ≡ formExtent (halfColumn n r) n low high ⌝ }
 {
     if n.0 == 0 {
-        return broad(n, r, 0, k);
+        return broad(n, r, 0, high);
     }
-    broad(n, r, k, BACK)
+    broad(n, r, low, BACK)
+}
+
+// From the needle's bed to two carriers.
+fn plated(n: Needle, r: Racking, k: u8, j: u8) -> Extent
+    ensures { λ e. ⌜ e ≡ formExtent (halfColumn n r) n (smaller k j) (greater k j) ⌝ }
+{
+    if k < j {
+        return form(n, r, k, j);
+    }
+    form(n, r, j, k)
 }
 
 // A record's extent at the racking in force.
@@ -123,8 +136,9 @@ pub fn extent_of(x: Record, r: Racking) -> Extent
         }
         XFER => narrow(n, r, 0, BACK),
         IN..=MISS => broad(n, r, x.carrier, x.carrier),
-        TUCK..=KNIT => form(n, r, x.carrier),
+        TUCK..=KNIT => form(n, r, x.carrier, x.carrier),
         SPLIT => all,
+        PLATED_TUCK..=PLATED_KNIT => plated(n, r, x.carrier, x.second),
         // a rack has no extent: no tie asks for it
         _ => all,
     }
@@ -148,17 +162,26 @@ impl Extent {
     }
 }
 
+// Whether the record names the carrier.
+fn names(x: Record, k: u8) -> bool
+    ensures { λ b. ⌜ b ≡ member k (carriersOf x) ⌝ }
+{
+    match record::carriers_named(x.kind) {
+        0 => false,
+        1 => k == x.carrier,
+        _ => k == x.carrier || k == x.second,
+    }
+}
+
 // Whether the two name one carrier.
 fn share_carrier(x: Record, y: Record) -> bool
     ensures { λ b. ⌜ b ≡ shareCarrier x y ⌝ }
 {
-    if !record::names_carrier(x.kind) {
-        return false;
+    match record::carriers_named(x.kind) {
+        0 => false,
+        1 => names(y, x.carrier),
+        _ => names(y, x.carrier) || names(y, x.second),
     }
-    if !record::names_carrier(y.kind) {
-        return false;
-    }
-    x.carrier == y.carrier
 }
 
 // Whether the two are two columns apart or more.
@@ -235,8 +258,8 @@ fn halves(part: &mut [u8], k: usize)
     }
 }
 
-// The records from a to b and from b to e change places: two of 3 bytes (drops) or of 5 (in to knit) byte by byte, at a
-// length that the compiler knows, all else by way of a copy.
+// The records from a to b and from b to e change places: two of 3 bytes (drops), of 5 (in to knit) or of 6 (split, plated)
+// byte by byte, at a length that the compiler knows, all else by way of a copy.
 fn exchange(output: &mut [u8], a: usize, b: usize, e: usize)
     requires { ⌜ (a ≤ b) × (b ≤ e) × (e ≤ length (now output)) × (e - a ≤ 12) ⌝ }
     ensures { λ _. ⌜ now (output .exit) ≡ exchanged (now (output .entry)) a b e ⌝ }
@@ -246,6 +269,7 @@ fn exchange(output: &mut [u8], a: usize, b: usize, e: usize)
     match each {
         3 => halves(&mut output[a..e], 3),
         5 => halves(&mut output[a..e], 5),
+        6 => halves(&mut output[a..e], 6),
         _ => rotate(&mut output[a..e], k),
     }
 }
@@ -433,7 +457,7 @@ pub fn writes(number: u8) -> bool
 }
 
 // Runs the program, copies it to the front of the output, writes its records' starts into the front of the work area
-// and makes the log's swaps there. Numbers 1 to 11 write nothing; 12 to 14 leave what the swaps before made.
+// and makes the log's swaps there. Numbers 1 to 11 and 16 write nothing; 12 to 14 leave what the swaps before made.
 pub fn rewrite(program: &[u8], log: &[u8], output: &mut [u8], work: &mut [u16]) -> Answer
     ensures answer { λ a. ⌜ a ≡ rewriteOf (now (program .entry)) (now (log .entry)) (now (output .entry)) (now (work .entry)) .answer ⌝ }
     ensures bytes { λ _. ⌜ now (output .exit) ≡ rewriteOf (now (program .entry)) (now (log .entry)) (now (output .entry)) (now (work .entry)) .output ⌝ }

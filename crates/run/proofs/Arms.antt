@@ -1,7 +1,7 @@
 -- The arms of the run's loop: from what the small functions promise, the number of a record and the state after it. Assumes nothing.
 use borrow.Table.Steps.{cases}
 use Prim.Native.Nat.{ℕ, _+_, _-_, _≤_}
-use mathlib.Core.Path.{_≡_, sym, _∙_}
+use mathlib.Core.Path.{_≡_, sym, ap, _∙_}
 use mathlib.Core.Bool.{false, cond}
 use mathlib.Core.List.{List, map}
 use native.Mathlib.Omega.{arith}
@@ -17,11 +17,13 @@ use Rattle.machine.specs.Machine.{inactive, changed, hookOf, loopsOn, carrierOf
 use Rattle.machine.specs.Looks.{anyBeside}
 use Rattle.machine.proofs.Laws.{none-moved}
 use Rattle.record.specs.declared.Record.{Record}
-use Rattle.record.specs.Kinds.{RACK, DROP, XFER, IN, OUT, MISS, TUCK, KNIT, SPLIT, byKind}
+use Rattle.record.specs.Kinds.{RACK, DROP, XFER, IN, OUT, MISS, TUCK, KNIT, SPLIT, PLATED-TUCK, PLATED-KNIT, byKind, loopsFormed, tucks}
 use Rattle.run.specs.Relation.{racked, entrySlot, exitSlot, unattached, reparked, attached}
-use Rattle.run.specs.Step.{orNumber, askedNo, numberAt, applyOf}
-use Rattle.run.specs.Loops.{tuckNo, tucked, transferNo, transferredLoops}
-use Rattle.run.proofs.ByKind.{seen, slotNo, readyNo, rack-number, rack-state, drop-number, drop-state, xfer-number, xfer-state, in-number, in-state, out-number, out-state, miss-number, miss-state, tuck-number, tuck-state, knit-number, knit-state, split-number, split-state}
+use Rattle.run.specs.Step.{orNumber, twiceNo, askedNo, firstAfter, numberAt, applyOf}
+use Rattle.run.specs.Loops.{tuckNo, tucked, formNo, formedLoops, transferNo, transferredLoops}
+use Rattle.run.proofs.ByKind.{or-zero, seen, slotNo, readyNo, pairNo, rack-number, rack-state, drop-number, drop-state, xfer-number, xfer-state, in-number, in-state, out-number, out-state, miss-number, miss-state, tuck-number, tuck-state, knit-number, knit-state, split-number, split-state, plated-tuck-number, plated-tuck-state, plated-knit-number, plated-knit-state}
+use Rattle.run.proofs.Premises.{twice-zero, twice-sixteen}
+use Rattle.record.proofs.Shapes.{two-named}
 
 -- the loops after a transfer or a tuck, by its number
 module _ (limit : ℕ) (l : List ℕ) (a b : Needle) (r : Racking) (v n : ℕ) (is : n ≡ transferNo limit l a b r) where
@@ -33,12 +35,12 @@ module _ (limit : ℕ) (l : List ℕ) (a b : Needle) (r : Racking) (v n : ℕ) (
   unfolding transferredLoops
   transfer-made h = simp (← is, eq-eqb n 0 h)
 
-module _ (limit : ℕ) (l : List ℕ) (a : Needle) (n : ℕ) (is : n ≡ tuckNo limit (getD l (hookOf a) 0)) where
-  tuck-kept : (n ≡ 0 → ⊥) → tucked limit l a ≡ l
+module _ (limit : ℕ) (l : List ℕ) (a : Needle) (v n : ℕ) (is : n ≡ tuckNo limit (getD l (hookOf a) 0) v) where
+  tuck-kept : (n ≡ 0 → ⊥) → tucked limit l a v ≡ l
   unfolding tucked
   tuck-kept h = simp (← is, ne-eqb n 0 h)
 
-  tuck-made : n ≡ 0 → tucked limit l a ≡ set l (hookOf a) (getD l (hookOf a) 0 + 1)
+  tuck-made : n ≡ 0 → tucked limit l a v ≡ set l (hookOf a) (getD l (hookOf a) 0 + v)
   unfolding tucked
   tuck-made h = simp (← is, eq-eqb n 0 h)
 
@@ -79,19 +81,19 @@ module _ (s : State) (x : Record) where
 
   -- what the record asks of its carrier, as `asked` says it
   abbrev asks : ℕ
-  asks = askedNo (x .kind) (x .at) (x .right) (s .racking) (seen s x)
+  asks = askedNo (x .kind) (x .at) (x .right) (s .racking) (seen s x (x .carrier))
 
   -- the state with another carrier
   abbrev with : List ℕ → Carrier → State
   with l c = parts l (set (s .carriers) (x .carrier - 1) c)
 
-  asks-in : x .kind ≡ IN → asks ≡ cond (seen s x .active) 6 0
+  asks-in : x .kind ≡ IN → asks ≡ cond (seen s x (x .carrier) .active) 6 0
   asks-in e = simp e
 
-  asks-out : x .kind ≡ OUT → asks ≡ slotNo s x (exitSlot s x)
+  asks-out : x .kind ≡ OUT → asks ≡ slotNo s x (x .carrier) (exitSlot s x)
   asks-out e = simp e
 
-  asks-miss : x .kind ≡ MISS → asks ≡ slotNo s x (entrySlot s x)
+  asks-miss : x .kind ≡ MISS → asks ≡ slotNo s x (x .carrier) (entrySlot s x)
   asks-miss e = simp e
 
   asks-split : x .kind ≡ SPLIT → asks ≡ readyNo s x
@@ -132,52 +134,93 @@ module _ (s : State) (x : Record) where
       pub in-out-made : n ≡ 0 → (c : Carrier) → c ≡ cond (eqb (x .kind) IN) (unattached (entrySlot s x)) inactive → Made (with (s .loops) c)
       in-out-made h c q = one (λ e. in-made e h c (q ∙ simp e)) (λ e. out-made e h c (q ∙ simp e))
 
+  -- the loops that a tuck or a knit forms, plain or plated, by the number
+  abbrev formsNo : ℕ
+  formsNo = formNo (hookLimit s) (x .kind) (loopsOn s (x .at))
+
+  abbrev formed : List ℕ
+  formed = formedLoops (hookLimit s) (x .kind) (s .loops) (x .at)
+
+  abbrev after-forming : List ℕ
+  after-forming = set (s .loops) (hookOf (x .at)) (firstAfter (x .kind) (loopsOn s (x .at)))
+
+  module _ (m : ℕ) (f : m ≡ formsNo) where
+    pub form-kept : (m ≡ 0 → ⊥) → formed ≡ s .loops
+    unfolding formNo formedLoops
+    form-kept g =
+        cases (tucks (x .kind)) (λ t. simp t (tuck-kept (hookLimit s) (s .loops) (x .at) (loopsFormed (x .kind)) m (f ∙ simp t) g)) (λ t. absurd (g (f ∙ simp t)))
+
+    form-made : m ≡ 0 → formed ≡ after-forming
+    unfolding formNo formedLoops firstAfter
+    form-made g =
+        cases (tucks (x .kind)) (λ t. simp t (tuck-made (hookLimit s) (s .loops) (x .at) (loopsFormed (x .kind)) m (f ∙ simp t) g)) (λ t. simp t)
+
   -- tuck and knit: a tuck asks for room besides
-  module _ (low : TUCK ≤ x .kind) (high : x .kind ≤ KNIT) (n : ℕ) (is : n ≡ readyNo s x) where
+  module _ (low : TUCK ≤ x .kind) (high : x .kind ≤ KNIT) where
     either : {G : Type 0} → (x .kind ≡ TUCK → G) → (x .kind ≡ KNIT → G) → G
     either f g = cases (eqb (x .kind) TUCK) (λ t. f (eqb-true _ _ t)) (λ t. g (last (x .kind) low high (eqb-false _ _ t)))
       where
         last : (k : ℕ) → TUCK ≤ k → k ≤ KNIT → (k ≡ TUCK → ⊥) → k ≡ KNIT
         last k h i a = omega arith
 
-    pub loop-unready : (n ≡ 0 → ⊥) → n ≡ numberAt s x
-    loop-unready h =
-        either (λ e. simp (← is) (before n _ h) ∙ sym (tuck-number s x e)) (λ e. is ∙ sym (knit-number s x e))
+    loop-number : numberAt s x ≡ orNumber (readyNo s x) formsNo
+    unfolding formNo byKind
+    loop-number = either (λ e. tuck-number s x e ∙ sym (simp e)) (λ e. knit-number s x e ∙ sym (simp e (or-zero (readyNo s x))))
 
-    module _ (h : n ≡ 0) (m : ℕ) (f : m ≡ cond (eqb (x .kind) TUCK) (tuckNo (hookLimit s) (loopsOn s (x .at))) 0) where
-      tuck-stopped : x .kind ≡ TUCK → m ≡ numberAt s x
-      tuck-stopped e = after (readyNo s x) _ m (sym is ∙ h) (f ∙ simp e) ∙ sym (tuck-number s x e)
+    loop-state : applyOf s x ≡ with after-forming (attached (exitSlot s x) (x .at) (x .right))
+    unfolding firstAfter byKind
+    loop-state = either (λ e. tuck-state s x e ∙ sym (simp e)) (λ e. knit-state s x e ∙ sym (simp e))
 
-      knit-zero : x .kind ≡ KNIT → m ≡ 0
-      knit-zero e = f ∙ simp e
+    module _ (n : ℕ) (is : n ≡ readyNo s x) where
+      pub loop-unready : (n ≡ 0 → ⊥) → n ≡ numberAt s x
+      loop-unready h = simp (← is) (before n _ h) ∙ sym loop-number
 
-      knit-stopped : x .kind ≡ KNIT → m ≡ numberAt s x
-      knit-stopped e = knit-zero e ∙ sym (knit-number s x e ∙ sym is ∙ h)
+      module _ (h : n ≡ 0) (m : ℕ) (f : m ≡ formsNo) where
+        pub loop-stopped : m ≡ numberAt s x
+        loop-stopped = after (readyNo s x) _ m (sym is ∙ h) f ∙ sym loop-number
 
-      pub loop-stopped : m ≡ numberAt s x
-      loop-stopped = either tuck-stopped knit-stopped
+        pub loop-made : m ≡ 0 → (c : Carrier) → c ≡ attached (exitSlot s x) (x .at) (x .right) → (l : List ℕ) → l ≡ formed → Made (with l c)
+        loop-made g c q l t = (sym loop-stopped ∙ g, loop-state ∙ simp (t ∙ form-made m f g, q))
 
-      -- the loops, by the number
-      abbrev formed : List ℕ
-      formed = cond (eqb (x .kind) TUCK) (tucked (hookLimit s) (s .loops) (x .at)) (set (s .loops) (hookOf (x .at)) 1)
+  -- the same of plated stitches, which ask for two yarns first
+  module _ (low : PLATED-TUCK ≤ x .kind) (high : x .kind ≤ PLATED-KNIT) where
+    either-plated : {G : Type 0} → (x .kind ≡ PLATED-TUCK → G) → (x .kind ≡ PLATED-KNIT → G) → G
+    either-plated f g = cases (eqb (x .kind) PLATED-TUCK) (λ t. f (eqb-true _ _ t)) (λ t. g (last (x .kind) low high (eqb-false _ _ t)))
+      where
+        last : (k : ℕ) → PLATED-TUCK ≤ k → k ≤ PLATED-KNIT → (k ≡ PLATED-TUCK → ⊥) → k ≡ PLATED-KNIT
+        last k h i a = omega arith
 
-      formed-tuck : x .kind ≡ TUCK → formed ≡ tucked (hookLimit s) (s .loops) (x .at)
-      formed-tuck e = simp e
+    -- with both carriers set to one value
+    abbrev with-both : List ℕ → Carrier → State
+    with-both l c = parts l (set (set (s .carriers) (x .carrier - 1) c) (x .second - 1) c)
 
-      formed-knit : x .kind ≡ KNIT → formed ≡ set (s .loops) (hookOf (x .at)) 1
-      formed-knit e = simp e
+    plated-number : numberAt s x ≡ orNumber (twiceNo x) (orNumber (pairNo s x) formsNo)
+    unfolding formNo byKind
+    plated-number =
+        either-plated (λ e. plated-tuck-number s x e ∙ sym (simp e)) (λ e. plated-knit-number s x e ∙ sym (simp e (ap (orNumber (twiceNo x)) (or-zero (pairNo s x)))))
 
-      pub loop-kept : (m ≡ 0 → ⊥) → formed ≡ s .loops
-      loop-kept g =
-          either (λ e. formed-tuck e ∙ tuck-kept (hookLimit s) (s .loops) (x .at) m (f ∙ simp e) g) (λ e. absurd (g (knit-zero e)))
+    plated-state : applyOf s x ≡ with-both after-forming (attached (exitSlot s x) (x .at) (x .right))
+    unfolding firstAfter byKind
+    plated-state = either-plated (λ e. plated-tuck-state s x e ∙ sym (simp e)) (λ e. plated-knit-state s x e ∙ sym (simp e))
 
-      pub loop-made : m ≡ 0 → (c : Carrier) → c ≡ attached (exitSlot s x) (x .at) (x .right) → (l : List ℕ) → l ≡ formed → Made (with l c)
-      loop-made g c q l t = (
-        sym loop-stopped ∙ g,
-        either
-            (λ e. tuck-state s x e ∙ simp (t ∙ formed-tuck e ∙ tuck-made (hookLimit s) (s .loops) (x .at) m (f ∙ simp e) g, q))
-            (λ e. knit-state s x e ∙ simp (t ∙ formed-knit e, q)),
-      )
+    pub plated-twice : x .carrier ≡ x .second → 16 ≡ numberAt s x
+    plated-twice e =
+        let t = twice-sixteen x (two-named (x .kind) low high) e in
+        sym (plated-number ∙ ap (λ (n : ℕ). orNumber n (orNumber (pairNo s x) formsNo)) t)
+
+    module _ (two : x .carrier ≡ x .second → ⊥) (n : ℕ) (is : n ≡ pairNo s x) where
+      past-twice : (m : ℕ) → m ≡ orNumber (pairNo s x) formsNo → m ≡ numberAt s x
+      past-twice m e = after (twiceNo x) _ m (twice-zero x two) e ∙ sym plated-number
+
+      pub plated-unready : (n ≡ 0 → ⊥) → n ≡ numberAt s x
+      plated-unready h = past-twice n (simp (← is) (before n _ h))
+
+      module _ (h : n ≡ 0) (m : ℕ) (f : m ≡ formsNo) where
+        pub plated-stopped : m ≡ numberAt s x
+        plated-stopped = past-twice m (after (pairNo s x) _ m (sym is ∙ h) f)
+
+        pub plated-made : m ≡ 0 → (c : Carrier) → c ≡ attached (exitSlot s x) (x .at) (x .right) → (l : List ℕ) → l ≡ formed → Made (with-both l c)
+        plated-made g c q l t = (sym plated-stopped ∙ g, plated-state ∙ simp (t ∙ form-made m f g, q))
 
   -- a split asks for room and for opposite needles
   module _ (e : x .kind ≡ SPLIT) (n : ℕ) (said : n ≡ asks) where

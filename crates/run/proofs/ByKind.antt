@@ -14,10 +14,10 @@ use Rattle.machine.specs.Limits.{hookLimit}
 use Rattle.machine.specs.Machine.{inactive, changed, hookOf, loopsOn, carrierOf, movedTo}
 use Rattle.machine.specs.Geometry.{columnOf, sameColumn}
 use Rattle.record.specs.declared.Record.{Record}
-use Rattle.record.specs.Kinds.{RACK, DROP, XFER, IN, OUT, MISS, TUCK, KNIT, SPLIT, byKind}
+use Rattle.record.specs.Kinds.{RACK, DROP, XFER, IN, OUT, MISS, TUCK, KNIT, SPLIT, PLATED-TUCK, PLATED-KNIT, byKind}
 use Rattle.record.specs.Names.{needlesOf, carriersOf}
-use Rattle.run.specs.Relation.{racked, withLoops, withCarrier, transferred, entrySlot, exitSlot, unattached, reparked, attached}
-use Rattle.run.specs.Step.{Look, lookOf, seeOf, orNumber, parkedNo, floatNo, carrierNo, oppositeNo, firstAfter, secondAfter, roomNo, decidedNo, edit, actOf, acted, moveAttachments, numberAt, applyOf}
+use Rattle.run.specs.Relation.{racked, withLoops, withCarrier, transferred, entrySlot, exitSlot, unattached, reparked, attached, bothAttached}
+use Rattle.run.specs.Step.{Look, lookOf, seeOf, orNumber, twiceNo, parkedNo, floatNo, bothNo, carrierNo, oppositeNo, firstAfter, secondAfter, roomNo, decidedNo, edit, actOf, acted, moveAttachments, numberAt, applyOf}
 use Rattle.run.specs.Loops.{tuckNo, transferNo}
 
 -- a number and nothing after it
@@ -30,20 +30,27 @@ apart-first true n = refl
 apart-first false n = refl
 
 module _ (s : State) (x : Record) where
-  -- the carrier as the record sees it
-  abbrev pub seen : Look
-  seen = lookOf (s .racking) (carrierOf s (x .carrier))
+  -- carrier k as a record sees it
+  abbrev pub seen : ℕ → Look
+  seen k = lookOf (s .racking) (carrierOf s k)
 
-  -- 7 and 8 for a slot
-  abbrev pub slotNo : Slot → ℕ
-  slotNo z = parkedNo (seen .active) (seen .slot) z
+  -- 7 and 8 of a carrier for a slot, 9 of a carrier
+  abbrev pub slotNo : ℕ → Slot → ℕ
+  slotNo k z = parkedNo (seen k .active) (seen k .slot) z
+
+  abbrev pub reachNo : ℕ → ℕ
+  reachNo k = floatNo (seen k) (columnOf (x .at) (s .racking))
 
   -- 7 to 9 for tuck, knit and split
   abbrev pub readyNo : ℕ
-  readyNo = orNumber (slotNo (entrySlot s x)) (floatNo seen (columnOf (x .at) (s .racking)))
+  readyNo = orNumber (slotNo (x .carrier) (entrySlot s x)) (reachNo (x .carrier))
+
+  -- and for plated stitches
+  abbrev pub pairNo : ℕ
+  pairNo = bothNo (entrySlot s x) (columnOf (x .at) (s .racking)) (seen (x .carrier)) (seen (x .second))
 
   pub rack-number : x .kind ≡ RACK → numberAt s x ≡ 0
-  unfolding numberAt decidedNo carrierNo oppositeNo byKind roomNo firstAfter secondAfter seeOf
+  unfolding numberAt decidedNo twiceNo carrierNo oppositeNo byKind roomNo firstAfter secondAfter seeOf
   rack-number e = simp e
 
   pub rack-state : x .kind ≡ RACK → applyOf s x ≡ racked s (x .racking)
@@ -51,7 +58,7 @@ module _ (s : State) (x : Record) where
   rack-state e = simp e
 
   pub drop-number : x .kind ≡ DROP → numberAt s x ≡ 0
-  unfolding numberAt decidedNo carrierNo oppositeNo byKind roomNo firstAfter secondAfter seeOf
+  unfolding numberAt decidedNo twiceNo carrierNo oppositeNo byKind roomNo firstAfter secondAfter seeOf
   drop-number e = simp e
 
   pub drop-state : x .kind ≡ DROP → applyOf s x ≡ withLoops s (x .at) 0
@@ -59,39 +66,39 @@ module _ (s : State) (x : Record) where
   drop-state e = simp e
 
   pub xfer-number : x .kind ≡ XFER → numberAt s x ≡ transferNo (hookLimit s) (s .loops) (x .at) (x .to) (s .racking)
-  unfolding numberAt decidedNo carrierNo oppositeNo byKind roomNo firstAfter secondAfter seeOf transferNo
+  unfolding numberAt decidedNo twiceNo carrierNo oppositeNo byKind roomNo firstAfter secondAfter seeOf transferNo
   xfer-number e = simp e (apart-first (sameColumn (columnOf (x .at) (s .racking)) (columnOf (x .to) (s .racking))) _)
 
   pub xfer-state : x .kind ≡ XFER → applyOf s x ≡ transferred s (x .at) (x .to)
   unfolding applyOf edit needlesOf carriersOf byKind moveAttachments firstAfter secondAfter
   xfer-state e = simp e
 
-  pub in-number : x .kind ≡ IN → numberAt s x ≡ cond (seen .active) 6 0
-  unfolding numberAt decidedNo carrierNo oppositeNo byKind roomNo firstAfter secondAfter seeOf
-  in-number e = simp e (or-zero (cond (seen .active) 6 0))
+  pub in-number : x .kind ≡ IN → numberAt s x ≡ cond (seen (x .carrier) .active) 6 0
+  unfolding numberAt decidedNo twiceNo carrierNo oppositeNo byKind roomNo firstAfter secondAfter seeOf
+  in-number e = simp e (or-zero (cond (seen (x .carrier) .active) 6 0))
 
   pub in-state : x .kind ≡ IN → applyOf s x ≡ withCarrier s (x .carrier) (unattached (entrySlot s x))
   unfolding applyOf edit needlesOf carriersOf byKind moveAttachments actOf acted
   in-state e = simp e
 
-  pub out-number : x .kind ≡ OUT → numberAt s x ≡ slotNo (exitSlot s x)
-  unfolding numberAt decidedNo carrierNo oppositeNo byKind roomNo firstAfter secondAfter seeOf
-  out-number e = simp e (or-zero (slotNo (exitSlot s x)))
+  pub out-number : x .kind ≡ OUT → numberAt s x ≡ slotNo (x .carrier) (exitSlot s x)
+  unfolding numberAt decidedNo twiceNo carrierNo oppositeNo byKind roomNo firstAfter secondAfter seeOf
+  out-number e = simp e (or-zero (slotNo (x .carrier) (exitSlot s x)))
 
   pub out-state : x .kind ≡ OUT → applyOf s x ≡ withCarrier s (x .carrier) inactive
   unfolding applyOf edit needlesOf carriersOf byKind moveAttachments actOf acted
   out-state e = simp e
 
-  pub miss-number : x .kind ≡ MISS → numberAt s x ≡ slotNo (entrySlot s x)
-  unfolding numberAt decidedNo carrierNo oppositeNo byKind roomNo firstAfter secondAfter seeOf
-  miss-number e = simp e (or-zero (slotNo (entrySlot s x)))
+  pub miss-number : x .kind ≡ MISS → numberAt s x ≡ slotNo (x .carrier) (entrySlot s x)
+  unfolding numberAt decidedNo twiceNo carrierNo oppositeNo byKind roomNo firstAfter secondAfter seeOf
+  miss-number e = simp e (or-zero (slotNo (x .carrier) (entrySlot s x)))
 
   pub miss-state : x .kind ≡ MISS → applyOf s x ≡ withCarrier s (x .carrier) (reparked (carrierOf s (x .carrier)) (exitSlot s x))
   unfolding applyOf edit needlesOf carriersOf byKind moveAttachments actOf acted
   miss-state e = simp e
 
-  pub tuck-number : x .kind ≡ TUCK → numberAt s x ≡ orNumber readyNo (tuckNo (hookLimit s) (loopsOn s (x .at)))
-  unfolding numberAt decidedNo carrierNo oppositeNo byKind roomNo firstAfter secondAfter seeOf tuckNo
+  pub tuck-number : x .kind ≡ TUCK → numberAt s x ≡ orNumber readyNo (tuckNo (hookLimit s) (loopsOn s (x .at)) 1)
+  unfolding numberAt decidedNo twiceNo carrierNo oppositeNo byKind roomNo firstAfter secondAfter seeOf tuckNo
   tuck-number e = simp e
 
   pub tuck-state : x .kind ≡ TUCK → applyOf s x ≡ withCarrier (withLoops s (x .at) (loopsOn s (x .at) + 1)) (x .carrier) (attached (exitSlot s x) (x .at) (x .right))
@@ -99,7 +106,7 @@ module _ (s : State) (x : Record) where
   tuck-state e = simp e
 
   pub knit-number : x .kind ≡ KNIT → numberAt s x ≡ readyNo
-  unfolding numberAt decidedNo carrierNo oppositeNo byKind roomNo firstAfter secondAfter seeOf
+  unfolding numberAt decidedNo twiceNo carrierNo oppositeNo byKind roomNo firstAfter secondAfter seeOf
   knit-number e = simp e (or-zero readyNo)
 
   pub knit-state : x .kind ≡ KNIT → applyOf s x ≡ withCarrier (withLoops s (x .at) 1) (x .carrier) (attached (exitSlot s x) (x .at) (x .right))
@@ -107,8 +114,24 @@ module _ (s : State) (x : Record) where
   knit-state e = simp e
 
   pub split-number : x .kind ≡ SPLIT → numberAt s x ≡ orNumber readyNo (transferNo (hookLimit s) (s .loops) (x .at) (x .to) (s .racking))
-  unfolding numberAt decidedNo carrierNo oppositeNo byKind roomNo firstAfter secondAfter seeOf transferNo
+  unfolding numberAt decidedNo twiceNo carrierNo oppositeNo byKind roomNo firstAfter secondAfter seeOf transferNo
   split-number e = simp e (ap (orNumber readyNo) (apart-first (sameColumn (columnOf (x .at) (s .racking)) (columnOf (x .to) (s .racking))) _))
+
+  pub plated-tuck-number : x .kind ≡ PLATED-TUCK → numberAt s x ≡ orNumber (twiceNo x) (orNumber pairNo (tuckNo (hookLimit s) (loopsOn s (x .at)) 2))
+  unfolding numberAt decidedNo carrierNo oppositeNo byKind roomNo firstAfter secondAfter seeOf tuckNo
+  plated-tuck-number e = simp e
+
+  pub plated-tuck-state : x .kind ≡ PLATED-TUCK → applyOf s x ≡ bothAttached s x (withLoops s (x .at) (loopsOn s (x .at) + 2))
+  unfolding applyOf edit needlesOf carriersOf byKind moveAttachments actOf acted firstAfter
+  plated-tuck-state e = simp e
+
+  pub plated-knit-number : x .kind ≡ PLATED-KNIT → numberAt s x ≡ orNumber (twiceNo x) pairNo
+  unfolding numberAt decidedNo carrierNo oppositeNo byKind roomNo firstAfter secondAfter seeOf
+  plated-knit-number e = simp e (ap (orNumber (twiceNo x)) (or-zero pairNo))
+
+  pub plated-knit-state : x .kind ≡ PLATED-KNIT → applyOf s x ≡ bothAttached s x (withLoops s (x .at) 2)
+  unfolding applyOf edit needlesOf carriersOf byKind moveAttachments actOf acted firstAfter
+  plated-knit-state e = simp e
 
   -- a split as code stores it, and as the relation says it
   abbrev splitState : State

@@ -9,7 +9,7 @@ use lib.ListN.{length, take, drop, take-append-drop}
 use Rattle.machine.specs.declared.State.{State}
 use Rattle.record.specs.declared.Record.{Record}
 use Rattle.record.specs.declared.Decoded.{Decoded}
-use Rattle.record.specs.Kinds.{IN, OUT, MISS, TUCK, KNIT, sizeOf}
+use Rattle.record.specs.Kinds.{IN, OUT, MISS, TUCK, KNIT, PLATED-TUCK, PLATED-KNIT, sizeOf}
 use Rattle.record.specs.Format.{Encodes, signedOf, byte, fieldsOk, refusedAs, decodeOf}
 use Rattle.record.proofs.Shapes.{Known, at-known, sized-known}
 use Rattle.record.proofs.Forms.{Reads, reads, form-decode, decode-form, decode-kind}
@@ -74,7 +74,15 @@ some-record =
     (0 ∷ 0 ∷ 0 ∷ [], _, Encodes.xfer {bed = 0} {n = 0} {m = 0} (omega arith) (omega arith) (omega arith))
     (work IN (omega arith) (omega arith)) (work OUT (omega arith) (omega arith)) (work MISS (omega arith) (omega arith)) (work TUCK (omega arith) (omega arith)) (work KNIT (omega arith) (omega arith))
     (0 ∷ 0 ∷ 0 ∷ 1 ∷ 0 ∷ [], _, Encodes.split {right = 0} {bed = 0} {n = 0} {k = 1} {m = 0} (omega arith) (omega arith) (omega arith) (omega arith) (omega arith) (omega arith))
+    (plated PLATED-TUCK (omega arith) (omega arith)) (plated PLATED-KNIT (omega arith) (omega arith))
   where
+    plated : (k : ℕ) → PLATED-TUCK ≤ k → k ≤ PLATED-KNIT → (body : List ℕ) × (x : Record) × Encodes (k ∷ body) x
+    plated k low high = (
+      0 ∷ 0 ∷ 0 ∷ 1 ∷ 2 ∷ [],
+      _,
+      Encodes.plated {kind = k} {right = 0} {bed = 0} {n = 0} {k = 1} {j = 2} low high (omega arith) (omega arith) (omega arith) (omega arith) (omega arith) (omega arith) (omega arith),
+    )
+
     work : (k : ℕ) → IN ≤ k → k ≤ KNIT → (body : List ℕ) × (x : Record) × Encodes (k ∷ body) x
     work k low high =
         (0 ∷ 0 ∷ 0 ∷ 1 ∷ [], _, Encodes.work {kind = k} {right = 0} {bed = 0} {n = 0} {k = 1} low high (omega arith) (omega arith) (omega arith) (omega arith) (omega arith))

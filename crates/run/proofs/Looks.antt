@@ -8,7 +8,7 @@ use Rattle.machine.specs.declared.Column.{Column}
 use Rattle.machine.specs.declared.Racking.{Racking}
 use Rattle.machine.specs.declared.Slot.{Slot}
 use Rattle.machine.specs.Geometry.{eqZ, columnOf, withinFloat}
-use Rattle.run.specs.Step.{lookOf, parkedNo, floatNo}
+use Rattle.run.specs.Step.{lookOf, notInNo, parkedNo, floatNo}
 
 flip : (b : Bool) (m n : ℕ) → cond (not b) m n ≡ cond b n m
 flip true m n = refl
@@ -30,3 +30,7 @@ module _ (r : Racking) (c : Carrier) where
   pub in-is : _≡_ {A = ℕ} (cond (lookOf r c .active) 6 0) (cond (eqb (c .active) 0) 0 6)
   unfolding lookOf
   in-is = flip (eqb (c .active) 0) 6 0
+
+  pub not-in-is : notInNo (lookOf r c) ≡ cond (eqb (c .active) 0) 7 0
+  unfolding lookOf
+  not-in-is = flip (eqb (c .active) 0) 0 7

@@ -16,12 +16,13 @@ use Rattle.machine.specs.Machine.{loopsOn, carrierOf}
 use Rattle.machine.specs.Geometry.{eqZ, columnOf, sameColumn, withinFloat}
 use Rattle.machine.proofs.Signed.{eqZ-yes, eqZ-no, eqZ-true, eqZ-false}
 use Rattle.record.specs.declared.Record.{Record}
+use Rattle.record.specs.Kinds.{carriersNamed}
 use Rattle.record.proofs.Shapes.{is}
 use Rattle.record.proofs.Shapes.{cond-cases}
-use Rattle.run.specs.Relation.{Active, Inactive, Attached, ParkedAt, Opposite, Room}
-use Rattle.run.specs.Step.{lookOf, orNumber, parkedNo, floatNo}
+use Rattle.run.specs.Relation.{Active, Inactive, Attached, ParkedAt, Opposite, Room, TwoYarns}
+use Rattle.run.specs.Step.{lookOf, orNumber, twiceNo, notInNo, parkedNo, floatNo}
 use Rattle.run.specs.Loops.{tuckNo, transferNo}
-use Rattle.run.proofs.Looks.{parked-is, in-is, float-is}
+use Rattle.run.proofs.Looks.{parked-is, in-is, not-in-is, float-is}
 
 -- ---- numbers in order
 pub or-next : (a b : ℕ) → a ≡ 0 → orNumber a b ≡ b
@@ -63,6 +64,12 @@ module _ (r : Racking) (c : Carrier) where
   pub in-six : Active c → inNo ≡ 6
   in-six a = in-is r c ∙ simp (ne-eqb (c .active) 0 a)
 
+  pub not-in-zero : Active c → notInNo (lookOf r c) ≡ 0
+  not-in-zero a = not-in-is r c ∙ simp (ne-eqb (c .active) 0 a)
+
+  pub not-in-seven : Inactive c → notInNo (lookOf r c) ≡ 7
+  not-in-seven e = not-in-is r c ∙ simp (eq-eqb (c .active) 0 e)
+
   module _ (z : Column) where
     abbrev pub far : ℕ
     far = natAbs (columnOf (c .needle) r .0 -ℤ z .0)
@@ -84,13 +91,22 @@ module _ (r : Racking) (c : Carrier) where
         (λ a. cases (leb far floatMost) (λ t. g (λ b. leb-true far floatMost t)) (λ t. f a (leb-false far floatMost t)))
 
 -- 11 or 0, and 10 before it
-pub tuck-zero : (limit n : ℕ) → n + 1 ≤ limit → tuckNo limit n ≡ 0
+pub tuck-zero : (limit n v : ℕ) → n + v ≤ limit → tuckNo limit n v ≡ 0
 unfolding tuckNo
-tuck-zero limit n h = simp (le-leb (n + 1) limit h)
+tuck-zero limit n v h = simp (le-leb (n + v) limit h)
 
-pub tuck-full : (limit n : ℕ) → limit < n + 1 → tuckNo limit n ≡ 11
+pub tuck-full : (limit n v : ℕ) → limit < n + v → tuckNo limit n v ≡ 11
 unfolding tuckNo
-tuck-full limit n h = simp (lt-leb (n + 1) limit h)
+tuck-full limit n v h = simp (lt-leb (n + v) limit h)
+
+-- 16 or 0
+pub twice-zero : (x : Record) → TwoYarns x → twiceNo x ≡ 0
+unfolding twiceNo
+twice-zero x h = cases (eqb (carriersNamed (x .kind)) 2) (λ t. simp (t, ne-eqb (x .carrier) (x .second) h)) (λ t. simp t)
+
+pub twice-sixteen : (x : Record) → carriersNamed (x .kind) ≡ 2 → x .carrier ≡ x .second → twiceNo x ≡ 16
+unfolding twiceNo
+twice-sixteen x two e = simp (eq-eqb (carriersNamed (x .kind)) 2 two, eq-eqb (x .carrier) (x .second) e)
 
 module _ (s : State) (x : Record) where
   abbrev pub carrier : Carrier

@@ -1,4 +1,4 @@
--- Every state that a step or the run gives is in range: by the relation's nine rules, and along them. Assumes nothing.
+-- Every state that a step or the run gives is in range: by the relation's rules, and along them. Assumes nothing.
 use Prim.Native.Nat.{ℕ, _+_, _-_, _≤_}
 use mathlib.Core.Path.{refl, sym, ap, subst, _∙_}
 use mathlib.Core.Bool.{Bool, true, false}
@@ -74,6 +74,8 @@ module _ {s : State} {x : Record} (h : StateInRange s) (f : InRange x) where
   step-keeps r (Step.tuck e p g k) = carrier-in (loops-in h (x .at) (loopsOn s (x .at) + 1) k) (x .carrier) _ worked
   step-keeps r (Step.knit e p g) = carrier-in (loops-in h (x .at) 1 (omega arith)) (x .carrier) _ worked
   step-keeps r (Step.split e p g o k) = carrier-in (loops-in (transferred-in h x (f .to-bed) k) (x .at) 1 (omega arith)) (x .carrier) _ worked
+  step-keeps r (Step.plated-tuck e two p q g i k) = carrier-in (carrier-in (loops-in h (x .at) (loopsOn s (x .at) + 2) k) (x .carrier) _ worked) (x .second) _ worked
+  step-keeps r (Step.plated-knit e two p q g i) = carrier-in (carrier-in (loops-in h (x .at) 2 (omega arith)) (x .carrier) _ worked) (x .second) _ worked
 
 racking-in : {bytes : List ℕ} {x : Record} → Encodes bytes x → natAbs (x .racking .0) ≤ rackingMost
 racking-in (Encodes.rack h) = h
@@ -81,6 +83,7 @@ racking-in (Encodes.drop h i) = omega arith
 racking-in (Encodes.xfer h i j) = omega arith
 racking-in (Encodes.work a b c d e f g) = omega arith
 racking-in (Encodes.split c d e f g h) = omega arith
+racking-in (Encodes.plated a b c d e f g h i) = omega arith
 
 form-keeps : {bytes : List ℕ} {x : Record} {s t : State} → StateInRange s → Encodes bytes x → Step s x t → StateInRange t
 form-keeps h form step = step-keeps h (form-in form) (racking-in form) step

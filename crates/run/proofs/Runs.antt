@@ -98,6 +98,8 @@ step-lengths (Step.miss e p) = record { loops = refl; carriers = simp length-set
 step-lengths (Step.tuck e p h r) = record { loops = simp length-set; carriers = simp length-set }
 step-lengths (Step.knit e p h) = record { loops = simp length-set; carriers = simp length-set }
 step-lengths (Step.split e p h o r) = record { loops = simp length-set; carriers = simp (length-set, length-map) }
+step-lengths (Step.plated-tuck e two p q h i r) = record { loops = simp length-set; carriers = simp length-set }
+step-lengths (Step.plated-knit e two p q h i) = record { loops = simp length-set; carriers = simp length-set }
 
 pub steps-lengths : {s t : State} {p : List ℕ} → Steps s p t → SameLengths s t
 steps-lengths Steps.none = record { loops = refl; carriers = refl }

@@ -38,7 +38,7 @@ pub record FirstRefusal (p : List ℕ) (a : Answer) : Type 0 where
 abbrev pub Complete : Bool → State → Type 0
 Complete c t = (c ≡ true) ↔ (t ≡ emptyState)
 
--- what is an answer to a program, by the ways in which a run ends: 1 (too long); 0 (done), with the relation's final state; 3 to 11
+-- what is an answer to a program, by the ways in which a run ends: 1 (too long); 0 (done), with the relation's final state; 3 to 11 and 16
 pub data Answers (p : List ℕ) : Answer → Type 0 where
   too-long : programMost < length p → Answers p (record { number = 1; place = 0; complete = true; state = emptyState })
   done : {t : State} {c : Bool} → Valid p t → Complete c t → Answers p (record { number = 0; place = 0; complete = c; state = t })

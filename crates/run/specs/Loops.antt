@@ -1,4 +1,4 @@
--- What tuck and transfers make of the loops on hooks of a limit, and their refusals: the promises of the code's small functions.
+-- What tucks, knits and transfers make of the loops on hooks of a limit, and their refusals: the promises of the code's small functions.
 use Prim.Native.Nat.{ℕ, _+_}
 use mathlib.Core.Bool.{cond}
 use mathlib.Core.List.{List}
@@ -8,13 +8,21 @@ use Rattle.machine.specs.declared.Needle.{Needle}
 use Rattle.machine.specs.declared.Racking.{Racking}
 use Rattle.machine.specs.Machine.{hookOf}
 use Rattle.machine.specs.Geometry.{columnOf, sameColumn}
+use Rattle.record.specs.Kinds.{loopsFormed, tucks}
 
--- one loop more, and its refusal
-unfoldable pub tuckNo : ℕ → ℕ → ℕ
-tuckNo limit here = cond (leb (here + 1) limit) 0 11
+-- v loops more, and the refusal
+unfoldable pub tuckNo : ℕ → ℕ → ℕ → ℕ
+tuckNo limit here v = cond (leb (here + v) limit) 0 11
 
-unfoldable pub tucked : ℕ → List ℕ → Needle → List ℕ
-tucked limit l n = cond (eqb (tuckNo limit (getD l (hookOf n) 0)) 0) (set l (hookOf n) (getD l (hookOf n) 0 + 1)) l
+unfoldable pub tucked : ℕ → List ℕ → Needle → ℕ → List ℕ
+tucked limit l n v = cond (eqb (tuckNo limit (getD l (hookOf n) 0) v) 0) (set l (hookOf n) (getD l (hookOf n) 0 + v)) l
+
+-- the loops that a tuck or a knit forms, plain or plated, and the refusal
+unfoldable pub formNo : ℕ → ℕ → ℕ → ℕ
+formNo limit kind here = cond (tucks kind) (tuckNo limit here (loopsFormed kind)) 0
+
+unfoldable pub formedLoops : ℕ → ℕ → List ℕ → Needle → List ℕ
+formedLoops limit kind l n = cond (tucks kind) (tucked limit l n (loopsFormed kind)) (set l (hookOf n) (loopsFormed kind))
 
 -- the loops at a go to b, a then holds v, and its refusal
 unfoldable pub transferNo : ℕ → List ℕ → Needle → Needle → Racking → ℕ

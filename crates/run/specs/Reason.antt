@@ -1,4 +1,4 @@
--- Why a record has no step: the rows 3 to 11 of document 01's table, each said by itself, and which of them is the first.
+-- Why a record has no step: the rows 3 to 11 of document 01's table and 16 of 02, W1, each said by itself, and which of them is the first.
 use Prim.Native.Nat.{ℕ, _+_, _≤_, _<_}
 use mathlib.Core.Path.{_≡_}
 use mathlib.Core.Bool.{false, cond}
@@ -9,7 +9,7 @@ use Rattle.machine.specs.declared.State.{State}
 use Rattle.machine.specs.Limits.{floatMost, hookLimit}
 use Rattle.machine.specs.Machine.{loopsOn, carrierOf, Each}
 use Rattle.record.specs.declared.Record.{Record}
-use Rattle.record.specs.Kinds.{IN, OUT, TUCK, sizeOf, hooksWorked, carriersNamed, loopsFormed}
+use Rattle.record.specs.Kinds.{IN, OUT, TUCK, PLATED-TUCK, sizeOf, hooksWorked, carriersNamed, loopsFormed}
 use Rattle.record.specs.Format.{Encodes, byte, fieldsOk}
 use Rattle.run.specs.Relation.{Active, Inactive, Attached, Opposite, entrySlot, exitSlot, floatOf}
 
@@ -34,6 +34,16 @@ pub record FieldRange (l : List ℕ) : Type 0 where
   pub whole : Whole l
   pub outside : fieldsOk l ≡ false
 
+-- carrier k is one that a record names, the first or the second
+pub data NamesCarrier (x : Record) (k : ℕ) : Type 0 where
+  first : 1 ≤ carriersNamed (x .kind) → x .carrier ≡ k → NamesCarrier x k
+  second : carriersNamed (x .kind) ≡ 2 → x .second ≡ k → NamesCarrier x k
+
+-- 16, one yarn twice: 'when both carriers are equal'
+pub record YarnTwice (x : Record) : Type 0 where
+  pub two : carriersNamed (x .kind) ≡ 2
+  pub equal : x .carrier ≡ x .second
+
 module _ (s : State) (x : Record) where
   -- 6, already in: in for an active carrier
   pub record AlreadyIn : Type 0 where
@@ -42,35 +52,41 @@ module _ (s : State) (x : Record) where
 
   -- 7, not in: any other use of an inactive one
   pub record NotIn : Type 0 where
-    pub carried : 1 ≤ carriersNamed (x .kind)
+    pub carrier : ℕ
+    pub named : NamesCarrier x carrier
     pub other : x .kind ≡ IN → ⊥
-    pub carrier-off : Inactive (carrierOf s (x .carrier))
+    pub carrier-off : Inactive (carrierOf s carrier)
 
   -- 8, elsewhere: parked at the wrong slot; out needs the exit slot, the rest the entry slot
   pub record WrongSlot : Type 0 where
-    pub carried : 1 ≤ carriersNamed (x .kind)
+    pub carrier : ℕ
+    pub named : NamesCarrier x carrier
     pub other : x .kind ≡ IN → ⊥
-    pub active : Active (carrierOf s (x .carrier))
-    pub elsewhere : carrierOf s (x .carrier) .slot ≡ cond (eqb (x .kind) OUT) (exitSlot s x) (entrySlot s x) → ⊥
+    pub active : Active (carrierOf s carrier)
+    pub elsewhere : carrierOf s carrier .slot ≡ cond (eqb (x .kind) OUT) (exitSlot s x) (entrySlot s x) → ⊥
 
-  -- 9, float: over 20 columns, for tuck, knit and split, which form a loop
+  -- 9, float: over 20 columns, for tuck, knit, split and plated stitches, which form a loop
   pub record FloatTooLong : Type 0 where
+    pub carrier : ℕ
+    pub named : NamesCarrier x carrier
     pub formed : 1 ≤ loopsFormed (x .kind)
-    pub attached : Attached (carrierOf s (x .carrier))
-    pub over : floatMost < floatOf s x
+    pub attached : Attached (carrierOf s carrier)
+    pub over : floatMost < floatOf s x carrier
 
   -- 10, not opposite: columns differ, for xfer and split, which work two hooks
   pub record NotOpposite : Type 0 where
     pub two : hooksWorked (x .kind) ≡ 2
     pub differ : Opposite s x → ⊥
 
-  -- 11, hook full: over 8 loops on a hook, the worked one of a tuck, the second of an xfer or split
+  -- 11, hook full: over 8 loops on a hook, the worked one of a tuck, plain or plated, the second of an xfer or split
   pub data HookFull : Type 0 where
     tuck : x .kind ≡ TUCK → hookLimit s < loopsOn s (x .at) + 1 → HookFull
+    plated-tuck : x .kind ≡ PLATED-TUCK → hookLimit s < loopsOn s (x .at) + 2 → HookFull
     second : hooksWorked (x .kind) ≡ 2 → hookLimit s < loopsOn s (x .at) + loopsOn s (x .to) → HookFull
 
 -- a reason by its number: of a record
 pub data RecordReason (n : ℕ) (s : State) (x : Record) : Type 0 where
+  yarn-twice : n ≡ 16 → YarnTwice x → RecordReason n s x
   already-in : n ≡ 6 → AlreadyIn s x → RecordReason n s x
   not-in : n ≡ 7 → NotIn s x → RecordReason n s x
   wrong-slot : n ≡ 8 → WrongSlot s x → RecordReason n s x
@@ -86,9 +102,9 @@ pub data Reason (n : ℕ) (s : State) (l : List ℕ) : Type 0 where
   of-record : (bytes rest : List ℕ) (x : Record) → l ≡ bytes ++ rest → Encodes bytes x → RecordReason n s x → Reason n s l
 
 -- ---- the first reason that holds
--- 'Order: 15, 1, 2; then each record 3 to 11 by number': the refusals of a record, in the order in which they are looked at
+-- 'Order: 15, 1, 2; then each record 3 to 11 by number', 16 'after 5': the refusals of a record, in the order in which they are looked at
 abbrev pub refusals : List ℕ
-refusals = 3 ∷ 4 ∷ 5 ∷ 6 ∷ 7 ∷ 8 ∷ 9 ∷ 10 ∷ 11 ∷ []
+refusals = 3 ∷ 4 ∷ 5 ∷ 16 ∷ 6 ∷ 7 ∷ 8 ∷ 9 ∷ 10 ∷ 11 ∷ []
 
 -- of the list the number n is the first whose reason holds: none that stands earlier does
 pub record First (n : ℕ) (s : State) (l : List ℕ) : Type 0 where

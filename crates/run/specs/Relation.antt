@@ -1,4 +1,4 @@
--- The validity relation, in the shape of 000 (Definition 5.4, Figure 11): one rule for each kind of record, with the premises of document 01, 'Steps'.
+-- The validity relation, in the shape of 000 (Definition 5.4, Figure 11): one rule for each kind of record, with the premises of document 01, 'Steps', and of 02, W1.
 use Prim.Native.Nat.{ℕ, _+_, _-_, _≤_}
 use mathlib.Core.Path.{_≡_}
 use mathlib.Core.Bool.{Bool, cond}
@@ -14,7 +14,7 @@ use Rattle.machine.specs.Limits.{floatMost, hookLimit, programMost}
 use Rattle.machine.specs.Machine.{inactive, emptyState, changed, hookOf, loopsOn, carrierOf, movedTo}
 use Rattle.machine.specs.Geometry.{columnOf, entryOf, exitOf}
 use Rattle.record.specs.declared.Record.{Record}
-use Rattle.record.specs.Kinds.{RACK, DROP, XFER, IN, OUT, MISS, TUCK, KNIT, SPLIT}
+use Rattle.record.specs.Kinds.{RACK, DROP, XFER, IN, OUT, MISS, TUCK, KNIT, SPLIT, PLATED-TUCK, PLATED-KNIT}
 use Rattle.record.specs.Format.{Encodes}
 
 -- a state with one thing changed: the racking, the loops on a hook, carrier k
@@ -32,7 +32,7 @@ abbrev pub transferred : State → Needle → Needle → State
 transferred s a b =
     changed s (s .racking) (set (set (s .loops) (hookOf a) 0) (hookOf b) (loopsOn s a + loopsOn s b)) (map (movedTo a b) (s .carriers))
 
--- where a record's carrier stands before it passes the needle, and after
+-- where a record's carriers stand before they pass the needle, and after
 abbrev pub entrySlot : State → Record → Slot
 entrySlot s x = entryOf (columnOf (x .at) (s .racking)) (x .right)
 
@@ -63,13 +63,13 @@ pub record ParkedAt (c : Carrier) (z : Slot) : Type 0 where
   pub active : Active c
   pub here : c .slot ≡ z
 
--- how many columns the record's carrier floats: from its attachment's needle to the needle worked, both at the current racking
-abbrev pub floatOf : State → Record → ℕ
-floatOf s x = natAbs (columnOf (carrierOf s (x .carrier) .needle) (s .racking) .0 -ℤ columnOf (x .at) (s .racking) .0)
+-- how many columns carrier k of a record floats: from its attachment's needle to the needle worked, both at the current racking
+abbrev pub floatOf : State → Record → ℕ → ℕ
+floatOf s x k = natAbs (columnOf (carrierOf s k .needle) (s .racking) .0 -ℤ columnOf (x .at) (s .racking) .0)
 
 -- an attached carrier's needle is at most 20 columns from the needle worked
-abbrev pub FloatInReach : State → Record → Type 0
-FloatInReach s x = Attached (carrierOf s (x .carrier)) → floatOf s x ≤ floatMost
+abbrev pub FloatInReach : State → Record → ℕ → Type 0
+FloatInReach s x k = Attached (carrierOf s k) → floatOf s x k ≤ floatMost
 
 -- both needles have the same column
 abbrev pub Opposite : State → Record → Type 0
@@ -78,6 +78,14 @@ Opposite s x = columnOf (x .at) (s .racking) ≡ columnOf (x .to) (s .racking)
 -- a hook holds 0 to 8 loops
 abbrev pub Room : State → ℕ → Type 0
 Room s n = n ≤ hookLimit s
+
+-- a plated stitch has two yarns
+abbrev pub TwoYarns : Record → Type 0
+TwoYarns x = x .carrier ≡ x .second → ⊥
+
+-- 'both leave at the exit slot, attached'
+abbrev pub bothAttached : State → Record → State → State
+bothAttached s x t = withCarrier (withCarrier t (x .carrier) (attached (exitSlot s x) (x .at) (x .right))) (x .second) (attached (exitSlot s x) (x .at) (x .right))
 
 -- executing x on s produces t
 pub data Step (s : State) (x : Record) : State → Type 0 where
@@ -91,12 +99,19 @@ pub data Step (s : State) (x : Record) : State → Type 0 where
       → Step s x (withCarrier s (x .carrier) inactive)
   miss : x .kind ≡ MISS → ParkedAt (carrierOf s (x .carrier)) (entrySlot s x)
       → Step s x (withCarrier s (x .carrier) (reparked (carrierOf s (x .carrier)) (exitSlot s x)))
-  tuck : x .kind ≡ TUCK → ParkedAt (carrierOf s (x .carrier)) (entrySlot s x) → FloatInReach s x → Room s (loopsOn s (x .at) + 1)
+  tuck : x .kind ≡ TUCK → ParkedAt (carrierOf s (x .carrier)) (entrySlot s x) → FloatInReach s x (x .carrier) → Room s (loopsOn s (x .at) + 1)
       → Step s x (withCarrier (withLoops s (x .at) (loopsOn s (x .at) + 1)) (x .carrier) (attached (exitSlot s x) (x .at) (x .right)))
-  knit : x .kind ≡ KNIT → ParkedAt (carrierOf s (x .carrier)) (entrySlot s x) → FloatInReach s x
+  knit : x .kind ≡ KNIT → ParkedAt (carrierOf s (x .carrier)) (entrySlot s x) → FloatInReach s x (x .carrier)
       → Step s x (withCarrier (withLoops s (x .at) 1) (x .carrier) (attached (exitSlot s x) (x .at) (x .right)))
-  split : x .kind ≡ SPLIT → ParkedAt (carrierOf s (x .carrier)) (entrySlot s x) → FloatInReach s x → Opposite s x → Room s (loopsOn s (x .at) + loopsOn s (x .to))
+  split : x .kind ≡ SPLIT → ParkedAt (carrierOf s (x .carrier)) (entrySlot s x) → FloatInReach s x (x .carrier) → Opposite s x → Room s (loopsOn s (x .at) + loopsOn s (x .to))
       → Step s x (withCarrier (withLoops (transferred s (x .at) (x .to)) (x .at) 1) (x .carrier) (attached (exitSlot s x) (x .at) (x .right)))
+  -- 'Both carriers must stand at the entry slot and keep the float rule'; 'A plated tuck adds 2 loops, a plated knit leaves 2'
+  plated-tuck : x .kind ≡ PLATED-TUCK → TwoYarns x → ParkedAt (carrierOf s (x .carrier)) (entrySlot s x) → ParkedAt (carrierOf s (x .second)) (entrySlot s x)
+      → FloatInReach s x (x .carrier) → FloatInReach s x (x .second) → Room s (loopsOn s (x .at) + 2)
+      → Step s x (bothAttached s x (withLoops s (x .at) (loopsOn s (x .at) + 2)))
+  plated-knit : x .kind ≡ PLATED-KNIT → TwoYarns x → ParkedAt (carrierOf s (x .carrier)) (entrySlot s x) → ParkedAt (carrierOf s (x .second)) (entrySlot s x)
+      → FloatInReach s x (x .carrier) → FloatInReach s x (x .second)
+      → Step s x (bothAttached s x (withLoops s (x .at) 2))
 
 -- the records of a list of bytes, each with its step in turn (000: V-seq)
 pub data Steps : State → List ℕ → State → Type 0 where

@@ -1,7 +1,7 @@
 -- The step as a definition that computes, which the contracts cite: what a record sees of the state, what it decides, what is stored.
 -- One shape for every kind; Claims.antt ties it to the relation.
 use Prim.Native.Nat.{ℕ, _+_, _-_}
-use mathlib.Core.Bool.{Bool, true, false, not, cond}
+use mathlib.Core.Bool.{Bool, true, false, not, _&&_, cond}
 use mathlib.Core.List.{List, [], _∷_, map}
 use lib.IntN.{pos}
 use lib.ListN.{getD, set}
@@ -16,7 +16,7 @@ use Rattle.machine.specs.Limits.{hookLimit}
 use Rattle.machine.specs.Machine.{inactive, changed, hookOf, loopsOn, carrierOf, movedTo}
 use Rattle.machine.specs.Geometry.{eqZ, columnOf, entryOf, exitOf, sameColumn, withinFloat}
 use Rattle.record.specs.declared.Record.{Record}
-use Rattle.record.specs.Kinds.{IN, OUT, MISS, TUCK, loopsFormed, moves}
+use Rattle.record.specs.Kinds.{IN, OUT, MISS, loopsFormed, moves, isPlated, tucks}
 use Rattle.record.specs.Format.{noNeedle}
 use Rattle.record.specs.Names.{needlesOf, carriersOf, rackingAfter}
 
@@ -32,19 +32,29 @@ pub record Seen : Type 0 where
   pub limit : ℕ
   pub here : ℕ
   pub there : ℕ
+  -- of the first carrier and of the second
   pub look : Look
+  pub other : Look
 
 unfoldable pub lookOf : Racking → Carrier → Look
 lookOf r c = record { active = not (eqb (c .active) 0); slot = c .slot; attached = not (eqb (c .side) 0); column = columnOf (c .needle) r }
 
 unfoldable pub seeOf : State → Record → Seen
-seeOf s x = record { racking = s .racking; limit = hookLimit s; here = loopsOn s (x .at); there = loopsOn s (x .to); look = lookOf (s .racking) (carrierOf s (x .carrier)) }
+seeOf s x =
+    record { racking = s .racking; limit = hookLimit s; here = loopsOn s (x .at); there = loopsOn s (x .to); look = lookOf (s .racking) (carrierOf s (x .carrier)); other = lookOf (s .racking) (carrierOf s (x .second)) }
 
 -- ---- decide: the number is the first that holds, 0 for none
 abbrev pub orNumber : ℕ → ℕ → ℕ
 orNumber a b = cond (eqb a 0) b a
 
--- 7 and 8: parked at a slot
+-- 16: one yarn twice
+unfoldable pub twiceNo : Record → ℕ
+twiceNo x = cond (isPlated (x .kind) && eqb (x .carrier) (x .second)) 16 0
+
+-- 7: not in; 7 and 8: parked at a slot
+abbrev pub notInNo : Look → ℕ
+notInNo c = cond (c .active) 0 7
+
 unfoldable pub parkedNo : Bool → Slot → Slot → ℕ
 parkedNo active here z = cond active (cond (eqZ (here .0) (z .0)) 0 8) 7
 
@@ -52,7 +62,7 @@ parkedNo active here z = cond active (cond (eqZ (here .0) (z .0)) 0 8) 7
 unfoldable pub floatNo : Look → Column → ℕ
 floatNo c z = cond (c .attached) (cond (withinFloat (c .column) z) 0 9) 0
 
--- 6 to 9: the carrier is inactive for in, at the exit slot for out, at the entry slot for the rest, and near for tuck, knit and split
+-- 6 to 9 of one carrier: inactive for in, at the exit slot for out, at the entry slot for the rest, and near for tuck, knit and split
 abbrev pub askedNo : ℕ → Needle → Bool → Racking → Look → ℕ
 askedNo kind n right r c =
     cond (eqb kind IN) (cond (c .active) 6 0)
@@ -60,8 +70,17 @@ askedNo kind n right r c =
     (cond (eqb kind MISS) (parkedNo (c .active) (c .slot) (entryOf (columnOf n r) right))
     (cond (leb 1 (loopsFormed kind)) (orNumber (parkedNo (c .active) (c .slot) (entryOf (columnOf n r) right)) (floatNo c (columnOf n r))) 0)))
 
-unfoldable pub carrierNo : Record → Racking → Look → ℕ
-carrierNo x r c = askedNo (x .kind) (x .at) (x .right) r c
+-- 7 to 9 of two, by number: 'For each of 7, 8 and 9 the first carrier is looked at before the second'
+abbrev pub bothNo : Slot → Column → Look → Look → ℕ
+bothNo y z c d =
+    orNumber (notInNo c) (orNumber (notInNo d)
+    (orNumber (parkedNo (c .active) (c .slot) y) (orNumber (parkedNo (d .active) (d .slot) y)
+    (orNumber (floatNo c z) (floatNo d z)))))
+
+unfoldable pub carrierNo : Record → Racking → Look → Look → ℕ
+carrierNo x r c d =
+    cond (isPlated (x .kind)) (bothNo (entryOf (columnOf (x .at) r) (x .right)) (columnOf (x .at) r) c d)
+    (askedNo (x .kind) (x .at) (x .right) r c)
 
 -- 10: the two needles of xfer and split
 unfoldable pub oppositeNo : Record → Racking → ℕ
@@ -69,7 +88,7 @@ oppositeNo x r = cond (moves (x .kind)) (cond (sameColumn (columnOf (x .at) r) (
 
 -- the loops on the first needle and on the second, afterwards; 0, and not stored, for a kind that works no such hook
 unfoldable pub firstAfter : ℕ → ℕ → ℕ
-firstAfter kind here = cond (eqb kind TUCK) (here + loopsFormed kind) (loopsFormed kind)
+firstAfter kind here = cond (tucks kind) (here + loopsFormed kind) (loopsFormed kind)
 
 unfoldable pub secondAfter : ℕ → ℕ → ℕ → ℕ
 secondAfter kind here there = cond (moves kind) (here + there) 0
@@ -79,7 +98,9 @@ unfoldable pub roomNo : ℕ → ℕ → ℕ → ℕ → ℕ
 roomNo limit kind here there = cond (leb (firstAfter kind here) limit) (cond (leb (secondAfter kind here there) limit) 0 11) 11
 
 unfoldable pub decidedNo : Record → Seen → ℕ
-decidedNo x s = orNumber (carrierNo x (s .racking) (s .look)) (orNumber (oppositeNo x (s .racking)) (roomNo (s .limit) (x .kind) (s .here) (s .there)))
+decidedNo x s =
+    orNumber (twiceNo x) (orNumber (carrierNo x (s .racking) (s .look) (s .other))
+    (orNumber (oppositeNo x (s .racking)) (roomNo (s .limit) (x .kind) (s .here) (s .there))))
 
 -- ---- apply: edits at listed places
 module _ {A W : Type 0} (act : W → A → A) (d : A) where
@@ -121,4 +142,4 @@ unfoldable pub applyOf : State → Record → State
 applyOf s x =
     changed s (rackingAfter (s .racking) x)
     (edit stored 0 (map hookOf (needlesOf x)) (firstAfter (x .kind) (loopsOn s (x .at)) ∷ secondAfter (x .kind) (loopsOn s (x .at)) (loopsOn s (x .to)) ∷ []) (s .loops))
-    (edit acted inactive (map (λ (k : ℕ). k - 1) (carriersOf x)) (actOf x (s .racking) ∷ []) (moveAttachments x (s .carriers)))
+    (edit acted inactive (map (λ (k : ℕ). k - 1) (carriersOf x)) (actOf x (s .racking) ∷ actOf x (s .racking) ∷ []) (moveAttachments x (s .carriers)))

@@ -1,4 +1,4 @@
-// The step of a record and the run of a program, with the refusals 1 and 3 to 11.
+// The step of a record and the run of a program, with the refusals 1, 3 to 11 and 16.
 ghost use mathlib.Core.Path.{_≡_};
 ghost use Prim.Native.Nat.{_≤_, _<_};
 ghost use lib.ListN.{getD, set};
@@ -7,10 +7,10 @@ ghost use mathlib.Core.Bool.{not, cond};
 ghost use Rattle.machine.specs.Limits.{hookMost};
 ghost use Rattle.machine.specs.Machine.{OnBed, hookOf, inactive, emptyState};
 ghost use Rattle.machine.specs.Geometry.{columnOf, entryOf, exitOf};
-ghost use Rattle.record.specs.Kinds.{IN, OUT, TUCK, KNIT};
+ghost use Rattle.record.specs.Kinds.{IN, OUT, TUCK, SPLIT, PLATED-KNIT};
 ghost use Rattle.run.specs.Relation.{unattached, reparked, attached};
-ghost use Rattle.run.specs.Step.{lookOf, parkedNo, floatNo, orNumber, askedNo};
-ghost use Rattle.run.specs.Loops.{tuckNo, tucked, transferNo, transferredLoops};
+ghost use Rattle.run.specs.Step.{lookOf, parkedNo, floatNo, orNumber, askedNo, bothNo};
+ghost use Rattle.run.specs.Loops.{tuckNo, tucked, formNo, formedLoops, transferNo, transferredLoops};
 ghost use Rattle.run.specs.Run.{reached, runFrom, reachedOf, answerOf, runOf, stay, stepOf};
 use machine::Carrier;
 use machine::Needle;
@@ -26,11 +26,14 @@ use machine::numbers::NOT_OPPOSITE;
 use machine::numbers::TOO_LONG;
 use machine::numbers::UNKNOWN_KIND;
 use machine::numbers::WRONG_SLOT;
+use machine::numbers::YARN_TWICE;
 use record::DROP;
 use record::IN;
 use record::KNIT;
 use record::MISS;
 use record::OUT;
+use record::PLATED_KNIT;
+use record::PLATED_TUCK;
 use record::RACK;
 use record::SPLIT;
 use record::TUCK;
@@ -75,15 +78,10 @@ fn parked(c: Carrier, z: Slot) -> u8
     if here.0 == z.0 { 0 } else { WRONG_SLOT }
 }
 
-// Whether the carrier can form a loop at the needle: 0, or 7 to 9.
-fn ready(c: Carrier, n: Needle, r: Racking, right: bool) -> u8
-    requires { ⌜ OnBed n ⌝ }
-    ensures { λ k. ⌜ k ≡ orNumber (parkedNo (lookOf r c .active) (lookOf r c .slot) (entryOf (columnOf n r) right)) (floatNo (lookOf r c) (columnOf n r)) ⌝ }
+// Whether an attached carrier's needle is near enough to the needle: 0, or 9.
+fn float(c: Carrier, n: Needle, r: Racking) -> u8
+    ensures { λ k. ⌜ k ≡ floatNo (lookOf r c) (columnOf n r) ⌝ }
 {
-    let number = parked(c, n.entry(r, right));
-    if number != 0 {
-        return number;
-    }
     if c.side == 0 {
         return 0;
     }
@@ -96,7 +94,39 @@ fn ready(c: Carrier, n: Needle, r: Racking, right: bool) -> u8
     }
 }
 
-// What a record of this kind asks of its carrier: 0, or 6 to 9.
+// Whether the carrier can form a loop at the needle: 0, or 7 to 9.
+fn ready(c: Carrier, n: Needle, r: Racking, right: bool) -> u8
+    requires { ⌜ OnBed n ⌝ }
+    ensures { λ k. ⌜ k ≡ orNumber (parkedNo (lookOf r c .active) (lookOf r c .slot) (entryOf (columnOf n r) right)) (floatNo (lookOf r c) (columnOf n r)) ⌝ }
+{
+    let number = parked(c, n.entry(r, right));
+    if number != 0 {
+        return number;
+    }
+    float(c, n, r)
+}
+
+// Whether two carriers can form a plated stitch at the needle: 0, or 7 to 9, by number first. (7 of either, then 8 of
+// either, then 9 of either: whose 9 it is the number does not tell.)
+fn both_ready(c: Carrier, d: Carrier, n: Needle, r: Racking, right: bool) -> u8
+    requires { ⌜ OnBed n ⌝ }
+    ensures { λ k. ⌜ k ≡ bothNo (entryOf (columnOf n r) right) (columnOf n r) (lookOf r c) (lookOf r d) ⌝ }
+{
+    if d.active == 0 {
+        return NOT_IN;
+    }
+    let number = parked(c, n.entry(r, right));
+    if number != 0 {
+        return number;
+    }
+    let number = ready(d, n, r, right);
+    if number != 0 {
+        return number;
+    }
+    float(c, n, r)
+}
+
+// What a record of this kind asks of one carrier: 0, or 6 to 9.
 fn asked(kind: u8, n: Needle, right: bool, c: Carrier, r: Racking) -> u8
     requires { ⌜ OnBed n ⌝ }
     ensures { λ k. ⌜ k ≡ askedNo kind n right r (lookOf r c) ⌝ }
@@ -105,7 +135,7 @@ fn asked(kind: u8, n: Needle, right: bool, c: Carrier, r: Racking) -> u8
         IN => { if c.active == 0 { 0 } else { ALREADY_IN } }
         OUT => parked(c, n.exit(r, right)),
         MISS => parked(c, n.entry(r, right)),
-        TUCK..=SPLIT => ready(c, n, r, right),
+        TUCK..=PLATED_KNIT => ready(c, n, r, right),
         _ => 0,
     }
 }
@@ -172,30 +202,34 @@ fn put(loops: &mut [u8; State::HOOKS], n: Needle, v: u8)
     loops[i] = v;
 }
 
-// One loop more on the needle's hook: 0, or 11 and no store.
-fn tuck(loops: &mut [u8; State::HOOKS], n: Needle) -> u8
+// Loops more on the needle's hook, v of them: 0, or 11 and no store.
+fn tuck(loops: &mut [u8; State::HOOKS], n: Needle, v: u8) -> u8
     requires { ⌜ OnBed n ⌝ }
-    ensures { λ k. ⌜ (k ≡ tuckNo hookMost (getD (now (loops .entry)) (hookOf n) 0)) × (now (loops .exit) ≡ tucked hookMost (now (loops .entry)) n) ⌝ }
+    ensures { λ k. ⌜ (k ≡ tuckNo hookMost (getD (now (loops .entry)) (hookOf n) 0) v) × (now (loops .exit) ≡ tucked hookMost (now (loops .entry)) n v) ⌝ }
 {
     let i = n.hook();
     let here = loops[i];
-    if State::LOOPS_MOST <= here {
+    if (State::LOOPS_MOST as u16) < wide(here) + wide(v) {
         return HOOK_FULL;
     }
-    loops[i] = here + 1;
+    loops[i] = here + v;
     0
 }
 
-// The loop that a tuck or a knit forms on the needle's hook: 0, or 11 and no store.
+// The loops that a tuck or a knit forms on the needle's hook, plain or plated: 0, or 11 and no store.
 fn form(kind: u8, loops: &mut [u8; State::HOOKS], n: Needle) -> u8
-    requires { ⌜ (TUCK ≤ kind) × (kind ≤ KNIT) × (OnBed n) ⌝ }
-    ensures { λ k. ⌜ (k ≡ cond (eqb kind TUCK) (tuckNo hookMost (getD (now (loops .entry)) (hookOf n) 0)) 0)
-        × (now (loops .exit) ≡ cond (eqb kind TUCK) (tucked hookMost (now (loops .entry)) n) (set (now (loops .entry)) (hookOf n) 1)) ⌝ }
+    requires { ⌜ (TUCK ≤ kind) × (kind ≤ PLATED-KNIT) × (kind ≡ SPLIT → ⊥) × (OnBed n) ⌝ }
+    ensures { λ k. ⌜ (k ≡ formNo hookMost kind (getD (now (loops .entry)) (hookOf n) 0)) × (now (loops .exit) ≡ formedLoops hookMost kind (now (loops .entry)) n) ⌝ }
 {
     match kind {
-        TUCK => tuck(loops, n),
+        TUCK => tuck(loops, n, 1),
         KNIT => {
             put(loops, n, 1);
+            0
+        }
+        PLATED_TUCK => tuck(loops, n, 2),
+        PLATED_KNIT => {
+            put(loops, n, 2);
             0
         }
         _ => 0,
@@ -331,6 +365,24 @@ fn run_from(state: State, program: &[u8]) -> Reached
                 } else {
                     st.carriers[k] = then;
                 }
+            }
+            PLATED_TUCK..=PLATED_KNIT => {
+                if x.carrier == x.second {
+                    return stop(YARN_TWICE, at, st);
+                }
+                let k = (x.carrier as usize) - 1;
+                let j = (x.second as usize) - 1;
+                let number = both_ready(st.carriers[k], st.carriers[j], n, r, x.right);
+                if number != 0 {
+                    return stop(number, at, st);
+                }
+                let number = form(kind, &mut st.loops, n);
+                if number != 0 {
+                    return stop(number, at, st);
+                }
+                let then = attach(n, r, x.right);
+                st.carriers[k] = then;
+                st.carriers[j] = then;
             }
             // decode gives no other kind
             _ => {}

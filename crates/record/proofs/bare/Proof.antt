@@ -129,7 +129,7 @@ returns-4 c = let t = c .before .before in let n = tested t in let e : begin (th
     simp (t .before .blank .ensures, size (there n), c .before .byte3 .ensures, n .before .byte2 .ensures, n .before .before .byte .ensures)
     (sym (read-inside (bytes n) (long (there n)) (xfer-fields (bytes n) (xfer t) ∙ simp (good t, ← c .before .byte3 .ensures) (le-leb _ _ (c .if4 .left)))
     ∙ ap (λ (x : Record). record { number = 0; size = sizeOf (byte (bytes n) 0); what = x })
-    (xfer-record (bytes n) (xfer t) ∙ ap (λ (k : ℕ). recordOf k (pos 0) false (needle (byte (bytes n) 1) (byte (bytes n) 2)) 0 (needle (1 - byte (bytes n) 1) (byte (bytes n) 3))) (sym e))))
+    (xfer-record (bytes n) (xfer t) ∙ ap (λ (k : ℕ). recordOf k (pos 0) false (needle (byte (bytes n) 1) (byte (bytes n) 2)) 0 0 (needle (1 - byte (bytes n) 1) (byte (bytes n) 3))) (sym e))))
 
 returns-5 : tie.Need-returns-5
 returns-5 c = let n = c .before .before .before in let k = begin (there n) in

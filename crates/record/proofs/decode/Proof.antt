@@ -7,7 +7,7 @@ use mathlib.Core.List.{List}
 use native.Mathlib.Omega.{arith}
 use lib.ListN.{length}
 use Prim.Native.Nat.{ℕ, _≤_, _<_}
-use Rattle.record.specs.Kinds.{IN, KNIT, sizeOf}
+use Rattle.record.specs.Kinds.{IN, KNIT, SPLIT, PLATED-TUCK, PLATED-KNIT, sizeOf}
 use Rattle.record.specs.Format.{byte, readOf, decodeOf}
 use Rattle.record.proofs.Shapes.{Known, known-size, above-bare, in-work, no-size}
 use Rattle.record.proofs.Forms.{decode-known, decode-strange}
@@ -60,6 +60,12 @@ work-requires c κs = search needs
 work-requires-2 : tie.Need-work-requires-2
 work-requires-2 c κs = search needs
 
+work-requires-3 : tie.Need-work-requires-3
+work-requires-3 c κs = search needs
+
+work-requires-4 : tie.Need-work-requires-4
+work-requires-4 c κs = search needs
+
 refused-requires-2 : tie.Need-refused-requires-2
 refused-requires-2 c κs = search needs
 
@@ -76,18 +82,27 @@ returns-5 : tie.Need-returns-5
 returns-5 c = c .work .ensures ∙ of-kind (c .before .before) (Known.split (c .before .match .keys4))
 
 returns-6 : tie.Need-returns-6
-returns-6 c = let b = c .before .before .before .before in let no = c .before .before .before .match .rest in
-    c .work2 .ensures
-    ∙ of-kind b (working (kind b) (above-bare (kind b) (omega (arith, c .before .before .if2 .left)) (no .0 .0 .0 .1) (no .0 .0 .1) (no .0 .1)) (omega (arith, c .before .if3 .taken)))
+returns-6 c = c .work2 .ensures ∙ of-kind (c .before .before) (Known.plated-tuck (c .before .match .keys5))
 
 returns-7 : tie.Need-returns-7
-returns-7 c = let b = c .before .before .before in let no = c .before .before .match .rest in
+returns-7 c = c .work3 .ensures ∙ of-kind (c .before .before) (Known.plated-knit (c .before .match .keys6))
+
+returns-8 : tie.Need-returns-8
+returns-8 c = let b = c .before .before .before .before in let no = c .before .before .before .match .rest in
+    c .work4 .ensures
+    ∙ of-kind b (working (kind b) (above-bare (kind b) (omega (arith, c .before .before .if2 .left)) (no .0 .0 .0 .0 .0 .1) (no .0 .0 .0 .0 .1) (no .0 .0 .0 .1)) (omega (arith, c .before .if3 .taken)))
+
+returns-9 : tie.Need-returns-9
+returns-9 c = let b = c .before .before .before in let no = c .before .before .match .rest in
     c .refused2 .ensures ∙ sym (decode-strange (bytes b) (some b)
-    (ap sizeOf (is b) ∙ no-size (kind b) (no .0 .0 .0 .1) (no .0 .0 .1) (no .0 .1) (no .1)
-    (λ h j. ⊎-elim {C = ⊥} (λ w. omega arith) (λ w. omega arith) (c .before .if2 .came))))
+    (ap sizeOf (is b) ∙ no-size (kind b) (no .0 .0 .0 .0 .0 .1) (no .0 .0 .0 .0 .1) (no .0 .0 .0 .1)
+    (λ h j. ⊎-elim {C = ⊥} (λ w. omega (arith, w .taken)) (λ (v, w). above (kind b) j (w .left) (no .0 .0 .1) (no .0 .1) (no .1)) (c .before .if2 .came))))
+  where
+    above : (k : ℕ) → k ≤ PLATED-KNIT → 9 ≤ k → (k ≡ SPLIT → ⊥) → (k ≡ PLATED-TUCK → ⊥) → (k ≡ PLATED-KNIT → ⊥) → ⊥
+    above k h i a b c = omega arith
 
 pub decode-spec : {M : Type 1} → statement M
 decode-spec =
     tie.close (tie.spec
-    refused-requires returns byte-requires rack-requires bare-requires bare-requires-2 work-requires work-requires-2 refused-requires-2
-    returns-2 returns-3 returns-4 returns-5 returns-6 returns-7)
+    refused-requires returns byte-requires rack-requires bare-requires bare-requires-2 work-requires work-requires-2 work-requires-3 work-requires-4
+    refused-requires-2 returns-2 returns-3 returns-4 returns-5 returns-6 returns-7 returns-8 returns-9)

@@ -1,4 +1,4 @@
--- Carrier, needle and direction in range, the second needle too, or refused. Assumes nothing.
+-- Carrier, needle and direction in range, the second needle or carrier too, or refused. Assumes nothing.
 use borrow.Author.Needs.{needs}
 use native.Mathlib.Omega.{arith}
 use borrow.Author.Tests.{not-true, not-false, le-leb, lt-leb}
@@ -10,11 +10,12 @@ use lib.ListN.{length}
 use Prim.Native.Nat.{ℕ, _-_, _≤_}
 use lib.IntN.{pos}
 use Rattle.record.specs.declared.Record.{Record}
-use Rattle.record.specs.Kinds.{IN, SPLIT, sizeOf}
-use Rattle.record.specs.Format.{byte, needle, recordOf, workRecord, workOk, workFieldsOk}
+use Rattle.record.specs.Kinds.{IN, KNIT, SPLIT, PLATED-TUCK, PLATED-KNIT, sizeOf}
+use Rattle.record.specs.Format.{byte, needle, recordOf, workRecord, platedRecord, carrierNumberOk, workOk, workFieldsOk, fieldsOk, recordFrom, readOf}
 use Rattle.record.proofs.Ranges.{work-right, work-bed, direction}
-use Rattle.record.proofs.Forms.{read-cut, read-outside, read-inside}
-use Rattle.record.proofs.Readings.{carried-size, carried-outside, one-fields, one-record, split-size, split-fields, split-record}
+use Rattle.record.proofs.Shapes.{plated-size}
+use Rattle.record.proofs.Forms.{work-fields, work-record, plated-fields, plated-record, read-cut, read-outside, read-inside}
+use Rattle.record.proofs.Readings.{carried-size, carried-outside, split-size, split-fields, split-record}
 use Rattle.record.proofs.work.Statement.{statement}
 use Rattle.record.proofs.work.Tie as tie
 
@@ -29,7 +30,7 @@ module _ (k : tie.Start) where
   low : IN ≤ byte l 0
   low = omega (arith, is, k .pre .1)
 
-  high : byte l 0 ≤ SPLIT
+  high : byte l 0 ≤ PLATED-KNIT
   high = omega (arith, is, k .pre .2)
 
 -- as many are there
@@ -102,63 +103,113 @@ returns-2 c = let n = c .before .before in let k = begin (there n) in
 blank-requires : tie.Need-blank-requires
 blank-requires c κs = search needs
 
-cast-t15 : tie.Need-cast-t15
-cast-t15 c = search needs
-
 cast-t16 : tie.Need-cast-t16
 cast-t16 c = search needs
 
--- a split, its second needle read
-module _ (t : tie.Then3) where
+cast-t17 : tie.Need-cast-t17
+cast-t17 c = search needs
+
+-- the first four fields are in range, and what is common is stored
+module _ (t : tie.After-blank) where
   abbrev tested : tie.After-work-ok
-  tested = t .before .before .before
+  tested = t .before .before
 
-  split : byte (bytes tested) 0 ≡ SPLIT
-  split = is (begin (there tested)) ∙ t .if3 .taken
+  abbrev all : List ℕ
+  all = bytes tested
 
-  good : workFieldsOk (bytes tested) ≡ true
-  good = sym (ok tested) ∙ not-false _ (t .before .before .if2 .left)
+  good : workFieldsOk all ≡ true
+  good = sym (ok tested) ∙ not-false _ (t .before .if2 .left)
+
+  -- the record, once its bytes are read
+  inside : (x : Record) → fieldsOk all ≡ true → recordFrom all ≡ x → record { number = 0; size = sizeOf (byte all 0); what = x } ≡ readOf all
+  inside x f e = sym (read-inside all (long (there tested)) f ∙ ap (λ (y : Record). record { number = 0; size = sizeOf (byte all 0); what = y }) e)
+
+-- a split, its second needle read
+module _ (t : tie.At-match-keys1) where
+  split : byte (all (t .before)) 0 ≡ SPLIT
+  split = is (begin (there (tested (t .before)))) ∙ t .match .keys1
 
 byte-requires-5 : tie.Need-byte-requires-5
-byte-requires-5 c κs = let n = tested c in omega (arith, long (there n), split-size (bytes n) (split c))
+byte-requires-5 c κs = omega (arith, long (there (tested (c .before))), split-size (all (c .before)) (split c))
 
 refused-requires-3 : tie.Need-refused-requires-3
 refused-requires-3 c κs = search needs
 
 returns-3 : tie.Need-returns-3
-returns-3 c = let t = c .before .before .before in let n = tested t in
-    c .refused3 .ensures ∙ sym (read-outside (bytes n) (long (there n)) (split-fields (bytes n) (split t) ∙ simp (← c .before .before .byte5 .ensures, lt-leb _ _ (c .before .if4 .taken), and-false (workFieldsOk (bytes n)))))
+returns-3 c = let t = c .before .before .before in let b = t .before in
+    c .refused3 .ensures ∙ sym (read-outside (all b) (long (there (tested b))) (split-fields (all b) (split t) ∙ simp (← c .before .before .byte5 .ensures, lt-leb _ _ (c .before .if3 .taken), and-false (workFieldsOk (all b)))))
 
-sub-t18 : tie.Need-sub-t18
-sub-t18 c = let t = c .before .before in let n = tested t in
-    omega (arith, n .before .before .before .byte2 .ensures, work-bed (byte (bytes n) 1) (byte (bytes n) 2) (byte (bytes n) 3) (byte (bytes n) 4) (good t))
-
-cast-t19 : tie.Need-cast-t19
-cast-t19 c = search needs
+sub-t19 : tie.Need-sub-t19
+sub-t19 c = let b = c .before .before .before in let n = tested b in
+    omega (arith, n .before .before .before .byte2 .ensures, work-bed (byte (all b) 1) (byte (all b) 2) (byte (all b) 3) (byte (all b) 4) (good b))
 
 cast-t20 : tie.Need-cast-t20
 cast-t20 c = search needs
 
+cast-t21 : tie.Need-cast-t21
+cast-t21 c = search needs
+
+-- a plated stitch, its second carrier read
+module _ (t : tie.Then5) where
+  abbrev stored : tie.After-blank
+  stored = t .before .before .before
+
+  abbrev from : tie.Start
+  from = begin (there (tested stored))
+
+  plated-low : PLATED-TUCK ≤ byte (all stored) 0
+  plated-low = omega (arith, is from, t .before .if4 .left)
+
+byte-requires-6 : tie.Need-byte-requires-6
+byte-requires-6 c κs = let b = stored c in omega (arith, long (there (tested b)), plated-size (byte (all b) 0) (plated-low c) (high (from c)))
+
+carrier-ok-requires : tie.Need-carrier-ok-requires
+carrier-ok-requires c κs = search needs
+
+refused-requires-4 : tie.Need-refused-requires-4
+refused-requires-4 c κs = search needs
+
+-- whether the second carrier is in range
+module _ (t : tie.After-carrier-ok) where
+  abbrev way : tie.Then5
+  way = t .before .before
+
+  second-ok : t .carrier-ok .result ≡ carrierNumberOk (byte (all (stored way)) 5)
+  second-ok = t .carrier-ok .ensures ∙ ap carrierNumberOk (t .before .byte6 .ensures)
+
 returns-4 : tie.Need-returns-4
-returns-4 c = let t = c .before .before in let n = tested t in let e : begin (there n) .args .kind ≡ SPLIT = t .if3 .taken in
-    simp (t .before .blank .ensures, size (there n), to-right n (good t), c .before .byte5 .ensures, n .before .byte4 .ensures, n .before .before .byte3 .ensures, n .before .before .before .byte2 .ensures)
-    (sym (read-inside (bytes n) (long (there n)) (split-fields (bytes n) (split t) ∙ simp (good t, ← c .before .byte5 .ensures) (le-leb _ _ (c .if4 .left)))
-    ∙ ap (λ (x : Record). record { number = 0; size = sizeOf (byte (bytes n) 0); what = x })
-    (split-record (bytes n) (split t)
-    ∙ ap (λ (k : ℕ). recordOf k (pos 0) (eqb (byte (bytes n) 1) 1) (needle (byte (bytes n) 2) (byte (bytes n) 3)) (byte (bytes n) 4) (needle (1 - byte (bytes n) 2) (byte (bytes n) 5))) (sym e))))
+returns-4 c = let t = c .before .before in let w = way t in let b = stored w in
+    c .refused4 .ensures
+    ∙ sym (read-outside (all b) (long (there (tested b))) (plated-fields (all b) (plated-low w) (high (from w))
+    ∙ simp (sym (second-ok t) ∙ not-true _ (c .before .if6 .taken), and-false (workFieldsOk (all b)))))
 
 returns-5 : tie.Need-returns-5
-returns-5 c = let n = c .before .before .before in let k = begin (there n) in
-    let other : byte (bytes n) 0 ≡ SPLIT → ⊥ = λ e. c .if3 .left (sym (is k) ∙ e) in
-    let fine : workFieldsOk (bytes n) ≡ true = sym (ok n) ∙ not-false _ (c .before .before .if2 .left) in
-    simp (c .before .blank .ensures, size (there n), to-right n fine, n .before .byte4 .ensures, n .before .before .byte3 .ensures, n .before .before .before .byte2 .ensures)
-    (sym (read-inside (bytes n) (long (there n)) (one-fields (bytes n) (low k) (high k) other ∙ fine)
-    ∙ ap (λ (x : Record). record { number = 0; size = sizeOf (byte (bytes n) 0); what = x })
-    (one-record (bytes n) (low k) (high k) other
-    ∙ ap (λ (m : ℕ). workRecord m (eqb (byte (bytes n) 1) 1) (needle (byte (bytes n) 2) (byte (bytes n) 3)) (byte (bytes n) 4)) (is k))))
+returns-5 c = let t = c .before .before in let b = t .before in let n = tested b in
+    simp (b .blank .ensures, size (there n), to-right n (good b), c .before .byte5 .ensures, n .before .byte4 .ensures, n .before .before .byte3 .ensures, n .before .before .before .byte2 .ensures)
+    (inside b _ (split-fields (all b) (split t) ∙ simp (good b, ← c .before .byte5 .ensures) (le-leb _ _ (c .if3 .left)))
+    (split-record (all b) (split t)
+    ∙ ap (λ (k : ℕ). recordOf k (pos 0) (eqb (byte (all b) 1) 1) (needle (byte (all b) 2) (byte (all b) 3)) (byte (all b) 4) 0 (needle (1 - byte (all b) 2) (byte (all b) 5))) (sym (t .match .keys1))))
+
+returns-6 : tie.Need-returns-6
+returns-6 c = let r = c .before in let b = r .before in let n = tested b in let k = begin (there n) in
+    let knit : byte (all b) 0 ≤ KNIT = omega (arith, is k, c .if4 .taken, r .match .rest .1) in
+    simp (b .blank .ensures, size (there n), to-right n (good b), n .before .byte4 .ensures, n .before .before .byte3 .ensures, n .before .before .before .byte2 .ensures)
+    (inside b _ (work-fields (all b) (low k) knit ∙ good b)
+    (work-record (all b) (low k) knit ∙ ap (λ (m : ℕ). workRecord m (eqb (byte (all b) 1) 1) (needle (byte (all b) 2) (byte (all b) 3)) (byte (all b) 4)) (is k)))
+
+returns-7 : tie.Need-returns-7
+returns-7 c = let t = c .before in let w = way t in let b = stored w in let n = tested b in let k = from w in
+    simp (b .blank .ensures, size (there n), to-right n (good b), t .before .byte6 .ensures, n .before .byte4 .ensures, n .before .before .byte3 .ensures, n .before .before .before .byte2 .ensures)
+    (inside b _ (plated-fields (all b) (plated-low w) (high k) ∙ simp (good b) (sym (second-ok t) ∙ not-false _ (c .if6 .left)))
+    (plated-record (all b) (plated-low w) (high k)
+    ∙ ap (λ (m : ℕ). platedRecord m (eqb (byte (all b) 1) 1) (needle (byte (all b) 2) (byte (all b) 3)) (byte (all b) 4) (byte (all b) 5)) (is k)))
+
+returns-8 : tie.Need-returns-8
+returns-8 c = let k = begin (there (tested (c .before .before .before))) in absurd (omega (arith, k .pre .2, c .if5 .left))
 
 pub work-spec : {M : Type 1} → statement M
 work-spec =
     tie.close (tie.spec
     size-of-requires refused-requires returns byte-requires byte-requires-2 byte-requires-3 byte-requires-4 work-ok-requires refused-requires-2
-    returns-2 blank-requires cast-t15 cast-t16 byte-requires-5 refused-requires-3 returns-3 sub-t18 cast-t19 cast-t20 returns-4 returns-5)
+    returns-2 blank-requires cast-t16 cast-t17 byte-requires-5 refused-requires-3 returns-3 sub-t19 cast-t20 cast-t21 byte-requires-6 carrier-ok-requires
+    refused-requires-4 returns-4 returns-5 returns-6 returns-7 returns-8)

@@ -51,6 +51,19 @@ halves-requires-2 : tie.Need-halves-requires-2
 halves-requires-2 c κs = let s = c .before .before .before .before in let g = s .args in let t = c .before .match .keys2 in
     two-long (g .output .now) (g .a) (g .b) (g .e) 5 (s .pre .0) (s .pre .1) (s .pre .2) (both-long (g .a) (g .b) (g .e) _ 5 (λ w. w .taken) (c .before .before .if1 .came) t (omega arith))
 
+sub-halves-3 : tie.Need-sub-halves-3
+sub-halves-3 c = search needs
+
+part-halves-start-3 : tie.Need-part-halves-start-3
+part-halves-start-3 c = search needs
+
+part-halves-end-3 : tie.Need-part-halves-end-3
+part-halves-end-3 c = search needs
+
+halves-requires-3 : tie.Need-halves-requires-3
+halves-requires-3 c κs = let s = c .before .before .before .before in let g = s .args in let t = c .before .match .keys3 in
+    two-long (g .output .now) (g .a) (g .b) (g .e) 6 (s .pre .0) (s .pre .1) (s .pre .2) (both-long (g .a) (g .b) (g .e) _ 6 (λ w. w .taken) (c .before .before .if1 .came) t (omega arith))
+
 sub-rotate : tie.Need-sub-rotate
 sub-rotate c = search needs
 
@@ -83,7 +96,15 @@ same-length-3 : tie.Need-same-length-3
 same-length-3 c = search needs
 
 returns-3 : tie.Need-returns-3
-returns-3 c = let s = c .before .before .before .before .before .before .before in let g = s .args in
+returns-3 c = let s = c .before .before .before .before .before .before .before in let g = s .args in let t = c .before .before .before .before .match .keys3 in
+    put-back (g .output .now) (c .before .before .halves3 .last .0) (g .a) (g .b) (g .e) (s .pre .0) (s .pre .1) (s .pre .2)
+    (c .before .before .halves3 .ensures ∙ ap (turned (take (g .e - g .a) (drop (g .a) (g .output .now)))) (sym (both-long (g .a) (g .b) (g .e) _ 6 (λ w. w .taken) (c .before .before .before .before .before .if1 .came) t (omega arith) .1)))
+
+same-length-4 : tie.Need-same-length-4
+same-length-4 c = search needs
+
+returns-4 : tie.Need-returns-4
+returns-4 c = let s = c .before .before .before .before .before .before .before in let g = s .args in
     put-back (g .output .now) (c .before .before .rotate .last .0) (g .a) (g .b) (g .e) (s .pre .0) (s .pre .1) (s .pre .2) (c .before .before .rotate .ensures)
 
 pub exchange-spec : {M : Type 1} → statement M
@@ -100,6 +121,10 @@ exchange-spec =
     part-halves-start-2
     part-halves-end-2
     halves-requires-2
+    sub-halves-3
+    part-halves-start-3
+    part-halves-end-3
+    halves-requires-3
     sub-rotate
     part-rotate-start
     part-rotate-end
@@ -109,4 +134,6 @@ exchange-spec =
     same-length-2
     returns-2
     same-length-3
-    returns-3)
+    returns-3
+    same-length-4
+    returns-4)

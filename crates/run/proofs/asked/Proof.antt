@@ -9,8 +9,8 @@ use lib.Dec.{eqb, leb}
 use Rattle.machine.specs.declared.Column.{Column}
 use Rattle.machine.specs.declared.Slot.{Slot}
 use Rattle.machine.specs.Geometry.{columnOf, entryOf, exitOf}
-use Rattle.record.specs.Kinds.{IN, OUT, MISS, TUCK, SPLIT}
-use Rattle.record.proofs.Shapes.{forms-one, forms-none}
+use Rattle.record.specs.Kinds.{IN, OUT, MISS, TUCK, PLATED-KNIT}
+use Rattle.record.proofs.Shapes.{forms-some, forms-none}
 use Rattle.run.specs.Step.{Look, orNumber, parkedNo, floatNo, lookOf, askedNo}
 use Rattle.run.proofs.Looks.{parked-seen}
 use Rattle.run.proofs.Premises.{in-zero, in-six}
@@ -44,10 +44,10 @@ module _ (b : tie.Start) where
   of-miss : k ≡ MISS → {s : Slot} → s ≡ entryOf z (b .args .right) → parks s ≡ said
   of-miss e {s} p = parked-seen (b .args .r) (b .args .c) s ∙ ap (parkedNo (look .active) (look .slot)) p ∙ sym (simp e)
 
-  of-rest : TUCK ≤ k → k ≤ SPLIT → said ≡ orNumber (parkedNo (look .active) (look .slot) (entryOf z (b .args .right))) (floatNo look z)
-  of-rest h j = simp (ne-eqb k IN (λ e. omega arith), ne-eqb k OUT (λ e. omega arith), ne-eqb k MISS (λ e. omega arith), ap (leb 1) (forms-one k h j))
+  of-rest : TUCK ≤ k → k ≤ PLATED-KNIT → said ≡ orNumber (parkedNo (look .active) (look .slot) (entryOf z (b .args .right))) (floatNo look z)
+  of-rest h j = simp (ne-eqb k IN (λ e. omega arith), ne-eqb k OUT (λ e. omega arith), ne-eqb k MISS (λ e. omega arith), forms-some k h j)
 
-  of-none : (k ≡ IN → ⊥) → (k ≡ OUT → ⊥) → (k ≡ MISS → ⊥) → (TUCK ≤ k → k ≤ SPLIT → ⊥) → said ≡ 0
+  of-none : (k ≡ IN → ⊥) → (k ≡ OUT → ⊥) → (k ≡ MISS → ⊥) → (TUCK ≤ k → k ≤ PLATED-KNIT → ⊥) → said ≡ 0
   of-none a b d h = simp (ne-eqb k IN a, ne-eqb k OUT b, ne-eqb k MISS d, ap (leb 1) (forms-none k h))
 
 exit-requires : tie.Need-exit-requires

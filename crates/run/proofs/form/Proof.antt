@@ -1,7 +1,10 @@
--- The loop of a tuck or a knit, by the kind; there is no other. Assumes nothing.
+-- The loops of a tuck or a knit, by the kind; there is no other. Assumes nothing.
 use borrow.Author.Needs.{needs}
 use native.Mathlib.Omega.{arith}
-use mathlib.Core.Path.{refl}
+use mathlib.Core.Path.{_≡_, refl}
+use Prim.Native.Nat.{ℕ, _≤_}
+use Rattle.record.specs.Kinds.{TUCK, KNIT, SPLIT, PLATED-TUCK, PLATED-KNIT, byKind}
+use Rattle.run.specs.Loops.{formNo, formedLoops}
 use Rattle.run.proofs.form.Statement.{statement}
 use Rattle.run.proofs.form.Tie as tie
 
@@ -11,15 +14,36 @@ tuck-requires c κs = search needs
 put-requires : tie.Need-put-requires
 put-requires c κs = search needs
 
+tuck-requires-2 : tie.Need-tuck-requires-2
+tuck-requires-2 c κs = search needs
+
+put-requires-2 : tie.Need-put-requires-2
+put-requires-2 c κs = search needs
+
 returns : tie.Need-returns
+unfolding formNo formedLoops byKind
 returns c = simp (c .before .before .match .keys1) (c .tuck .ensures)
 
 returns-2 : tie.Need-returns-2
+unfolding formNo formedLoops byKind
 returns-2 c = simp (c .before .before .match .keys2) (refl, c .put .ensures)
 
--- kinds are tuck and knit
 returns-3 : tie.Need-returns-3
-returns-3 c = let no = c .match .rest in absurd (omega (arith, c .before .pre .0, c .before .pre .1, no .0 .1, no .1))
+unfolding formNo formedLoops byKind
+returns-3 c = simp (c .before .before .match .keys3) (c .tuck2 .ensures)
+
+returns-4 : tie.Need-returns-4
+unfolding formNo formedLoops byKind
+returns-4 c = simp (c .before .before .match .keys4) (refl, c .put2 .ensures)
+
+-- from tuck on there are these, and split
+no-other : (k : ℕ) → TUCK ≤ k → k ≤ PLATED-KNIT → (k ≡ SPLIT → ⊥) → (k ≡ TUCK → ⊥) → (k ≡ KNIT → ⊥) → (k ≡ PLATED-TUCK → ⊥) → (k ≡ PLATED-KNIT → ⊥) → ⊥
+no-other k h i d a b e f = omega arith
+
+returns-5 : tie.Need-returns-5
+returns-5 c = let no = c .match .rest in let pre = c .before .pre in
+    absurd (no-other (c .before .args .kind) (pre .0) (pre .1) (pre .2) (no .0 .0 .0 .1) (no .0 .0 .1) (no .0 .1) (no .1))
 
 pub form-spec : {M : Type 1} → statement M
-form-spec = tie.close (tie.spec tuck-requires put-requires returns returns-2 returns-3)
+form-spec =
+    tie.close (tie.spec tuck-requires put-requires tuck-requires-2 put-requires-2 returns returns-2 returns-3 returns-4 returns-5)

@@ -9,14 +9,14 @@ use Rattle.machine.specs.Limits.{carrierCount, hookLimit}
 use Rattle.machine.specs.declared.State.{State}
 use Rattle.record.specs.declared.Record.{Record}
 use Rattle.record.specs.declared.Decoded.{Decoded}
-use Rattle.record.specs.Kinds.{IN, OUT, TUCK, KNIT}
-use Rattle.record.proofs.Shapes.{above-bare, known-least, known-most, carrying}
+use Rattle.record.specs.Kinds.{IN, OUT, TUCK, KNIT, PLATED-TUCK, PLATED-KNIT}
+use Rattle.record.proofs.Shapes.{above-bare, known-least, known-most, carrying, two-named}
 use Rattle.record.proofs.Ranges.{InRange}
 use Rattle.run.specs.Step.{numberAt}
 use Rattle.run.specs.Run.{reached, runFrom}
 use Rattle.run.proofs.Turns.{Turn, ended, turned, refused, in-range, sized, stopped, goes}
 use Rattle.run.proofs.Arms.{Made, transfer-kept, unmoved, rack-made, drop-made, xfer-stopped, xfer-made, in-out-stopped, in-out-made, miss-stopped, miss-made}
-use Rattle.run.proofs.Arms.{loop-unready, loop-stopped, loop-kept, loop-made, split-unready, split-stopped, split-made}
+use Rattle.run.proofs.Arms.{form-kept, loop-unready, loop-stopped, loop-made, split-unready, split-stopped, split-made, plated-twice, plated-unready, plated-stopped, plated-made}
 use Rattle.run.proofs.run_from.Statement.{statement}
 use Rattle.run.proofs.run_from.Tie as tie
 
@@ -107,6 +107,23 @@ module _ (t : tie.Then11 Inv-loop μ-loop) where
 
   loop-carrier : Carried loop
   loop-carrier = carried loop (omega (arith, loop-low))
+
+-- the arm of the plated stitches
+module _ (t : tie.Then14 Inv-loop μ-loop) where
+  abbrev plate : tie.Else1 Inv-loop μ-loop
+  plate = t .before .before .before .before .before .before .before .before .before
+
+  plate-low : PLATED-TUCK ≤ x plate .kind
+  plate-low = omega (arith, t .before .if11 .left, t .before .before .before .before .match .rest .1)
+
+  plate-high : x plate .kind ≤ PLATED-KNIT
+  plate-high = omega (arith, t .if14 .taken)
+
+  plate-first : Carried plate
+  plate-first = carried plate (omega (arith, plate-low))
+
+  plate-second : (1 ≤ x plate .second) × (x plate .second ≤ carrierCount)
+  plate-second = (known plate .second-low (two-named (x plate .kind) plate-low plate-high), known plate .second-high)
 
 -- below, m or t is where an arm begins and b where its record has been decoded
 loop-holds : tie.Need-loop-holds Inv-loop μ-loop
@@ -290,14 +307,14 @@ returns-7 c = let t = c .before .before .before .before .before in let b = loop 
     c .stop7 .ensures ∙ halt b (loop-unready (s b) (x b) (loop-low t) (loop-high t) _ (c .before .before .ready .ensures) (c .before .if12 .taken)) (c .before .if12 .taken)
 
 form-requires : tie.Need-form-requires Inv-loop μ-loop
-form-requires c κs = let t = c .before .before .before .before .before in (omega (arith, loop-low t), omega (arith, loop-high t), known (loop t) .at-bed)
+form-requires c κs = let t = c .before .before .before .before .before in (omega (arith, loop-low t), omega (arith, loop-high t), (λ e. omega (arith, loop-high t)), known (loop t) .at-bed)
 
 stop-requires-8 : tie.Need-stop-requires-8 Inv-loop μ-loop
 stop-requires-8 c κs = search needs
 
 returns-8 : tie.Need-returns-8 Inv-loop μ-loop
 returns-8 c = let t = c .before .before .before .before .before .before .before .before in let b = loop t in let told = c .before .before .form .ensures in let ready = c .before .before .before .before .before .ready .ensures in let h = c .before .before .before .before .if12 .left in
-    c .stop8 .ensures ∙ simp (told .1, loop-kept (s b) (x b) (loop-low t) (loop-high t) _ ready h _ (told .0) (c .before .if13 .taken)) (halt b (loop-stopped (s b) (x b) (loop-low t) (loop-high t) _ ready h _ (told .0)) (c .before .if13 .taken))
+    c .stop8 .ensures ∙ simp (told .1, form-kept (s b) (x b) _ (told .0) (c .before .if13 .taken)) (halt b (loop-stopped (s b) (x b) (loop-low t) (loop-high t) _ ready h _ (told .0)) (c .before .if13 .taken))
 
 attach-requires-2 : tie.Need-attach-requires-2 Inv-loop μ-loop
 attach-requires-2 c κs = known (c .before .before .before .before .before .before .before .before .before .before .before .before .before .before .before) .at-bed
@@ -307,6 +324,80 @@ mul-then-4 c = omega (arith, loop-carrier (c .before .before .before .before .be
 
 element-set-from-then-4 : tie.Need-element-set-from-then-4 Inv-loop μ-loop
 element-set-from-then-4 c = omega (arith, loop-carrier (c .before .before .before .before .before .before .before .before))
+
+stop-requires-9 : tie.Need-stop-requires-9 Inv-loop μ-loop
+stop-requires-9 c κs = search needs
+
+returns-9 : tie.Need-returns-9 Inv-loop μ-loop
+returns-9 c = let t = c .before .before .before in let b = plate t in
+    c .stop9 .ensures ∙ halt b (plated-twice (s b) (x b) (plate-low t) (plate-high t) (c .before .if15 .taken)) (λ z. omega arith)
+
+cast-k-5 : tie.Need-cast-k-5 Inv-loop μ-loop
+cast-k-5 c = search needs
+
+sub-k-5 : tie.Need-sub-k-5 Inv-loop μ-loop
+sub-k-5 c = omega (arith, plate-first (c .before .before .before))
+
+cast-j : tie.Need-cast-j Inv-loop μ-loop
+cast-j c = search needs
+
+sub-j : tie.Need-sub-j Inv-loop μ-loop
+sub-j c = omega (arith, plate-second (c .before .before .before .before))
+
+mul-both-ready : tie.Need-mul-both-ready Inv-loop μ-loop
+mul-both-ready c = omega (arith, plate-first (c .before .before .before .before))
+
+element-copy-out-both-ready : tie.Need-element-copy-out-both-ready Inv-loop μ-loop
+element-copy-out-both-ready c = omega (arith, plate-first (c .before .before .before .before))
+
+mul-both-ready-2 : tie.Need-mul-both-ready-2 Inv-loop μ-loop
+mul-both-ready-2 c = omega (arith, plate-second (c .before .before .before .before .before))
+
+element-copy-out-both-ready-2 : tie.Need-element-copy-out-both-ready-2 Inv-loop μ-loop
+element-copy-out-both-ready-2 c = omega (arith, plate-second (c .before .before .before .before .before))
+
+both-ready-requires : tie.Need-both-ready-requires Inv-loop μ-loop
+both-ready-requires c κs = known (plate (c .before .before .before .before .before .before)) .at-bed
+
+stop-requires-10 : tie.Need-stop-requires-10 Inv-loop μ-loop
+stop-requires-10 c κs = search needs
+
+-- two yarns, and what both carriers answered
+module _ (r : tie.After-both-ready Inv-loop μ-loop) where
+  abbrev arm : tie.Then14 Inv-loop μ-loop
+  arm = r .before .before .before .before .before .before .before
+
+  yarns : x (plate arm) .carrier ≡ x (plate arm) .second → ⊥
+  yarns = r .before .before .before .before .before .if15 .left
+
+returns-10 : tie.Need-returns-10 Inv-loop μ-loop
+returns-10 c = let r = c .before .before in let t = arm r in let b = plate t in
+    c .stop10 .ensures ∙ halt b (plated-unready (s b) (x b) (plate-low t) (plate-high t) (yarns r) _ (r .both-ready .ensures) (c .before .if16 .taken)) (c .before .if16 .taken)
+
+form-requires-2 : tie.Need-form-requires-2 Inv-loop μ-loop
+form-requires-2 c κs = let t = arm (c .before .before) in (omega (arith, plate-low t), omega (arith, plate-high t), (λ e. omega (arith, plate-low t)), known (plate t) .at-bed)
+
+stop-requires-11 : tie.Need-stop-requires-11 Inv-loop μ-loop
+stop-requires-11 c κs = search needs
+
+returns-11 : tie.Need-returns-11 Inv-loop μ-loop
+returns-11 c = let r = c .before .before .before .before .before in let t = arm r in let b = plate t in let told = c .before .before .form2 .ensures in let h = c .before .before .before .before .if16 .left in
+    c .stop11 .ensures ∙ simp (told .1, form-kept (s b) (x b) _ (told .0) (c .before .if17 .taken)) (halt b (plated-stopped (s b) (x b) (plate-low t) (plate-high t) (yarns r) _ (r .both-ready .ensures) h _ (told .0)) (c .before .if17 .taken))
+
+attach-requires-3 : tie.Need-attach-requires-3 Inv-loop μ-loop
+attach-requires-3 c κs = known (plate (arm (c .before .before .before .before))) .at-bed
+
+mul-then-5 : tie.Need-mul-then-5 Inv-loop μ-loop
+mul-then-5 c = omega (arith, plate-first (arm (c .before .before .before .before .before)))
+
+element-set-from-then-5 : tie.Need-element-set-from-then-5 Inv-loop μ-loop
+element-set-from-then-5 c = omega (arith, plate-first (arm (c .before .before .before .before .before)))
+
+mul-then-6 : tie.Need-mul-then-6 Inv-loop μ-loop
+mul-then-6 c = omega (arith, plate-second (arm (c .before .before .before .before .before)))
+
+element-set-from-then-6 : tie.Need-element-set-from-then-6 Inv-loop μ-loop
+element-set-from-then-6 c = omega (arith, plate-second (arm (c .before .before .before .before .before)))
 
 loop-less : tie.Need-loop-less Inv-loop μ-loop
 loop-less c = less (c .before .before .before .before .before .before)
@@ -378,18 +469,25 @@ loop-again-10 : tie.Need-loop-again-10 Inv-loop μ-loop
 loop-again-10 c = let t = c .before .before .before .before .before .before .before .before in let b = loop t in let told = c .before .before .form .ensures in
     on b (loop-made (s b) (x b) (loop-low t) (loop-high t) _ (c .before .before .before .before .before .ready .ensures) (c .before .before .before .before .if12 .left) _ (told .0) (c .before .if13 .left) _ (c .attach2 .ensures) _ (told .1))
 
--- and none above split
 loop-less-11 : tie.Need-loop-less-11 Inv-loop μ-loop
-loop-less-11 c = less (c .before .before .before .before .before .before .before .before)
+loop-less-11 c = less (plate (arm (c .before .before .before .before .before)))
 
 loop-again-11 : tie.Need-loop-again-11 Inv-loop μ-loop
-loop-again-11 c = absurd (omega (arith, c .if11 .left, c .before .before .before .match .rest .1, known-most (known (c .before .before .before .before .before .before .before .before) .known)))
+loop-again-11 c = let r = c .before .before .before .before .before in let t = arm r in let b = plate t in let told = c .before .before .form2 .ensures in
+    on b (plated-made (s b) (x b) (plate-low t) (plate-high t) (yarns r) _ (r .both-ready .ensures) (c .before .before .before .before .if16 .left) _ (told .0) (c .before .if17 .left) _ (c .attach3 .ensures) _ (told .1))
 
-stop-requires-9 : tie.Need-stop-requires-9 Inv-loop μ-loop
-stop-requires-9 c κs = search needs
+-- and none above plated knit
+loop-less-12 : tie.Need-loop-less-12 Inv-loop μ-loop
+loop-less-12 c = less (c .before .before .before .before .before .before .before .before .before)
 
-returns-9 : tie.Need-returns-9 Inv-loop μ-loop
-returns-9 c = c .stop9 .ensures ∙ ended (c .before .before .before .before .args .state) (c .before .before .before .before .args .program .now) (c .before .before .loop .at) (c .before .before .loop .st) (omega arith) (c .before .before .loop .inv .1)
+loop-again-12 : tie.Need-loop-again-12 Inv-loop μ-loop
+loop-again-12 c = absurd (omega (arith, c .if14 .left, known-most (known (c .before .before .before .before .before .before .before .before .before) .known)))
+
+stop-requires-12 : tie.Need-stop-requires-12 Inv-loop μ-loop
+stop-requires-12 c κs = search needs
+
+returns-12 : tie.Need-returns-12 Inv-loop μ-loop
+returns-12 c = c .stop12 .ensures ∙ ended (c .before .before .before .before .args .state) (c .before .before .before .before .args .program .now) (c .before .before .loop .at) (c .before .before .loop .st) (omega arith) (c .before .before .loop .inv .1)
 
 pub run-from-spec : {M : Type 1} → statement M
 run-from-spec =
@@ -401,6 +499,8 @@ run-from-spec =
     attachments-moved-requires-2 mul-ds array-set-from-ds mul-then-2 element-set-from-then-2 cast-k-3 sub-k-3 mul-c-3 element-copy-out-c-3
     asked-requires-3 stop-requires-6 returns-6 enter-or-leave-requires mul-then-3 element-set-from-then-3 cast-k-4 sub-k-4 mul-c-4
     element-copy-out-c-4 ready-requires stop-requires-7 returns-7 form-requires stop-requires-8 returns-8 attach-requires-2 mul-then-4
-    element-set-from-then-4 loop-less loop-again loop-less-2 loop-again-2 loop-less-3 loop-again-3 loop-less-4 loop-again-4 loop-less-5
-    loop-again-5 loop-less-6 loop-again-6 loop-less-7 loop-again-7 loop-less-8 loop-again-8 loop-less-9 loop-again-9 loop-less-10
-    loop-again-10 loop-less-11 loop-again-11 stop-requires-9 returns-9)
+    element-set-from-then-4 stop-requires-9 returns-9 cast-k-5 sub-k-5 cast-j sub-j mul-both-ready element-copy-out-both-ready mul-both-ready-2
+    element-copy-out-both-ready-2 both-ready-requires stop-requires-10 returns-10 form-requires-2 stop-requires-11 returns-11 attach-requires-3
+    mul-then-5 element-set-from-then-5 mul-then-6 element-set-from-then-6 loop-less loop-again loop-less-2 loop-again-2 loop-less-3 loop-again-3
+    loop-less-4 loop-again-4 loop-less-5 loop-again-5 loop-less-6 loop-again-6 loop-less-7 loop-again-7 loop-less-8 loop-again-8 loop-less-9
+    loop-again-9 loop-less-10 loop-again-10 loop-less-11 loop-again-11 loop-less-12 loop-again-12 stop-requires-12 returns-12)
