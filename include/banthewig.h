@@ -115,7 +115,7 @@ uint64_t knitout_run(const uint8_t *program, size_t length);
    0 writes the program as the swaps made it to the front of the output, and the start of each of its records to the
    front of work; 12 to 14 the same, as the swaps before the refused one made it (KNITOUT_WRITTEN); 1 to 11 and 16 write
    nothing. Output past the program's length and work past the last record's start keep their contents.
-   Stack 2,248 bytes; worst time 200 ms. */
+   Stack 2,264 bytes; worst time 200 ms. */
 uint64_t knitout_rewrite(const uint8_t *program, size_t program_length, const uint8_t *log, size_t log_length,
                          uint8_t *output, size_t output_length, uint16_t *work, size_t work_count);
 

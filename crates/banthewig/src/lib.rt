@@ -25,7 +25,7 @@ pub extern "C" fn knitout_run(program: &[u8]) -> u64
 }
 
 // Rewrites a program by a log: number times 65,536 plus place. The output begins with the program as the swaps left it,
-// the work area with its records' starts; numbers 1 to 11 write nothing.
+// the work area with its records' starts; numbers 1 to 11 and 16 write nothing.
 #[no_mangle]
 pub extern "C" fn knitout_rewrite(
     program: &[u8],

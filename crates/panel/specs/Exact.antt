@@ -18,7 +18,7 @@ use Rattle.panel.specs.declared.Served.{Served}
 use Rattle.panel.specs.Panel.{panelStep, listAnswer, carrierList}
 
 -- ---- the one-record step: number, the record's length, the lent state afterwards
--- (01: '15 is looked at first, then 3 to 11'; refused, it leaves its loan untouched and gives length 0)
+-- (01: '15 is looked at first, then 3 to 11', 02: 16 'after 5'; refused, it leaves its loan untouched and gives length 0)
 pub data Serves (s : State) (l : List ℕ) : Stepped → Type 0 where
   -- a foul state, whatever the bytes
   foul : (StateInRange s → ⊥) → Serves s l (record { number = 15; length = 0; state = s })

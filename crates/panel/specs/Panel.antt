@@ -12,7 +12,7 @@ use Rattle.run.specs.Run.{stay, stepOf}
 use Rattle.panel.specs.declared.Served.{Served}
 
 -- ---- the one-record step
--- 15 (foul state) is looked at first, then 3 to 11 by the step that the run makes; a refused call keeps the state
+-- 15 (foul state) is looked at first, then 3 to 11 and 16 by the step that the run makes; a refused call keeps the state
 unfoldable pub panelStep : State → List ℕ → Stepped
 panelStep s l = cond (stateOk s) (stepOf s l) (stay 15 s)
 

@@ -109,7 +109,7 @@ module _ (program log output work : List ℕ) where
     pub log-is : log ≡ front ++ rest
     pub swaps : Swapped front records m
 
-  -- a call, by the ways in which it ends; 'Order: 15, 1, 2; then each record 3 to 11 by number; then each log record 14, 12, 13'
+  -- a call, by the ways in which it ends; 'Order: 15, 1, 2; then each record 3 to 11 by number; then each log record 14, 12, 13', and 16 behind 5
   pub data Rewrites : Rewritten → Type 0 where
     too-long : Long → Rewrites (unlooked 1)
     no-bench : (Long → ⊥) → Short → Rewrites (unlooked 2)
