@@ -22,4 +22,5 @@ orders =
       counts-are = (record { holds = refl; equals = refl }, (record { holds = refl; equals = refl }, (record { holds = refl; equals = refl }, (record { holds = refl; equals = refl }, tt))));
       loops-are = (refl, (refl, (refl, (refl, (refl, (refl, (refl, (refl, tt))))))));
       carriers-are = (refl, (refl, (refl, (refl, (refl, (refl, tt))))));
+      carriers-read = (refl, refl);
     }

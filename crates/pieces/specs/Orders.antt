@@ -1,5 +1,5 @@
 -- What demand 3 is said in, as rows: a program's records and histories, its stretches, ties between records of it, equal ones by their count; and where hooks and
--- carriers lie in a state.
+-- carriers lie in a state, a plated stitch's two carriers in its bytes.
 use Prim.Native.Nat.{ℕ}
 use mathlib.Core.Path.{_≡_}
 use mathlib.Core.Bool.{Bool, true, false}
@@ -10,7 +10,7 @@ use Rattle.machine.specs.Machine.{inactive, Each}
 use Rattle.run.specs.Run.{runOf}
 use Rattle.trace.specs.Lists.{Nth}
 use Rattle.trace.specs.Order.{stretch, tiedIn}
-use Rattle.rewrite.specs.Programs.{flat, recordsOf, sameBytes, knitting, Named, needle, carrier, historyOf}
+use Rattle.rewrite.specs.Programs.{flat, recordsOf, sameBytes, knitting, what, Named, needle, carrier, historyOf}
 use Rattle.rewrite.specs.Rewrite.{rackingZero}
 use Rattle.pieces.specs.Spelled.{f, b, left, right, rack, drop, xfer, bring-in, take-out, miss, tuck, knit, split, plated-tuck, plated-knit}
 use Rattle.pieces.specs.Rows.{on-left, on-right}
@@ -123,3 +123,5 @@ pub record OrdersHold : Type 0 where
   pub counts-are : Each (λ (c : List ℕ × (ℕ × ℕ)). Nth sameBytes (recordsOf program) (c .0) (c .1 .0) (c .1 .1)) counted
   pub loops-are : Each (λ (h : ℕ × ℕ). getD (runOf at-the-ends .state .loops) (h .0) 0 ≡ h .1) stored-loops
   pub carriers-are : Each (λ (k : ℕ × Carrier). getD (runOf at-the-ends .state .carriers) (k .0) inactive ≡ k .1) stored-carriers
+  -- which byte is which carrier of a plated stitch: no answer tells, since the two are treated alike
+  pub carriers-read : (what (plated-knit right (f 10) 3 4) .carrier ≡ 3) × (what (plated-knit right (f 10) 3 4) .second ≡ 4)

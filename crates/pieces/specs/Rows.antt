@@ -342,6 +342,10 @@ plated =
     knitted (both-in ++ plated-knit right (f 10) 3 4) 0 0 ((f 10, 2) ∷ []) ((3, on-right 11 (f 10)) ∷ (4, on-right 11 (f 10)) ∷ (5, inactive) ∷ [])
     ∷ knitted (both-in ++ tucks (f 10) 3 ++ tucks (f 10) 3 ++ plated-knit right (f 10) 4 3) 0 0 ((f 10, 2) ∷ []) ((3, on-right 11 (f 10)) ∷ (4, on-right 11 (f 10)) ∷ [])
     ∷ knitted (bring-in left (b 10) 3 ++ bring-in left (b 10) 4 ++ plated-knit left (b 10) 3 4) 0 0 ((b 10, 2) ∷ (f 10, 0) ∷ []) ((3, on-left 10 (b 10)) ∷ (4, on-left 10 (b 10)) ∷ [])
+    ∷ knitted (bring-in left (f 10) 3 ++ bring-in left (f 10) 4 ++ plated-knit left (f 10) 4 3) 0 0 ((f 10, 2) ∷ []) ((3, on-left 10 (f 10)) ∷ (4, on-left 10 (f 10)) ∷ [])
+    -- beside another carrier's attachment, which stays
+    ∷ knitted (bring-in right (f 10) 5 ++ tuck right (f 10) 5 ++ both-in ++ plated-knit right (f 10) 3 4) 0 0 ((f 10, 2) ∷ [])
+    ((3, on-right 11 (f 10)) ∷ (4, on-right 11 (f 10)) ∷ (5, on-right 11 (f 10)) ∷ [])
     -- a plated tuck adds 2, onto none, one and six; onto seven it gets 11
     ∷ knitted (both-in ++ plated-tuck right (f 10) 3 4) 0 0 ((f 10, 2) ∷ []) ((3, on-right 11 (f 10)) ∷ (4, on-right 11 (f 10)) ∷ [])
     ∷ knitted (bring-in right (f 10) 5 ++ tuck right (f 10) 5 ++ both-in ++ plated-tuck right (f 10) 3 4) 0 0 ((f 10, 3) ∷ [])
@@ -350,8 +354,12 @@ plated =
     ((3, on-right 11 (f 10)) ∷ (4, on-right 11 (f 10)) ∷ [])
     ∷ knitted (in-3 ++ bring-in left (f 10) 4 ++ tucks (f 10) 3 ++ tuck right (f 10) 3 ++ tuck left (f 10) 3 ++ tuck right (f 10) 3 ++ plated-tuck left (f 10) 3 4) 11 45 ((f 10, 7) ∷ [])
     ((3, on-right 11 (f 10)) ∷ (4, unattached 11) ∷ [])
-    -- at racking 2; at the last needle with the first and the last carrier; an xfer takes both attachments along
+    -- at racking 2; at the outermost slots; at the last needle with the first and the last carrier; an xfer takes both attachments along
     ∷ racked (rack 2 ++ bring-in right (b 10) 3 ++ bring-in right (b 10) 4 ++ plated-tuck right (b 10) 3 4) 0 0 (pos 2) ((b 10, 2) ∷ []) ((3, on-right 13 (b 10)) ∷ (4, on-right 13 (b 10)) ∷ [])
+    ∷ racked (rack 248 ++ bring-in left (b 0) 3 ++ bring-in left (b 0) 10 ++ plated-tuck left (b 0) 10 3) 0 0 (negsuc 7) ((b 0, 2) ∷ [])
+    ((3, parked (negsuc 7) 1 (b 0)) ∷ (10, parked (negsuc 7) 1 (b 0)) ∷ [])
+    ∷ racked (rack 8 ++ bring-in right (b 249) 3 ++ bring-in right (b 249) 4 ++ plated-knit right (b 249) 3 4) 0 0 (pos 8) ((b 249, 2) ∷ [])
+    ((3, on-right 258 (b 249)) ∷ (4, on-right 258 (b 249)) ∷ [])
     ∷ knitted (bring-in right (f 249) 1 ++ bring-in right (f 249) 10 ++ plated-knit right (f 249) 10 1) 0 0 ((f 249, 2) ∷ []) ((1, on-right 250 (f 249)) ∷ (10, on-right 250 (f 249)) ∷ [])
     ∷ knitted (both-in ++ plated-knit right (f 10) 3 4 ++ xfer (f 10) 10) 0 0 ((f 10, 0) ∷ (b 10, 2) ∷ []) ((3, on-right 11 (b 10)) ∷ (4, on-right 11 (b 10)) ∷ [])
     -- 9 by either carrier alone, at 21 columns; at 20 it passes
@@ -360,15 +368,37 @@ plated =
     ∷ knitted (led-21 ++ bring-in right (f 31) 4 ++ plated-knit right (f 31) 3 4) 9 115 ((f 31, 0) ∷ []) ((3, on-right 31 (f 10)) ∷ (4, unattached 31) ∷ [])
     ∷ knitted (led-21 ++ bring-in right (f 31) 4 ++ plated-knit right (f 31) 4 3) 9 115 ((f 31, 0) ∷ []) ((3, on-right 31 (f 10)) ∷ (4, unattached 31) ∷ [])
     ∷ knitted (led-21 ++ bring-in right (f 31) 4 ++ plated-tuck right (f 31) 4 3) 9 115 ((f 31, 0) ∷ []) ((3, on-right 31 (f 10)) ∷ (4, unattached 31) ∷ [])
+    -- to the left; each float by itself, 20 columns from one side and 1 from the other
+    ∷ knitted (bring-in left (f 30) 3 ++ tuck left (f 30) 3 ++ misses-left 29 19 ++ bring-in left (f 10) 4 ++ plated-tuck left (f 10) 3 4) 0 0 ((f 10, 2) ∷ [])
+    ((3, on-left 10 (f 10)) ∷ (4, on-left 10 (f 10)) ∷ [])
+    ∷ knitted (bring-in left (f 30) 3 ++ tuck left (f 30) 3 ++ misses-left 29 20 ++ bring-in left (f 9) 4 ++ plated-tuck left (f 9) 3 4) 9 115 ((f 9, 0) ∷ [])
+    ((3, on-left 10 (f 30)) ∷ (4, unattached 10) ∷ [])
+    ∷ knitted (bring-in left (f 30) 3 ++ tuck left (f 30) 3 ++ misses-left 29 20 ++ bring-in left (f 9) 4 ++ plated-knit left (f 9) 4 3) 9 115 ((f 9, 0) ∷ [])
+    ((3, on-left 10 (f 30)) ∷ (4, unattached 10) ∷ [])
+    ∷ knitted (led-20 ++ bring-in left (f 31) 4 ++ tuck left (f 31) 4 ++ miss left (f 30) 4 ++ plated-knit right (f 30) 3 4) 0 0 ((f 30, 2) ∷ (f 31, 1) ∷ [])
+    ((3, on-right 31 (f 30)) ∷ (4, on-right 31 (f 30)) ∷ [])
+    -- 'both columns at the current racking': the attachment on the back bed, the needle worked on it
+    ∷ racked (bring-in right (b 10) 3 ++ knit right (b 10) 3 ++ misses-right f 11 19 ++ bring-in right (f 30) 4 ++ rack 255 ++ plated-tuck right (f 30) 3 4) 9 112 (negsuc 0) ((f 30, 0) ∷ [])
+    ((3, on-right 30 (b 10)) ∷ (4, unattached 30) ∷ [])
+    ∷ racked (bring-in right (b 10) 3 ++ knit right (b 10) 3 ++ misses-right f 11 19 ++ bring-in right (f 30) 4 ++ rack 255 ++ plated-knit right (f 30) 4 3) 9 112 (negsuc 0) ((f 30, 0) ∷ [])
+    ((3, on-right 30 (b 10)) ∷ (4, unattached 30) ∷ [])
+    ∷ racked (led-21 ++ bring-in right (f 31) 4 ++ rack 1 ++ plated-knit right (b 30) 3 4) 9 117 (pos 1) ((b 30, 0) ∷ []) ((3, on-right 31 (f 10)) ∷ (4, unattached 31) ∷ [])
+    ∷ racked (led-21 ++ bring-in right (f 31) 4 ++ rack 1 ++ plated-tuck right (b 30) 4 3) 9 117 (pos 1) ((b 30, 0) ∷ []) ((3, on-right 31 (f 10)) ∷ (4, unattached 31) ∷ [])
     -- 7 by either alone
     ∷ knitted (in-3 ++ plated-knit right (f 10) 3 4) 7 5 ((f 10, 0) ∷ []) ((3, unattached 10) ∷ (4, inactive) ∷ [])
     ∷ knitted (in-3 ++ plated-knit right (f 10) 4 3) 7 5 ((f 10, 0) ∷ []) ((3, unattached 10) ∷ (4, inactive) ∷ [])
     ∷ knitted (in-3 ++ plated-tuck right (f 10) 3 4) 7 5 ((f 10, 0) ∷ []) ((3, unattached 10) ∷ (4, inactive) ∷ [])
+    ∷ knitted (in-3 ++ plated-tuck right (f 10) 4 3) 7 5 ((f 10, 0) ∷ []) ((3, unattached 10) ∷ (4, inactive) ∷ [])
     -- 8 by either alone: one column off, and at the exit slot
     ∷ knitted (in-3 ++ bring-in right (f 11) 4 ++ plated-knit right (f 10) 3 4) 8 10 ((f 10, 0) ∷ []) ((3, unattached 10) ∷ (4, unattached 11) ∷ [])
     ∷ knitted (in-3 ++ bring-in right (f 11) 4 ++ plated-knit right (f 10) 4 3) 8 10 ((f 10, 0) ∷ []) ((3, unattached 10) ∷ (4, unattached 11) ∷ [])
     ∷ knitted (in-3 ++ bring-in right (f 11) 4 ++ plated-tuck left (f 10) 4 3) 8 10 ((f 10, 0) ∷ []) ((3, unattached 10) ∷ (4, unattached 11) ∷ [])
-    -- by number: 7 before 8, 8 before 9, whichever carrier it is; 8 and 9 before 11
+    ∷ knitted (in-3 ++ bring-in right (f 11) 4 ++ plated-tuck right (f 10) 4 3) 8 10 ((f 10, 0) ∷ []) ((3, unattached 10) ∷ (4, unattached 11) ∷ [])
+    -- by number: 7 before 8 and 9, 8 before 9, whichever carrier it is; 8 and 9 before 11
+    ∷ knitted (led-21 ++ plated-knit right (f 31) 3 4) 7 110 ((f 31, 0) ∷ []) ((3, on-right 31 (f 10)) ∷ (4, inactive) ∷ [])
+    ∷ knitted (led-21 ++ plated-knit right (f 31) 4 3) 7 110 ((f 31, 0) ∷ []) ((3, on-right 31 (f 10)) ∷ (4, inactive) ∷ [])
+    ∷ knitted (led-21 ++ bring-in right (f 40) 4 ++ plated-knit right (f 40) 3 4) 8 115 ((f 40, 0) ∷ []) ((3, on-right 31 (f 10)) ∷ (4, unattached 40) ∷ [])
+    ∷ knitted (led-21 ++ bring-in right (f 40) 4 ++ plated-knit right (f 40) 4 3) 8 115 ((f 40, 0) ∷ []) ((3, on-right 31 (f 10)) ∷ (4, unattached 40) ∷ [])
     ∷ knitted (bring-in right (f 20) 3 ++ plated-knit right (f 10) 3 4) 7 5 ((f 10, 0) ∷ []) ((3, unattached 20) ∷ (4, inactive) ∷ [])
     ∷ knitted (bring-in right (f 20) 3 ++ plated-knit right (f 10) 4 3) 7 5 ((f 10, 0) ∷ []) ((3, unattached 20) ∷ (4, inactive) ∷ [])
     ∷ knitted (led-21 ++ bring-in right (f 50) 4 ++ plated-knit right (f 31) 3 4) 8 115 ((f 31, 0) ∷ []) ((3, on-right 31 (f 10)) ∷ (4, unattached 50) ∷ [])
@@ -376,7 +406,9 @@ plated =
     ∷ knitted (in-3 ++ tucks (f 10) 3 ++ tucks (f 10) 3 ++ bring-in right (f 20) 4 ++ plated-tuck right (f 10) 3 4) 8 50 ((f 10, 8) ∷ []) ((3, on-left 10 (f 10)) ∷ (4, unattached 20) ∷ [])
     ∷ knitted (bring-in right (f 31) 5 ++ tucks (f 31) 5 ++ tucks (f 31) 5 ++ led-21 ++ bring-in right (f 31) 4 ++ plated-tuck right (f 31) 3 4) 9 160 ((f 31, 8) ∷ [])
     ((3, on-right 31 (f 10)) ∷ (4, unattached 31) ∷ [])
-    -- 16: before 7, 8, 9 and 11, and where nothing else is wrong
+    -- 16: before 7, 8, 9 and 11, and where nothing else is wrong; at either bed, with any carrier
+    ∷ row (plated-knit left (b 249) 10 10) 16 0
+    ∷ row (plated-tuck left (b 0) 1 1) 16 0
     ∷ row (plated-knit right (f 10) 3 3) 16 0
     ∷ row (plated-tuck right (f 10) 3 3) 16 0
     ∷ knitted (in-3 ++ plated-knit left (f 10) 3 3) 16 5 ((f 10, 0) ∷ []) ((3, unattached 10) ∷ [])
@@ -401,7 +433,7 @@ plated-bytes kind =
     ∷ row (kind ∷ 1 ∷ 0 ∷ 10 ∷ 11 ∷ 11 ∷ []) 5 0
     ∷ row (kind ∷ 1 ∷ 0 ∷ 250 ∷ 3 ∷ 3 ∷ []) 5 0
     ∷ knitted (in-3 ++ (kind ∷ 1 ∷ 0 ∷ 10 ∷ 3 ∷ 11 ∷ [])) 5 5 [] ((3, unattached 10) ∷ [])
-    ∷ outside kind (4 ∷ [])
+    ∷ (outside kind (4 ∷ []) ++ outside kind (3 ∷ []))
 
 abbrev pub rows : List Row
 rows = pieces ++ steps ++ floats ++ refusals ++ fields ++ plated ++ plated-bytes 10 ++ plated-bytes 11
