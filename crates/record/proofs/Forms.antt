@@ -1,7 +1,7 @@
 -- Decoding against the form of a record, the bytes that encode it: what was decoded is the form at the front of the bytes, and a form decodes to its record. Assumes nothing.
 use Prim.Native.Nat.{ℕ, zero, suc, _+_, _-_, _≤_, _<_}
 use mathlib.Core.Path.{_≡_, refl, sym, ap, subst, _∙_}
-use mathlib.Core.Bool.{true, false, _&&_}
+use mathlib.Core.Bool.{true, false, cond, _&&_}
 use mathlib.Core.List.{List, [], _∷_, _++_}
 use native.Mathlib.Omega.{arith}
 use lib.IntN.{natAbs}
@@ -21,35 +21,39 @@ use Rattle.record.specs.Format.{Encodes, signedOf, rackOk, needleOk, wor
 use Rattle.record.proofs.Shapes.{Known, cond-cases, in-work, in-plated, known-size, sized-known, work-size, plated-size, one-named, two-named}
 use Rattle.record.proofs.Ranges.{InRange, needle-bed, needle-number, work-right, work-bed, work-number, work-low, work-high}
 
--- ---- in to knit (bytes 04 to 08) are read as one
+-- ---- kinds with a carrier but split: the plated ones have a byte more
+module _ (l : List ℕ) (h : IN ≤ byte l 0) (d : byte l 0 ≡ SPLIT → ⊥) where
+  carried-fields : fieldsOk l ≡ cond (isPlated (byte l 0)) (workFieldsOk l && carrierNumberOk (byte l 5)) (workFieldsOk l)
+  unfolding fieldsOk
+  carried-fields = simp (ne-eqb (byte l 0) 1 (λ q. omega arith), ne-eqb (byte l 0) 2 (λ q. omega arith), ne-eqb (byte l 0) 3 (λ q. omega arith), ne-eqb (byte l 0) 9 d)
+
+  carried-record : recordFrom l
+      ≡ cond (isPlated (byte l 0)) (platedRecord (byte l 0) (eqb (byte l 1) 1) (needle (byte l 2) (byte l 3)) (byte l 4) (byte l 5))
+      (workRecord (byte l 0) (eqb (byte l 1) 1) (needle (byte l 2) (byte l 3)) (byte l 4))
+  unfolding recordFrom
+  carried-record = simp (ne-eqb (byte l 0) 1 (λ q. omega arith), ne-eqb (byte l 0) 2 (λ q. omega arith), ne-eqb (byte l 0) 3 (λ q. omega arith), ne-eqb (byte l 0) 9 d)
+
+-- in to knit (bytes 04 to 08) are read as one
 module _ (l : List ℕ) (h : IN ≤ byte l 0) (j : byte l 0 ≤ KNIT) where
   single : isPlated (byte l 0) ≡ false
   single = simp (one-named (byte l 0) h (omega arith))
 
   pub work-fields : fieldsOk l ≡ workFieldsOk l
-  unfolding fieldsOk
-  work-fields =
-      simp (ne-eqb (byte l 0) 1 (λ q. omega arith), ne-eqb (byte l 0) 2 (λ q. omega arith), ne-eqb (byte l 0) 3 (λ q. omega arith), ne-eqb (byte l 0) 9 (λ q. omega arith), single)
+  work-fields = carried-fields l h (λ q. omega arith) ∙ simp single
 
   pub work-record : recordFrom l ≡ workRecord (byte l 0) (eqb (byte l 1) 1) (needle (byte l 2) (byte l 3)) (byte l 4)
-  unfolding recordFrom
-  work-record =
-      simp (ne-eqb (byte l 0) 1 (λ q. omega arith), ne-eqb (byte l 0) 2 (λ q. omega arith), ne-eqb (byte l 0) 3 (λ q. omega arith), ne-eqb (byte l 0) 9 (λ q. omega arith), single)
+  work-record = carried-record l h (λ q. omega arith) ∙ simp single
 
--- ---- and so are the plated ones
+-- and so are the plated ones
 module _ (l : List ℕ) (h : PLATED-TUCK ≤ byte l 0) (j : byte l 0 ≤ PLATED-KNIT) where
   double : isPlated (byte l 0) ≡ true
   double = simp (two-named (byte l 0) h j)
 
   pub plated-fields : fieldsOk l ≡ (workFieldsOk l && carrierNumberOk (byte l 5))
-  unfolding fieldsOk
-  plated-fields =
-      simp (ne-eqb (byte l 0) 1 (λ q. omega arith), ne-eqb (byte l 0) 2 (λ q. omega arith), ne-eqb (byte l 0) 3 (λ q. omega arith), ne-eqb (byte l 0) 9 (λ q. omega arith), double)
+  plated-fields = carried-fields l (omega arith) (λ q. omega arith) ∙ simp double
 
   pub plated-record : recordFrom l ≡ platedRecord (byte l 0) (eqb (byte l 1) 1) (needle (byte l 2) (byte l 3)) (byte l 4) (byte l 5)
-  unfolding recordFrom
-  plated-record =
-      simp (ne-eqb (byte l 0) 1 (λ q. omega arith), ne-eqb (byte l 0) 2 (λ q. omega arith), ne-eqb (byte l 0) 3 (λ q. omega arith), ne-eqb (byte l 0) 9 (λ q. omega arith), double)
+  plated-record = carried-record l (omega arith) (λ q. omega arith) ∙ simp double
 
 -- ---- a form decodes to its record, whatever follows it
 on-bed : (bed n : ℕ) → bed ≤ 1 → n ≤ lastNeedle → OnBed (needle bed n)

@@ -1,6 +1,6 @@
 -- Kinds: every known one is named, what its column says, and in to knit (bytes 04 to 08) as one. Assumes nothing.
 use borrow.Table.Steps.{cases}
-use Prim.Native.Nat.{ℕ, _≤_}
+use Prim.Native.Nat.{ℕ, _+_, _≤_}
 use mathlib.Core.Path.{_≡_, refl, sym, subst, _∙_}
 use mathlib.Core.Bool.{Bool, true, false, cond, true≢false}
 use native.Mathlib.Omega.{arith}
@@ -108,14 +108,21 @@ carrying =
     at-known (λ (k : ℕ). IN ≤ k → 1 ≤ carriersNamed k) (λ h. omega arith) (λ h. omega arith) (λ h. omega arith) (λ h. omega arith) (λ h. omega arith) (λ h. omega arith)
     (λ h. omega arith) (λ h. omega arith) (λ h. omega arith) (λ h. omega arith) (λ h. omega arith)
 
--- what holds at each kind from in to split, or at both plated ones, holds in the range
-pub in-carried : (P : ℕ → Type 0) → P IN → P OUT → P MISS → P TUCK → P KNIT → P SPLIT → (k : ℕ) → IN ≤ k → k ≤ SPLIT → P k
-in-carried P a b c d e f k h j =
+-- a kind of two that stand side by side
+pub one-of-two : {G : Type 0} (k a b : ℕ) → b ≡ a + 1 → a ≤ k → k ≤ b → (k ≡ a → G) → (k ≡ b → G) → G
+one-of-two k a b e h j f g = is k a f (λ d. g (omega arith))
+
+-- what holds at each kind from in to knit, from in to split, or at both plated ones, holds in the range
+pub in-work : (P : ℕ → Type 0) → P IN → P OUT → P MISS → P TUCK → P KNIT → (k : ℕ) → IN ≤ k → k ≤ KNIT → P k
+in-work P a b c d e k h j =
     is k IN (λ q. subst P (sym q) a) (λ n4. is k OUT (λ q. subst P (sym q) b) (λ n5. is k MISS (λ q. subst P (sym q) c)
-    (λ n6. is k TUCK (λ q. subst P (sym q) d) (λ n7. is k KNIT (λ q. subst P (sym q) e) (λ n8. let q : k ≡ SPLIT = omega arith in subst P (sym q) f)))))
+    (λ n6. is k TUCK (λ q. subst P (sym q) d) (λ n7. let q : k ≡ KNIT = omega arith in subst P (sym q) e))))
+
+pub in-carried : (P : ℕ → Type 0) → P IN → P OUT → P MISS → P TUCK → P KNIT → P SPLIT → (k : ℕ) → IN ≤ k → k ≤ SPLIT → P k
+in-carried P a b c d e f k h j = is k SPLIT (λ q. subst P (sym q) f) (λ n. in-work P a b c d e k h (omega arith))
 
 pub in-plated : (P : ℕ → Type 0) → P PLATED-TUCK → P PLATED-KNIT → (k : ℕ) → PLATED-TUCK ≤ k → k ≤ PLATED-KNIT → P k
-in-plated P a b k h j = is k PLATED-TUCK (λ q. subst P (sym q) a) (λ n. let q : k ≡ PLATED-KNIT = omega arith in subst P (sym q) b)
+in-plated P a b k h j = one-of-two k PLATED-TUCK PLATED-KNIT refl h j (λ q. subst P (sym q) a) (λ q. subst P (sym q) b)
 
 pub one-named : (k : ℕ) → IN ≤ k → k ≤ SPLIT → carriersNamed k ≡ 1
 unfolding byKind
@@ -319,12 +326,6 @@ uncarried k e =
 -- ---- in to knit have a four-byte body
 pub above-bare : (k : ℕ) → 1 ≤ k → (k ≡ RACK → ⊥) → (k ≡ DROP → ⊥) → (k ≡ XFER → ⊥) → IN ≤ k
 above-bare k h a b d = omega arith
-
--- what holds at each of them holds in the range
-pub in-work : (P : ℕ → Type 0) → P IN → P OUT → P MISS → P TUCK → P KNIT → (k : ℕ) → IN ≤ k → k ≤ KNIT → P k
-in-work P a b c d e k h j =
-    is k IN (λ q. subst P (sym q) a) (λ n4. is k OUT (λ q. subst P (sym q) b) (λ n5. is k MISS (λ q. subst P (sym q) c)
-    (λ n6. is k TUCK (λ q. subst P (sym q) d) (λ n7. let q : k ≡ KNIT = omega arith in subst P (sym q) e))))
 
 pub work-size : (k : ℕ) → IN ≤ k → k ≤ KNIT → sizeOf k ≡ 5
 unfolding byKind

@@ -18,7 +18,7 @@ use Rattle.machine.specs.declared.Racking.{Racking}
 use Rattle.record.specs.declared.Record.{Record}
 use Rattle.record.specs.Kinds.{DROP, XFER, IN, OUT, MISS, TUCK, KNIT, PLATED-TUCK, PLATED-KNIT}
 use Rattle.record.specs.Names.{carriersOf, isRack, outlineOf}
-use Rattle.record.proofs.Shapes.{is}
+use Rattle.record.proofs.Shapes.{is, one-of-two}
 use Rattle.record.proofs.Shapes.{cond-cases}
 use Rattle.trace.specs.Records.{tied}
 use Rattle.rewrite.specs.declared.Extent.{Extent}
@@ -45,11 +45,11 @@ module _ (r : Racking) (x : Record) where
 
   pub form-extent : TUCK ≤ x .kind → x .kind ≤ KNIT → extentOf r x ≡ formExtent h (x .at) (x .carrier) (x .carrier)
   unfolding extentOf member
-  form-extent a b = is (x .kind) TUCK (λ e. simp e) (λ c. let e : x .kind ≡ KNIT = omega arith in simp e)
+  form-extent a b = one-of-two (x .kind) TUCK KNIT refl a b (λ e. simp e) (λ e. simp e)
 
   pub plated-extent : PLATED-TUCK ≤ x .kind → x .kind ≤ PLATED-KNIT → extentOf r x ≡ formExtent h (x .at) (smaller (x .carrier) (x .second)) (greater (x .carrier) (x .second))
   unfolding extentOf member
-  plated-extent a b = is (x .kind) PLATED-TUCK (λ e. simp e) (λ c. let e : x .kind ≡ PLATED-KNIT = omega arith in simp e)
+  plated-extent a b = one-of-two (x .kind) PLATED-TUCK PLATED-KNIT refl a b (λ e. simp e) (λ e. simp e)
 
   -- a rack, a split, and what is no kind
   pub other-extent : (x .kind ≡ DROP → ⊥) → (x .kind ≡ XFER → ⊥) → (IN ≤ x .kind → x .kind ≤ KNIT → ⊥) → (PLATED-TUCK ≤ x .kind → x .kind ≤ PLATED-KNIT → ⊥) → extentOf r x ≡ broad h 0 11

@@ -1,7 +1,7 @@
 -- The arms of the run's loop: from what the small functions promise, the number of a record and the state after it. Assumes nothing.
 use borrow.Table.Steps.{cases}
 use Prim.Native.Nat.{ℕ, _+_, _-_, _≤_}
-use mathlib.Core.Path.{_≡_, sym, ap, _∙_}
+use mathlib.Core.Path.{_≡_, refl, sym, ap, _∙_}
 use mathlib.Core.Bool.{false, cond}
 use mathlib.Core.List.{List, map}
 use native.Mathlib.Omega.{arith}
@@ -23,7 +23,7 @@ use Rattle.run.specs.Step.{orNumber, twiceNo, askedNo, firstAfter, numbe
 use Rattle.run.specs.Loops.{tuckNo, tucked, formNo, formedLoops, transferNo, transferredLoops}
 use Rattle.run.proofs.ByKind.{or-zero, seen, slotNo, readyNo, pairNo, rack-number, rack-state, drop-number, drop-state, xfer-number, xfer-state, in-number, in-state, out-number, out-state, miss-number, miss-state, tuck-number, tuck-state, knit-number, knit-state, split-number, split-state, plated-tuck-number, plated-tuck-state, plated-knit-number, plated-knit-state}
 use Rattle.run.proofs.Premises.{twice-zero, twice-sixteen}
-use Rattle.record.proofs.Shapes.{two-named}
+use Rattle.record.proofs.Shapes.{one-of-two, two-named}
 
 -- the loops after a transfer or a tuck, by its number
 module _ (limit : ℕ) (l : List ℕ) (a b : Needle) (r : Racking) (v n : ℕ) (is : n ≡ transferNo limit l a b r) where
@@ -123,10 +123,7 @@ module _ (s : State) (x : Record) where
     -- in and out
     module _ (low : IN ≤ x .kind) (high : x .kind ≤ OUT) where
       one : {G : Type 0} → (x .kind ≡ IN → G) → (x .kind ≡ OUT → G) → G
-      one f g = cases (eqb (x .kind) IN) (λ t. f (eqb-true _ _ t)) (λ t. g (last (x .kind) low high (eqb-false _ _ t)))
-        where
-          last : (k : ℕ) → IN ≤ k → k ≤ OUT → (k ≡ IN → ⊥) → k ≡ OUT
-          last k h i a = omega arith
+      one = one-of-two (x .kind) IN OUT refl low high
 
       pub in-out-stopped : n ≡ numberAt s x
       in-out-stopped = one in-stopped out-stopped
@@ -158,10 +155,7 @@ module _ (s : State) (x : Record) where
   -- tuck and knit: a tuck asks for room besides
   module _ (low : TUCK ≤ x .kind) (high : x .kind ≤ KNIT) where
     either : {G : Type 0} → (x .kind ≡ TUCK → G) → (x .kind ≡ KNIT → G) → G
-    either f g = cases (eqb (x .kind) TUCK) (λ t. f (eqb-true _ _ t)) (λ t. g (last (x .kind) low high (eqb-false _ _ t)))
-      where
-        last : (k : ℕ) → TUCK ≤ k → k ≤ KNIT → (k ≡ TUCK → ⊥) → k ≡ KNIT
-        last k h i a = omega arith
+    either = one-of-two (x .kind) TUCK KNIT refl low high
 
     loop-number : numberAt s x ≡ orNumber (readyNo s x) formsNo
     unfolding formNo byKind
@@ -185,10 +179,7 @@ module _ (s : State) (x : Record) where
   -- the same of plated stitches, which ask for two yarns first
   module _ (low : PLATED-TUCK ≤ x .kind) (high : x .kind ≤ PLATED-KNIT) where
     either-plated : {G : Type 0} → (x .kind ≡ PLATED-TUCK → G) → (x .kind ≡ PLATED-KNIT → G) → G
-    either-plated f g = cases (eqb (x .kind) PLATED-TUCK) (λ t. f (eqb-true _ _ t)) (λ t. g (last (x .kind) low high (eqb-false _ _ t)))
-      where
-        last : (k : ℕ) → PLATED-TUCK ≤ k → k ≤ PLATED-KNIT → (k ≡ PLATED-TUCK → ⊥) → k ≡ PLATED-KNIT
-        last k h i a = omega arith
+    either-plated = one-of-two (x .kind) PLATED-TUCK PLATED-KNIT refl low high
 
     -- with both carriers set to one value
     abbrev with-both : List ℕ → Carrier → State

@@ -1,7 +1,7 @@
 -- Each carrier in, each at the entry slot, each near: whose 9 it is, the number does not tell. Assumes nothing.
 use borrow.Author.Needs.{needs}
 use native.Mathlib.Omega.{arith}
-use Prim.Native.Nat.{ℕ}
+use Prim.Native.Nat.{ℕ, suc}
 use mathlib.Core.Path.{_≡_, sym, ap, _∙_}
 use Rattle.machine.specs.declared.Carrier.{Carrier}
 use Rattle.machine.specs.declared.Column.{Column}
@@ -15,6 +15,10 @@ use Rattle.run.proofs.Looks.{parked-seen}
 use Rattle.run.proofs.Premises.{or-next, or-first, parked-zero, parked-off, parked-elsewhere, parked-cases, not-in-zero, not-in-seven, float-zero, float-over, float-cases}
 use Rattle.run.proofs.both_ready.Statement.{statement}
 use Rattle.run.proofs.both_ready.Tie as tie
+
+-- a refusal's number is not 0
+some : (n : ℕ) → suc n ≡ 0 → ⊥
+some n e = omega arith
 
 module _ (r : Racking) (c d : Carrier) (y : Slot) (z : Column) where
   abbrev park : Carrier → ℕ
@@ -30,13 +34,10 @@ module _ (r : Racking) (c d : Carrier) (y : Slot) (z : Column) where
   second-off : Inactive d → 7 ≡ all
   second-off e =
       let seven : notInNo (lookOf r d) ≡ 7 = not-in-seven r d e in
-      let rest = or-first (notInNo (lookOf r d)) _ (λ q. seven-some (sym seven ∙ q)) ∙ seven in
+      let rest = or-first (notInNo (lookOf r d)) _ (λ q. some 6 (sym seven ∙ q)) ∙ seven in
       is (c .active) 0
-      (λ o. sym (or-first _ _ (λ q. seven-some (sym (not-in-seven r c o) ∙ q)) ∙ not-in-seven r c o))
+      (λ o. sym (or-first _ _ (λ q. some 6 (sym (not-in-seven r c o) ∙ q)) ∙ not-in-seven r c o))
       (λ a. sym (or-next _ _ (not-in-zero r c a) ∙ rest))
-    where
-      seven-some : _≡_ {A = ℕ} 7 0 → ⊥
-      seven-some q = omega arith
 
   module _ (running : Active d) where
     -- 7 or 8 by the first
@@ -48,13 +49,7 @@ module _ (r : Racking) (c d : Carrier) (y : Slot) (z : Column) where
 
     module _ (stands : park c ≡ 0) where
       there : ParkedAt c y
-      there = parked-cases r c y (λ o. absurd (off (sym (parked-off r c y o) ∙ stands))) (λ a h. absurd (away (sym (parked-elsewhere r c y a h) ∙ stands))) (λ p. p)
-        where
-          off : _≡_ {A = ℕ} 7 0 → ⊥
-          off q = omega arith
-
-          away : _≡_ {A = ℕ} 8 0 → ⊥
-          away q = omega arith
+      there = parked-cases r c y (λ o. absurd (some 6 (sym (parked-off r c y o) ∙ stands))) (λ a h. absurd (some 7 (sym (parked-elsewhere r c y a h) ∙ stands))) (λ p. p)
 
       past : all ≡ orNumber (park d) (orNumber (reach c) (reach d))
       past = or-next _ _ (not-in-zero r c (there .active)) ∙ or-next _ _ (not-in-zero r d running) ∙ or-next _ _ stands
@@ -64,13 +59,10 @@ module _ (r : Racking) (c d : Carrier) (y : Slot) (z : Column) where
       second-unready n e h =
           is (park d) 0
           (λ p. float-cases r c z
-          (λ a f. e ∙ or-next _ _ p ∙ nine p ∙ sym (past ∙ or-next _ _ p ∙ or-first _ _ (λ q. some (sym (float-over r c z a f) ∙ q)) ∙ float-over r c z a f))
+          (λ a f. e ∙ or-next _ _ p ∙ nine p ∙ sym (past ∙ or-next _ _ p ∙ or-first _ _ (λ q. some 8 (sym (float-over r c z a f) ∙ q)) ∙ float-over r c z a f))
           (λ f. e ∙ or-next _ _ p ∙ sym (past ∙ or-next _ _ p ∙ or-next _ _ (float-zero r c z f))))
           (λ p. e ∙ or-first _ _ p ∙ sym (past ∙ or-first _ _ p))
         where
-          some : _≡_ {A = ℕ} 9 0 → ⊥
-          some q = omega arith
-
           nine : park d ≡ 0 → reach d ≡ 9
           nine p = float-cases r d z (λ a f. float-over r d z a f) (λ f. absurd (h (e ∙ or-next _ _ p ∙ float-zero r d z f)))
 
