@@ -55,5 +55,5 @@ example: $(OUT)/first $(OUT)/knitrun $(OUT)/knitswap $(OUT)/host header
 	diff examples/knitrun.out $(OUT)/knitrun.out
 	for f in examples/none.log examples/*.log; do $(OUT)/knitswap examples/p.prg $$f; done >$(OUT)/knitswap.out
 	diff examples/knitswap.out $(OUT)/knitswap.out
-	while read p l; do $(OUT)/host $$p $$l; echo "exit $$?"; done <examples/host/runs.txt >$(OUT)/host.out
+	while read p l n; do $(OUT)/host $$p $$l $$n; echo "exit $$?"; done <examples/host/runs.txt >$(OUT)/host.out
 	diff examples/host/host.out $(OUT)/host.out

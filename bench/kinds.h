@@ -26,6 +26,13 @@ enum { SWAP = 0x40, SWAP_SIZE = 3 };
 /* A record's size, its kind included. */
 static const uint8_t record_size[KIND_LIMIT] = { 0, 2, 3, 4, 5, 5, 5, 5, 5, 6, 6, 6 };
 
+/* Can hooks have the limit? */
+static inline int limit_in_range(unsigned limit) { return KNITOUT_LIMIT_LEAST <= limit && limit <= KNITOUT_LIMIT_MOST; }
+
+/* Limits in range and out of it. */
+static const uint8_t limits[] = { 0, 1, 2, 3, 4, 5, 6, 7, 8, 9, 255 };
+enum { LIMITS = sizeof limits };
+
 /* An answer in one word. */
 static inline uint64_t packed(int number, size_t place) { return (uint64_t)number << 16 | place; }
 

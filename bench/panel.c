@@ -13,19 +13,19 @@ struct moment {
     size_t place;
 };
 
+static const struct knitout_state empty = KNITOUT_EMPTY(KNITOUT_LIMIT_MOST);
 static struct step_input step;
 static struct list_input list;
 
 int states_agree(const struct knitout_state *a, const struct knitout_state *b)
 {
-    return a->racking == b->racking && memcmp(a->loops, b->loops, sizeof a->loops) == 0
-        && memcmp(a->carriers, b->carriers, sizeof a->carriers) == 0;
+    return memcmp(a, b, sizeof *a) == 0;
 }
 
 /* Steps through a program and keeps, for each kind from the first one given, the moment before its last record. */
 static void keep_moments(struct moment *moments, const struct program *p, int first)
 {
-    struct knitout_state state = { 0 };
+    struct knitout_state state = empty;
     for (size_t at = 0; at < p->length;) {
         if (p->bytes[at] >= first) moments[p->bytes[at]] = (struct moment){ p, state, at };
         struct knitout_served served = plain_step(&state, p->bytes + at, p->length - at);
@@ -72,6 +72,7 @@ static void altered_step(const char *name, const struct moment *moment, unsigned
 static void step_through(const struct program *p)
 {
     step.name = p->name;
+    step.state = empty;
     step.bytes = p->bytes;
     step.length = p->length;
     step.steps = p->records;
@@ -86,7 +87,7 @@ static void step_through(const struct program *p)
 static void make_foul(struct knitout_state *state) { state->carriers[KNITOUT_CARRIERS - 1].needle = KNITOUT_NEEDLES; }
 
 /* The refused steps: a knit with the carrier that the last in brings in, before it does; the last plated knit with its
-   first carrier twice; two foul states. */
+   first carrier twice; three foul states. */
 static void build_refused(int i, const struct moment *moments)
 {
     const struct moment *plated = &moments[PLATED_KNIT];
@@ -97,6 +98,9 @@ static void build_refused(int i, const struct moment *moments)
     } else if (i == 2) {
         one_step("refused-15-racking", &moments[KNIT], KNITOUT_BAD_STATE);
         step.state.racking = KNITOUT_RACKING_MOST + 1;
+    } else if (i == 3) {
+        one_step("refused-15-limit", &moments[KNIT], KNITOUT_BAD_STATE);
+        step.state.limit = KNITOUT_LIMIT_LEAST - 1;
     } else {
         one_step("refused-15-carrier-10", &moments[KNIT], KNITOUT_BAD_STATE);
         make_foul(&step.state);

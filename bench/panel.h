@@ -4,7 +4,7 @@
 
 #include "programs.h"
 
-enum { STEP_INPUTS = 17, LIST_INPUTS = 4 };
+enum { STEP_INPUTS = 18, LIST_INPUTS = 4 };
 
 /* A program of 32,768 bytes has no more records. */
 enum { PLACES_LIMIT = KNITOUT_PROGRAM_MOST / 2 };
@@ -33,7 +33,7 @@ struct list_input {
 const struct step_input *build_step(int i);
 const struct list_input *build_list(int i);
 
-/* Are all values the same? The padding byte is left out. */
+/* Are all bytes the same? Each is a value: a state has no padding. */
 int states_agree(const struct knitout_state *a, const struct knitout_state *b);
 
 /* Both versions on generated inputs (bench/panel_checks.c): 1 if they differ, with a message. */

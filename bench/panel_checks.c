@@ -8,16 +8,13 @@
 
 enum { GENERATED = 24, GENERATED_LENGTH = 2048, ALTERED = 4, PLATED = 6, ENTRIES = 12, PAINT = 0x5a };
 
-/* Where the padding byte of a state is. */
-enum { PADDING = offsetof(struct knitout_state, loops) + KNITOUT_HOOKS };
-
 /* Values put into each byte of a state, and into slots, beds and needles, in and out of ranges. */
-static const uint8_t byte_values[] = { 0, 1, 2, 3, 8, 9, 127, 128, 247, 248, 249, 250, 255 };
+static const uint8_t byte_values[] = { 0, 1, 2, 3, 4, 5, 6, 7, 8, 9, 127, 128, 247, 248, 249, 250, 255 };
 static const uint16_t word_values[] = { 0, 1, 2, 249, 250, 256, 257, 258, 259, 512, 65527, 65528, 65535 };
 enum { BYTES = sizeof byte_values, WORDS = sizeof word_values / sizeof word_values[0] };
 
-/* How often each number was given. */
-static unsigned seen[KNITOUT_YARN_TWICE + 1];
+/* How often each number was given, by the state's limit. */
+static unsigned seen[UINT8_MAX + 1][KNITOUT_YARN_TWICE + 1];
 
 static int differ(const char *what, struct knitout_served library, struct knitout_served plain)
 {
@@ -36,7 +33,7 @@ static int step_differs(const struct knitout_state *state, const uint8_t *bytes,
     int agree = library.number == plain.number && library.length == plain.length && states_agree(&other, after);
     if (plain.number && !states_agree(&before, after)) agree = 0;
     if (!agree) return differ("step", library, plain);
-    seen[plain.number]++;
+    seen[before.limit][plain.number]++;
     return 0;
 }
 
@@ -51,7 +48,7 @@ static int list_differs(const struct knitout_state *state, size_t count)
     int agree = library.number == plain.number && library.length == plain.length
         && memcmp(of_library, of_plain, sizeof of_plain) == 0;
     if (!agree) return differ("list", library, plain);
-    seen[plain.number]++;
+    seen[state->limit][plain.number]++;
     return 0;
 }
 
@@ -69,12 +66,13 @@ static void move_attachment(struct knitout_state *state, int k, uint32_t *seed)
     if (c->side != KNITOUT_UNATTACHED) c->needle = (uint16_t)choose_below(seed, KNITOUT_NEEDLES);
 }
 
-/* The record's hook with other loops and its carriers attached elsewhere: full hooks, long floats. */
+/* The record's hook with other loops, up to one over the limit, and its carriers attached elsewhere: full hooks, long
+   floats. */
 static int stray_differs(const struct knitout_state *state, const uint8_t *bytes, size_t size, uint32_t *seed)
 {
     struct knitout_state stray = *state, after;
     const uint8_t *at = bytes + 1 + (bytes[0] >= IN);
-    if (bytes[0] != RACK) stray.loops[KNITOUT_HOOK(at[0], at[1])] = (uint8_t)choose_below(seed, KNITOUT_LOOPS_MOST + 1);
+    if (bytes[0] != RACK) stray.loops[KNITOUT_HOOK(at[0], at[1])] = (uint8_t)choose_below(seed, state->limit + 2u);
     if (step_differs(&stray, bytes, size, &after)) return 1;
     if (bytes[0] < IN) return 0;
     move_attachment(&stray, bytes[4], seed);
@@ -117,10 +115,9 @@ static int altered_differ(const struct knitout_state *state, const uint8_t *byte
     return 0;
 }
 
-/* Steps through a program, with altered records in each state; leaves the final state. */
+/* Steps through a program from the empty state given, with altered records in each state; leaves the final state. */
 static int program_differs(const struct program *p, uint32_t seed, struct knitout_state *state)
 {
-    *state = (struct knitout_state){ 0 };
     for (size_t at = 0; at < p->length;) {
         size_t size = record_size[p->bytes[at]];
         if (altered_differ(state, p->bytes + at, size, &seed)) return 1;
@@ -131,11 +128,14 @@ static int program_differs(const struct program *p, uint32_t seed, struct knitou
     return 0;
 }
 
-/* The final state of a generated program; 1 if the versions differ on the way. */
+/* The final state of a generated program, at each limit in turn; 1 if the versions differ on the way. */
 static int generate(uint32_t seed, struct knitout_state *state)
 {
     static struct program program;
-    build_generated(&program, GENERATED_LENGTH, seed);
+    static const struct knitout_state empty = KNITOUT_EMPTY(KNITOUT_LIMIT_LEAST);
+    *state = empty;
+    state->limit = (uint8_t)(KNITOUT_LIMIT_LEAST + seed % KNITOUT_LIMIT_MOST);
+    build_generated(&program, GENERATED_LENGTH, state->limit, seed);
     return program_differs(&program, seed, state);
 }
 
@@ -151,7 +151,7 @@ static int altered_state_differs(const struct knitout_state *state, size_t at, c
 static int altered_bytes_differ(const struct knitout_state *state)
 {
     for (size_t i = 0; i < sizeof *state * BYTES; i++)
-        if (i / BYTES != PADDING && altered_state_differs(state, i / BYTES, &byte_values[i % BYTES], 1)) return 1;
+        if (altered_state_differs(state, i / BYTES, &byte_values[i % BYTES], 1)) return 1;
     return 0;
 }
 
@@ -170,14 +170,15 @@ static int altered_states_differ(const struct knitout_state *state)
     return altered_bytes_differ(state) || altered_words_differ(state);
 }
 
-/* Was a number never given that the service may give? */
+/* Was a number never given, at some limit, that the service may give? */
 static int not_seen(const char *what, unsigned first, unsigned last)
 {
-    for (unsigned number = first; number <= last; number++) {
-        if (seen[number]) continue;
-        fprintf(stderr, "bench: generated %s: number %u was never given\n", what, number);
-        return 1;
-    }
+    for (unsigned limit = KNITOUT_LIMIT_LEAST; limit <= KNITOUT_LIMIT_MOST; limit++)
+        for (unsigned number = first; number <= last; number++) {
+            if (seen[limit][number]) continue;
+            fprintf(stderr, "bench: generated %s: number %u was never given at limit %u\n", what, number, limit);
+            return 1;
+        }
     return 0;
 }
 
@@ -189,7 +190,7 @@ int generated_steps_differ(void)
         if (generate(seed, &state)) return 1;
     }
     return not_seen("step", KNITOUT_DONE, KNITOUT_DONE) || not_seen("step", KNITOUT_UNKNOWN_KIND, KNITOUT_HOOK_FULL)
-        || not_seen("step", KNITOUT_YARN_TWICE, KNITOUT_YARN_TWICE);
+        || not_seen("step", KNITOUT_BAD_STATE, KNITOUT_YARN_TWICE);
 }
 
 int generated_lists_differ(void)

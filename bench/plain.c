@@ -17,6 +17,7 @@ struct carrier {
 
 struct state {
     int shift[2];   /* from needle to column: 0 on the front bed, the racking on the back */
+    int limit;      /* of loops on a hook */
     uint8_t loops[512];
     struct carrier carriers[KNITOUT_CARRIERS];
 };
@@ -54,7 +55,7 @@ static inline int drop(struct state *s, const uint8_t *p)
 static inline int move(struct state *s, int from, int to)
 {
     int loops = s->loops[from] + s->loops[to];
-    if (loops > KNITOUT_LOOPS_MOST) return KNITOUT_HOOK_FULL;
+    if (loops > s->limit) return KNITOUT_HOOK_FULL;
     s->loops[to] = (uint8_t)loops;
     s->loops[from] = 0;
     for (int i = 0; i < KNITOUT_CARRIERS; i++)
@@ -153,7 +154,7 @@ static inline int tuck(struct state *s, const uint8_t *p)
     if (number) return number;
     number = reaches(s, &t);
     if (number) return number;
-    if (s->loops[t.hook] >= KNITOUT_LOOPS_MOST) return KNITOUT_HOOK_FULL;
+    if (s->loops[t.hook] >= s->limit) return KNITOUT_HOOK_FULL;
     s->loops[t.hook]++;
     attach(&t, t.carrier);
     return KNITOUT_DONE;
@@ -227,7 +228,7 @@ static inline int plated_tuck(struct state *s, const uint8_t *p)
     if (number) return number;
     number = both_reach(s, &t, second);
     if (number) return number;
-    if (s->loops[t.hook] > KNITOUT_LOOPS_MOST - PLATED_LOOPS) return KNITOUT_HOOK_FULL;
+    if (s->loops[t.hook] + PLATED_LOOPS > s->limit) return KNITOUT_HOOK_FULL;
     return attach_both(s, &t, second, s->loops[t.hook] + PLATED_LOOPS);
 }
 
@@ -238,7 +239,9 @@ static inline int plated_knit(struct state *s, const uint8_t *p)
     int number = read_plated(s, p, &t, &second);
     if (number) return number;
     number = both_reach(s, &t, second);
-    return number ? number : attach_both(s, &t, second, PLATED_LOOPS);
+    if (number) return number;
+    if (s->limit < PLATED_LOOPS) return KNITOUT_HOOK_FULL;
+    return attach_both(s, &t, second, PLATED_LOOPS);
 }
 
 /* One record; its size goes to *size if its bytes are there. */
@@ -262,20 +265,22 @@ static inline int step(struct state *s, const uint8_t *p, ptrdiff_t left, int *s
 #undef NEED
 }
 
-static void empty(struct state *s)
+static void empty(struct state *s, int limit)
 {
     memset(s, 0, sizeof *s);
+    s->limit = limit;
     for (int i = 0; i < KNITOUT_CARRIERS; i++) {
         s->carriers[i].slot = INACTIVE;
         s->carriers[i].hook = UNATTACHED;
     }
 }
 
-uint64_t plain_run(const uint8_t *program, size_t length)
+uint64_t plain_run_at(uint8_t limit, const uint8_t *program, size_t length)
 {
+    if (!limit_in_range(limit)) return packed(KNITOUT_BAD_STATE, 0);
     if (length > KNITOUT_PROGRAM_MOST) return packed(KNITOUT_TOO_LONG, 0);
     struct state s;
-    empty(&s);
+    empty(&s, limit);
     const uint8_t *p = program, *end = program + length;
     while (p < end) {
         int size = 0;
@@ -284,4 +289,9 @@ uint64_t plain_run(const uint8_t *program, size_t length)
         p += size;
     }
     return KNITOUT_DONE;
+}
+
+uint64_t plain_run(const uint8_t *program, size_t length)
+{
+    return plain_run_at(KNITOUT_LIMIT_MOST, program, length);
 }

@@ -5,7 +5,10 @@
 #include <stddef.h>
 #include <stdint.h>
 
-/* Runs a program from the empty state; gives number * 65536 + place. */
+/* Runs a program from the empty state at a hook limit; arguments and answer as knitout_run_at's. */
+uint64_t plain_run_at(uint8_t limit, const uint8_t *program, size_t length);
+
+/* The same at limit 8. */
 uint64_t plain_run(const uint8_t *program, size_t length);
 
 #endif

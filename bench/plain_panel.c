@@ -14,7 +14,7 @@ struct stitch {
 static inline uint8_t greater(uint8_t a, uint8_t b) { return a > b ? a : b; }
 
 /* Four windows of 128 hooks, which overlap by a few, cover the 500: a loop without a rest, fit for vectors. */
-static inline int loops_in_range(const uint8_t *loops)
+static inline int loops_in_range(const uint8_t *loops, int limit)
 {
     enum { WINDOW = 128, APART = (KNITOUT_HOOKS - WINDOW) / 3 };
     uint8_t most = 0;
@@ -23,7 +23,7 @@ static inline int loops_in_range(const uint8_t *loops)
         uint8_t back = greater(loops[i + 2 * APART], loops[i + 3 * APART]);
         most = greater(most, greater(front, back));
     }
-    return most <= KNITOUT_LOOPS_MOST;
+    return most <= limit;
 }
 
 /* Is every value in its range, and 0 where it has no meaning? */
@@ -51,7 +51,8 @@ static inline int racking_in_range(int racking)
 
 static inline int in_range(const struct knitout_state *s)
 {
-    return racking_in_range(s->racking) && carriers_in_range(s->carriers) && loops_in_range(s->loops);
+    return racking_in_range(s->racking) && limit_in_range(s->limit) && carriers_in_range(s->carriers)
+        && loops_in_range(s->loops, s->limit);
 }
 
 static inline int column_of(const struct knitout_state *s, int bed, int needle) { return needle + (s->racking & -bed); }
@@ -79,7 +80,7 @@ static inline int move(struct knitout_state *s, int bed, int needle, int other)
 {
     uint8_t *from = &s->loops[KNITOUT_HOOK(bed, needle)], *to = &s->loops[KNITOUT_HOOK(bed ^ 1, other)];
     int loops = *from + *to;
-    if (loops > KNITOUT_LOOPS_MOST) return KNITOUT_HOOK_FULL;
+    if (loops > s->limit) return KNITOUT_HOOK_FULL;
     *to = (uint8_t)loops;
     *from = 0;
     for (struct knitout_carrier *c = s->carriers; c < s->carriers + KNITOUT_CARRIERS; c++) {
@@ -166,7 +167,7 @@ static inline int tuck(struct knitout_state *s, const struct stitch *t)
 {
     int number = reaches(s, t), loops = s->loops[KNITOUT_HOOK(t->bed, t->needle)];
     if (number) return number;
-    if (loops >= KNITOUT_LOOPS_MOST) return KNITOUT_HOOK_FULL;
+    if (loops >= s->limit) return KNITOUT_HOOK_FULL;
     return attach(s, t, loops + 1);
 }
 
@@ -204,7 +205,7 @@ static inline int plated(struct knitout_state *s, const struct stitch *t, const 
     second.carrier = &s->carriers[carrier];
     int number = both_reach(s, t, &second);
     if (number) return number;
-    if (kept > KNITOUT_LOOPS_MOST - PLATED_LOOPS) return KNITOUT_HOOK_FULL;
+    if (kept + PLATED_LOOPS > s->limit) return KNITOUT_HOOK_FULL;
     attach(s, t, kept + PLATED_LOOPS);
     return attach(s, &second, kept + PLATED_LOOPS);
 }

@@ -172,12 +172,13 @@ static void find_starts(struct copy *c, size_t length)
     c->count = n;
 }
 
-uint64_t plain_rewrite(const uint8_t *program, size_t length, const uint8_t *log, size_t log_length,
-                       uint8_t *output, size_t output_length, uint16_t *work, size_t work_count)
+uint64_t plain_rewrite_at(uint8_t limit, const uint8_t *program, size_t length, const uint8_t *log, size_t log_length,
+                          uint8_t *output, size_t output_length, uint16_t *work, size_t work_count)
 {
+    if (!limit_in_range(limit)) return packed(KNITOUT_BAD_STATE, 0);
     if (length > KNITOUT_PROGRAM_MOST || log_length > KNITOUT_LOG_MOST) return packed(KNITOUT_TOO_LONG, 0);
     if (output_length < length || work_count < length / 2) return packed(KNITOUT_NO_ROOM, 0);
-    uint64_t answer = plain_run(program, length);
+    uint64_t answer = plain_run_at(limit, program, length);
     if (answer) return answer;
     struct copy c; /* its marks are written as they are needed */
     c.bytes = output;
@@ -185,4 +186,10 @@ uint64_t plain_rewrite(const uint8_t *program, size_t length, const uint8_t *log
     memcpy(output, program, length);
     find_starts(&c, length);
     return replay(&c, log, log_length);
+}
+
+uint64_t plain_rewrite(const uint8_t *program, size_t length, const uint8_t *log, size_t log_length,
+                       uint8_t *output, size_t output_length, uint16_t *work, size_t work_count)
+{
+    return plain_rewrite_at(KNITOUT_LIMIT_MOST, program, length, log, log_length, output, output_length, work, work_count);
 }

@@ -17,7 +17,8 @@ struct carrier {
 /* A program under way and the machine after it. */
 struct builder {
     struct program *program;
-    size_t limit;
+    size_t length_most;
+    int limit; /* of loops on a hook */
     int racking;
     int loops[2][KNITOUT_NEEDLES];
     struct carrier carriers[KNITOUT_CARRIERS + 1]; /* from 1 */
@@ -30,15 +31,15 @@ static const char *const names[KIND_LIMIT] = {
 
 const char *kind_name(int kind) { return names[kind]; }
 
-static struct builder begin(struct program *program, const char *name, size_t limit, uint32_t seed)
+static struct builder begin(struct program *program, const char *name, size_t length_most, int limit, uint32_t seed)
 {
-    struct builder b = { .program = program, .limit = limit, .seed = seed };
+    struct builder b = { .program = program, .length_most = length_most, .limit = limit, .seed = seed };
     memset(program, 0, sizeof *program);
     program->name = name;
     return b;
 }
 
-static size_t room(const struct builder *b) { return b->limit - b->program->length; }
+static size_t room(const struct builder *b) { return b->length_most - b->program->length; }
 
 static int column_of(const struct builder *b, int bed, int needle)
 {
@@ -174,8 +175,8 @@ static void build_in_out(struct builder *b)
 static void sweep_stitch(struct builder *b, int kind, int direction, int bed, int needle, int k)
 {
     int here = b->loops[bed][needle], there = b->loops[!bed][needle];
-    if (kind == TUCK && here == KNITOUT_LOOPS_MOST) drop(b, bed, needle);
-    if (kind == SPLIT && here + there > KNITOUT_LOOPS_MOST) drop(b, here > there ? bed : !bed, needle);
+    if (kind == TUCK && here == b->limit) drop(b, bed, needle);
+    if (kind == SPLIT && here + there > b->limit) drop(b, here > there ? bed : !bed, needle);
     stitch(b, kind, direction, bed, needle, k);
 }
 
@@ -204,7 +205,7 @@ static void build_plated_sweep(struct builder *b, int kind)
         int step = i % (2 * WIDTH), pair = i / (2 * WIDTH) % PAIRS, pass = i / KNITOUT_NEEDLES;
         int direction = pass % 2 == 0 ? RIGHT : LEFT, bed = pass / 8 % 2;
         int needle = 2 * WIDTH * pair + (direction == RIGHT ? step : 2 * WIDTH - 1 - step);
-        if (kind == PLATED_TUCK && b->loops[bed][needle] > KNITOUT_LOOPS_MOST - PLATED_LOOPS) drop(b, bed, needle);
+        if (kind == PLATED_TUCK && b->loops[bed][needle] + PLATED_LOOPS > b->limit) drop(b, bed, needle);
         plated(b, kind, direction, bed, needle, 2 * pair + 1 + bed, 2 * pair + 2 - bed);
     }
 }
@@ -234,7 +235,7 @@ static void mixed_hook(struct builder *b, int kind)
 {
     int bed = choose(b, 2), needle = needle_at(b, bed, choose_worked(b));
     int loops = b->loops[bed][needle] + b->loops[!bed][opposite(b, bed, needle)];
-    if (kind == XFER && loops <= KNITOUT_LOOPS_MOST) xfer(b, bed, needle);
+    if (kind == XFER && loops <= b->limit) xfer(b, bed, needle);
     else drop(b, bed, needle);
 }
 
@@ -246,9 +247,8 @@ static int allowed(const struct builder *b, int kind, int bed, int needle, int k
     int loops = b->loops[bed][needle];
     if (kind == MISS) return MISS;
     if (c->attached && abs(distance) > KNITOUT_FLOAT_MOST) return MISS;
-    if (kind == TUCK && loops == KNITOUT_LOOPS_MOST) return KNIT;
-    if (kind == SPLIT && loops + b->loops[!bed][opposite(b, bed, needle)] > KNITOUT_LOOPS_MOST)
-        return KNIT;
+    if (kind == TUCK && loops == b->limit) return KNIT;
+    if (kind == SPLIT && loops + b->loops[!bed][opposite(b, bed, needle)] > b->limit) return KNIT;
     return kind;
 }
 
@@ -287,7 +287,7 @@ static void mixed_record(struct builder *b)
     else mixed_stitch(b, KNIT);
 }
 
-/* Exactly up to the limit. */
+/* Exactly up to the length. */
 static void fill(struct builder *b)
 {
     while (room(b) > 3) rack(b, choose(b, 17) - 8);
@@ -320,7 +320,7 @@ static void fetch(struct builder *b, int direction, int bed, int needle, int k)
 }
 
 /* A plated stitch where its first carrier is, to which the second is brought. A knit in place of a tuck onto a hook
-   that is too full; only misses where a float would be long. */
+   that is too full; only misses where a float would be long, or where a hook holds one loop only. */
 static void mixed_plated(struct builder *b, int kind)
 {
     int k = 1 + choose(b, KNITOUT_CARRIERS), second = 1 + (k + choose(b, KNITOUT_CARRIERS - 1)) % KNITOUT_CARRIERS;
@@ -329,8 +329,9 @@ static void mixed_plated(struct builder *b, int kind)
     int needle = needle_at(b, bed, column);
     fetch(b, direction, bed, needle, k);
     fetch(b, direction, bed, needle, second);
-    if (b->loops[bed][needle] > KNITOUT_LOOPS_MOST - PLATED_LOOPS) kind = PLATED_KNIT;
-    if (is_far(b, k, column) || is_far(b, second, column)) stitch(b, MISS, direction, bed, needle, k);
+    int far = is_far(b, k, column) || is_far(b, second, column);
+    if (b->loops[bed][needle] + PLATED_LOOPS > b->limit) kind = PLATED_KNIT;
+    if (far || b->limit < PLATED_LOOPS) stitch(b, MISS, direction, bed, needle, k);
     else plated(b, kind, direction, bed, needle, k, second);
 }
 
@@ -361,7 +362,7 @@ static void build_refused_first(struct builder *b)
 static void build_refused_last(struct builder *b)
 {
     struct program *p = b->program;
-    b->limit -= 3;
+    b->length_most -= 3;
     build_mixed(b);
     p->answer = packed(KNITOUT_FIELD_RANGE, p->length);
     append(b, (uint8_t[]){ DROP, KNITOUT_FRONT, KNITOUT_NEEDLES });
@@ -376,33 +377,35 @@ static void build_plated_knit(struct builder *b) { build_plated_sweep(b, PLATED_
 
 static const struct {
     const char *name;
-    size_t limit;
+    size_t length_most;
     void (*build)(struct builder *);
+    uint8_t at; /* the limit, where it is not 8 */
 } parts[PROGRAMS] = {
-    { "rack", KIND_LENGTH, build_rack },
-    { "drop", KIND_LENGTH, build_drop },
-    { "xfer", KIND_LENGTH, build_xfer },
-    { "xfer-moved", KIND_LENGTH, build_xfer_moved },
-    { "in-out", KIND_LENGTH, build_in_out },
-    { "miss", KIND_LENGTH, build_miss },
-    { "tuck", KIND_LENGTH, build_tuck },
-    { "knit", KIND_LENGTH, build_knit },
-    { "split", KIND_LENGTH, build_split },
-    { "plated-tuck", KIND_LENGTH, build_plated_tuck },
-    { "plated-knit", KIND_LENGTH, build_plated_knit },
-    { "mixed-2048", 2048, build_mixed },
-    { "mixed-4096", 4096, build_mixed },
-    { "mixed-8192", 8192, build_mixed },
-    { "mixed-16384", 16384, build_mixed },
-    { "mixed", KNITOUT_PROGRAM_MOST, build_mixed },
-    { "plated-mix", KNITOUT_PROGRAM_MOST, build_plated_mix },
-    { "refused-first", KNITOUT_PROGRAM_MOST, build_refused_first },
-    { "refused-last", KNITOUT_PROGRAM_MOST, build_refused_last },
+    { "rack", KIND_LENGTH, build_rack, 0 },
+    { "drop", KIND_LENGTH, build_drop, 0 },
+    { "xfer", KIND_LENGTH, build_xfer, 0 },
+    { "xfer-moved", KIND_LENGTH, build_xfer_moved, 0 },
+    { "in-out", KIND_LENGTH, build_in_out, 0 },
+    { "miss", KIND_LENGTH, build_miss, 0 },
+    { "tuck", KIND_LENGTH, build_tuck, 0 },
+    { "knit", KIND_LENGTH, build_knit, 0 },
+    { "split", KIND_LENGTH, build_split, 0 },
+    { "plated-tuck", KIND_LENGTH, build_plated_tuck, 0 },
+    { "plated-knit", KIND_LENGTH, build_plated_knit, 0 },
+    { "knit-at-1", KIND_LENGTH, build_knit, 1 },
+    { "mixed-2048", 2048, build_mixed, 0 },
+    { "mixed-4096", 4096, build_mixed, 0 },
+    { "mixed-8192", 8192, build_mixed, 0 },
+    { "mixed-16384", 16384, build_mixed, 0 },
+    { "mixed", KNITOUT_PROGRAM_MOST, build_mixed, 0 },
+    { "plated-mix", KNITOUT_PROGRAM_MOST, build_plated_mix, 0 },
+    { "refused-first", KNITOUT_PROGRAM_MOST, build_refused_first, 0 },
+    { "refused-last", KNITOUT_PROGRAM_MOST, build_refused_last, 0 },
 };
 
-void build_generated(struct program *program, size_t length, uint32_t seed)
+void build_generated(struct program *program, size_t length, int limit, uint32_t seed)
 {
-    struct builder b = begin(program, "generated", length, seed);
+    struct builder b = begin(program, "generated", length, limit, seed);
     build_plated_mix(&b);
 }
 
@@ -410,8 +413,10 @@ const struct program *build_program(int i)
 {
     static struct program programs[PROGRAMS];
     if (programs[i].name) return &programs[i];
-    struct builder b = begin(&programs[i], parts[i].name, parts[i].limit, 1);
+    int limit = parts[i].at ? parts[i].at : KNITOUT_LIMIT_MOST;
+    struct builder b = begin(&programs[i], parts[i].name, parts[i].length_most, limit, 1);
     parts[i].build(&b);
+    programs[i].at = parts[i].at;
     return &programs[i];
 }
 

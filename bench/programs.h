@@ -4,7 +4,7 @@
 
 #include "kinds.h"
 
-enum { PROGRAMS = 19 };
+enum { PROGRAMS = 20 };
 
 struct program {
     const char *name;
@@ -12,6 +12,7 @@ struct program {
     size_t length;
     unsigned records;             /* that a run comes to, a refused one included */
     unsigned of_kind[KIND_LIMIT]; /* the same, by kind; entry 0 is not used */
+    uint8_t at;                   /* the limit of an entry at a limit; 0: the entry at 8 */
     uint64_t answer;              /* what a run gives */
 };
 
@@ -19,8 +20,8 @@ struct program {
 const struct program *build_program(int i);
 const struct program *find_program(const char *name);
 
-/* A valid program of all kinds, of exactly this length, which is 2 or more. */
-void build_generated(struct program *program, size_t length, uint32_t seed);
+/* A program of all kinds, valid at a hook limit, of exactly this length, which is 2 or more. */
+void build_generated(struct program *program, size_t length, int limit, uint32_t seed);
 
 /* A number below n, the same sequence from one seed. */
 unsigned choose_below(uint32_t *seed, unsigned n);

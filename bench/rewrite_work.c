@@ -10,6 +10,10 @@
 typedef uint64_t (*rewrite_function)(const uint8_t *program, size_t length, const uint8_t *log, size_t log_length,
                                      uint8_t *output, size_t output_length, uint16_t *work, size_t work_count);
 
+typedef uint64_t (*rewrite_at_function)(uint8_t limit, const uint8_t *program, size_t length, const uint8_t *log,
+                                        size_t log_length, uint8_t *output, size_t output_length, uint16_t *work,
+                                        size_t work_count);
+
 /* More than any program needs, so that entries past it can be seen to keep their contents. */
 enum { OUTPUT = KNITOUT_PROGRAM_MOST + 64, WORK = KNITOUT_PROGRAM_MOST / 2 + 64, PAINT = 0xa5 };
 
@@ -25,6 +29,7 @@ static const struct swap_case *swap_case;
 static const struct swap_input *in;
 static const uint8_t *log_bytes;
 static size_t log_length;
+static uint8_t limit; /* of the entry at a limit; 0: the entry at 8 */
 
 static uint64_t rewrite_nothing(const uint8_t *program, size_t length, const uint8_t *log, size_t bytes,
                                 uint8_t *output, size_t output_length, uint16_t *work, size_t work_count)
@@ -34,7 +39,16 @@ static uint64_t rewrite_nothing(const uint8_t *program, size_t length, const uin
     return 0;
 }
 
+static uint64_t rewrite_nothing_at(uint8_t limit, const uint8_t *program, size_t length, const uint8_t *log, size_t bytes,
+                                   uint8_t *output, size_t output_length, uint16_t *work, size_t work_count)
+{
+    (void)limit, (void)program, (void)length, (void)log, (void)bytes;
+    (void)output, (void)output_length, (void)work, (void)work_count;
+    return 0;
+}
+
 static const rewrite_function versions[VERSIONS] = { rewrite_nothing, knitout_rewrite, plain_rewrite };
+static const rewrite_at_function versions_at[VERSIONS] = { rewrite_nothing_at, knitout_rewrite_at, plain_rewrite_at };
 
 static int inputs(void)
 {
@@ -55,6 +69,7 @@ static void use_case(int i)
     int cases;
     swap_case = &list_swaps(&cases)[i];
     in = build_swaps(swap_case);
+    limit = swap_case->at;
     use_log(in->log, in->log_length);
 }
 
@@ -71,10 +86,17 @@ static void build(int i, struct about *about)
 
 static void prepare(enum version v) { memset(&lent[v], PAINT, sizeof lent[v]); }
 
+static void call_at(enum version v, uint8_t at)
+{
+    struct lent *l = &lent[v];
+    l->answer = versions_at[v](at, in->program, in->length, log_bytes, log_length, l->output, OUTPUT, l->work, WORK);
+}
+
 static void call(enum version v)
 {
     struct lent *l = &lent[v];
-    l->answer = versions[v](in->program, in->length, log_bytes, log_length, l->output, OUTPUT, l->work, WORK);
+    if (limit) call_at(v, limit);
+    else l->answer = versions[v](in->program, in->length, log_bytes, log_length, l->output, OUTPUT, l->work, WORK);
 }
 
 static int contents_differ(void)
@@ -128,7 +150,41 @@ static int torn_differs(void)
     return log_differs(in->log, SWAP_SIZE + 1) || log_differs(in->log, SWAP_SIZE - 1) || log_differs(torn, sizeof torn);
 }
 
-/* Each case's first swap alone, since a swap made twice does not show; every swap of the mixed programs; torn logs. */
+/* The whole log at each limit, in range or not; a call refused before its program is looked at writes nothing. */
+static int limits_differ(void)
+{
+    for (int i = 0; i < LIMITS; i++) {
+        for (int v = LIBRARY; v <= PLAIN; v++) {
+            prepare(v);
+            call_at(v, limits[i]);
+        }
+        if (versions_differ()) return 1;
+        if (limit_in_range(limits[i]) != (lent[PLAIN].answer != packed(KNITOUT_BAD_STATE, 0))) return 1;
+    }
+    return 0;
+}
+
+/* Lent a program or a log too long, an output or a work area too short, and any of these together, at each limit: 15 goes
+   before 1, and 1 before 2. */
+static int sizes_differ(void)
+{
+    static const uint8_t longer[KNITOUT_PROGRAM_MOST + 1];
+    for (int i = 0; i < LIMITS * 16; i++) {
+        const uint8_t *program = i & 1 ? longer : in->program, *log = i & 2 ? longer : in->log;
+        size_t length = i & 1 ? sizeof longer : in->length, log_size = i & 2 ? sizeof longer : in->log_length;
+        size_t output_length = i & 4 ? in->length - 1 : OUTPUT, work_count = i & 8 ? in->length / 2 - 1 : WORK;
+        for (int v = LIBRARY; v <= PLAIN; v++) {
+            prepare(v);
+            lent[v].answer = versions_at[v](limits[i / 16], program, length, log, log_size, lent[v].output, output_length,
+                                            lent[v].work, work_count);
+        }
+        if (versions_differ()) return 1;
+    }
+    return 0;
+}
+
+/* Each case's first swap alone, since a swap made twice does not show; every swap of the mixed programs; torn logs;
+   limits and sizes. */
 static int checks(void)
 {
     for (int i = 0; i < inputs(); i++) {
@@ -138,6 +194,8 @@ static int checks(void)
         if (swap_case->swaps > 1 && log_differs(in->log, SWAP_SIZE)) return 1;
         if (swap_case->log != FOUND || swap_case->swaps == 0) continue;
         if (neighbours_differ() || torn_differs()) return 1;
+        use_log(in->log, in->log_length);
+        if (limits_differ() || sizes_differ()) return 1;
     }
     return 0;
 }

@@ -8,12 +8,13 @@
 #include <string.h>
 
 typedef uint64_t (*run_function)(const uint8_t *program, size_t length);
+typedef uint64_t (*run_at_function)(uint8_t limit, const uint8_t *program, size_t length);
 
-/* Altered programs; a bit for each number that a run of one may give: 0, 3 to 11 and 16. */
-enum { ALTERED = 1000, NUMBERS = 0x10ff9 };
+/* Altered programs; a bit for each number that a run of one may give: 0, 1, 3 to 11 and 16. */
+enum { ALTERED = 1000, NUMBERS = 0x10ffb };
 
 static const struct program *program;
-static unsigned seen;
+static unsigned seen[LIMITS];
 static uint64_t answers[VERSIONS];
 
 static uint64_t run_nothing(const uint8_t *bytes, size_t length)
@@ -22,7 +23,14 @@ static uint64_t run_nothing(const uint8_t *bytes, size_t length)
     return 0;
 }
 
+static uint64_t run_nothing_at(uint8_t limit, const uint8_t *bytes, size_t length)
+{
+    (void)limit, (void)bytes, (void)length;
+    return 0;
+}
+
 static const run_function versions[VERSIONS] = { run_nothing, knitout_run, plain_run };
+static const run_at_function versions_at[VERSIONS] = { run_nothing_at, knitout_run_at, plain_run_at };
 
 static int inputs(void) { return PROGRAMS; }
 
@@ -42,7 +50,11 @@ static void build(int i, struct about *about)
 
 static void prepare(enum version v) { answers[v] = UINT64_MAX; }
 
-static void call(enum version v) { answers[v] = versions[v](program->bytes, program->length); }
+static void call(enum version v)
+{
+    const struct program *p = program;
+    answers[v] = p->at ? versions_at[v](p->at, p->bytes, p->length) : versions[v](p->bytes, p->length);
+}
 
 /* Both versions must give the answer that the program was built for. */
 static int differs(void)
@@ -53,14 +65,27 @@ static int differs(void)
     return 1;
 }
 
-/* Both versions on some bytes. */
+/* Two answers to a run of an altered program at a limit. */
+static int answers_differ(unsigned limit, uint64_t library, uint64_t plain)
+{
+    if (library == plain) return 0;
+    fprintf(stderr, "bench: run of an altered program at %u: library %" PRIx64 ", plain C %" PRIx64 "\n", limit, library,
+            plain);
+    return 1;
+}
+
+/* Both versions on some bytes, at each limit; the entry without one is the one at 8. */
 static int versions_differ(const uint8_t *bytes, size_t length)
 {
-    uint64_t library = knitout_run(bytes, length), plain = plain_run(bytes, length);
-    seen |= 1u << KNITOUT_NUMBER(plain);
-    if (library == plain) return 0;
-    fprintf(stderr, "bench: run of an altered program: library %" PRIx64 ", plain C %" PRIx64 "\n", library, plain);
-    return 1;
+    uint64_t plain = plain_run(bytes, length);
+    if (answers_differ(KNITOUT_LIMIT_MOST, knitout_run(bytes, length), plain)) return 1;
+    for (int i = 0; i < LIMITS; i++) {
+        uint64_t at = plain_run_at(limits[i], bytes, length);
+        if (answers_differ(limits[i], knitout_run_at(limits[i], bytes, length), at)) return 1;
+        if (limits[i] == KNITOUT_LIMIT_MOST && answers_differ(limits[i], at, plain)) return 1;
+        seen[i] |= 1u << KNITOUT_NUMBER(at);
+    }
+    return 0;
 }
 
 /* With one byte altered. */
@@ -171,23 +196,33 @@ static int plated_floats_differ(void)
 static int plated_differs(void)
 {
     static struct program generated, mix;
-    build_generated(&generated, 4096, 1);
+    build_generated(&generated, 4096, KNITOUT_LIMIT_MOST, 1);
     mix = *find_program("plated-mix");
     return fronts_differ(&generated) || pairs_differ(generated.bytes, generated.length) || plated_floats_differ()
         || bytes_differ(mix.bytes, mix.length) || plated_tucks_differ(mix.bytes, mix.length);
 }
 
-/* Altered programs; every number of the run must come up. */
+/* Every number of the run must have come up at each limit, and 15 alone at others. */
+static int numbers_missed(void)
+{
+    for (int i = 0; i < LIMITS; i++) {
+        if (seen[i] == (limit_in_range(limits[i]) ? NUMBERS : 1u << KNITOUT_BAD_STATE)) continue;
+        fprintf(stderr, "bench: altered programs at %u came to the numbers %x only\n", limits[i], seen[i]);
+        return 1;
+    }
+    return 0;
+}
+
+/* Altered programs, and one that is too long. */
 static int checks(void)
 {
+    static const uint8_t longer[KNITOUT_PROGRAM_MOST + 1];
     static struct program mixed;
     mixed = *find_program("mixed");
+    if (versions_differ(longer, sizeof longer)) return 1;
     if (fronts_differ(find_program("mixed-4096")) || floats_differ(0) || floats_differ(24)) return 1;
     if (bytes_differ(mixed.bytes, mixed.length) || tucks_differ(mixed.bytes, mixed.length)) return 1;
-    if (plated_differs()) return 1;
-    if (seen == NUMBERS) return 0;
-    fprintf(stderr, "bench: altered programs came to the numbers %x only\n", seen);
-    return 1;
+    return plated_differs() || numbers_missed();
 }
 
 const struct group run_group = { "run", inputs, build, prepare, call, differs, checks };

@@ -51,7 +51,7 @@ static void add_positions(struct swap_case c, unsigned first, unsigned modulo)
 static void add_swaps_from(unsigned first, const char *program, unsigned records, unsigned swaps, unsigned number)
 {
     static const unsigned modulos[] = { 0, 32, 63 };
-    struct swap_case c = { "swap", program, records, AT, 0, swaps, number };
+    struct swap_case c = { "swap", program, records, AT, 0, swaps, number, 0 };
     for (int i = 0; i < 3; i++) add_positions(c, first, modulos[i]);
 }
 
@@ -76,7 +76,7 @@ static void add_one_place(void)
 
 static void add_with_empty(const char *table, const char *program, unsigned records, enum log_kind log, unsigned swaps)
 {
-    struct swap_case c = { table, program, records, log, 0, swaps, KNITOUT_DONE };
+    struct swap_case c = { table, program, records, log, 0, swaps, KNITOUT_DONE, 0 };
     add_empty(c);
     add(c);
 }
@@ -91,12 +91,19 @@ static void add_full_logs(void)
     add_with_empty("full", "knit", 6500, ENDS, FULL);
 }
 
+/* The longest program of knits once more, at limit 1. */
+static void add_at_limit(void)
+{
+    struct swap_case c = { "empty", "knit-at-1", 6500, AT, 0, 0, KNITOUT_DONE, 1 };
+    add(c);
+}
+
 /* Doubling: mixed programs with an empty log, knit programs with one log's swaps, logs on one program, both. */
 static void add_growth(void)
 {
     static const char *const mixed[] = { "mixed-2048", "mixed-4096", "mixed-8192", "mixed-16384", "mixed" };
     for (int i = 0; i < 5; i++) {
-        add_empty((struct swap_case){ "", mixed[i], find_program(mixed[i])->records, AT, 0, 0, 0 });
+        add_empty((struct swap_case){ "", mixed[i], find_program(mixed[i])->records, AT, 0, 0, 0, 0 });
         add_with_empty("program-growth", "knit", 400u << i, SPREAD, FEW);
         add_with_empty("log-growth", "knit", 6500, SPREAD, FULL >> (4 - i));
         add_with_empty("both-growth", "knit", 400u << i, SPREAD, FULL >> (4 - i));
@@ -108,6 +115,7 @@ const struct swap_case *list_swaps(int *count)
     if (case_count == 0) {
         add_one_place();
         add_full_logs();
+        add_at_limit();
         add_growth();
     }
     *count = case_count;
@@ -236,7 +244,7 @@ static void build_positions(const struct swap_case *c)
 
 static void build_program_of(const struct swap_case *c)
 {
-    if (strcmp(c->program, "knit") == 0) build_knit(c->records);
+    if (strcmp(c->program, "knit") == 0 || strcmp(c->program, "knit-at-1") == 0) build_knit(c->records);
     else if (strcmp(c->program, "plated-knit") == 0) build_plated_knit(c->records);
     else if (strcmp(c->program, "rack") == 0) build_racks(c->records, c->records);
     else if (strcmp(c->program, "two-drops") == 0) build_racks(c->records, c->position);

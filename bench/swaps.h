@@ -16,6 +16,7 @@ struct swap_case {
     unsigned position; /* of the two drops, and of every swap AT it */
     unsigned swaps;    /* records of the log */
     unsigned number;   /* of the answer: 0 if every swap is accepted */
+    uint8_t at;        /* the limit of the entry at a limit; 0: the entry at 8 */
 };
 
 /* A case built. */

@@ -1,6 +1,5 @@
 /* The first program of README.md: rewrites a program by a log, steps the output and lists the carriers. */
 #include <stdio.h>
-#include <string.h>
 #include "banthewig.h"
 
 /* carriers 3 and 4 come in and knit on opposite needles; the log swaps the two knits, records 2 and 3 */
@@ -9,7 +8,7 @@ static const uint8_t swaps[] = {0x40, 0, 2};
 
 static uint8_t output[KNITOUT_PROGRAM_MOST]; /* enough for every program */
 static uint16_t work[KNITOUT_PROGRAM_MOST / 2];
-static struct knitout_state panel;
+static struct knitout_state panel = KNITOUT_EMPTY(KNITOUT_LIMIT_MOST); /* empty; a hook holds 8 loops */
 static struct knitout_carrier list[KNITOUT_CARRIERS];
 
 int main(void)
@@ -20,7 +19,6 @@ int main(void)
         printf("refused: %u at %u\n", KNITOUT_NUMBER(answer), KNITOUT_PLACE(answer));
         return 1;
     }
-    memset(&panel, 0, sizeof panel); /* the empty state */
     for (size_t place = 0; place < sizeof program;) { /* the output is as long as the program */
         struct knitout_served step = knitout_step(&panel, output + place, sizeof program - place);
         if (step.number != KNITOUT_DONE)

@@ -1,15 +1,16 @@
-/* Runs the knitout program of a file and prints the answer: knitrun FILE. A file that can't be read counts as an empty
-   program, as in document 01's listing. */
+/* Runs the knitout program of a file at limit 8 and prints the answer: knitrun FILE. A file that can't be read counts as an
+   empty program, as in document 01's listing. */
 #include "banthewig.h"
 
 #include <stdio.h>
 
-/* The words of document 01's table. */
+/* The words of document 01's table, and of document 02 behind them, for the numbers that a run may give. */
 static const char *word(unsigned number)
 {
     static const char *const words[] = {"done", "too long", "no bench", "strange", "cut short", "field",
-                                        "already in", "not in", "elsewhere", "float", "not opposite", "hook full"};
-    return number < sizeof words / sizeof *words ? words[number] : "?";
+                                        "already in", "not in", "elsewhere", "float", "not opposite", "hook full",
+                                        [KNITOUT_YARN_TWICE] = "one yarn twice"};
+    return number < sizeof words / sizeof *words && words[number] ? words[number] : "?";
 }
 
 int main(int count, char **names)

@@ -1,5 +1,5 @@
-/* Makes a log's swaps in a program and prints the answer and the program's bytes: knitswap PROGRAM LOG. A file that can't
-   be read counts as empty, as in document 01's listing. */
+/* Makes a log's swaps in a program at limit 8 and prints the answer and the program's bytes: knitswap PROGRAM LOG. A file
+   that can't be read counts as empty, as in document 01's listing. */
 #include "banthewig.h"
 
 #include <stdio.h>

@@ -33,11 +33,12 @@ enum knitout_number {
     KNITOUT_WRONG_SLOT = 8,      /* a carrier parked at the wrong slot */
     KNITOUT_FLOAT_TOO_LONG = 9,  /* tuck, knit, split or a plated one over 20 columns from a carrier's attachment */
     KNITOUT_NOT_OPPOSITE = 10,   /* the two needles' columns differ */
-    KNITOUT_HOOK_FULL = 11,      /* over 8 loops on a hook */
+    KNITOUT_HOOK_FULL = 11,      /* more loops on a hook than its limit */
     KNITOUT_NO_PAIR = 12,        /* position + 1 is not a record */
     KNITOUT_TIED = 13,           /* the two records are tied */
     KNITOUT_TORN_LOG = 14,       /* log kind not 40 (hexadecimal), or fewer than three bytes */
-    KNITOUT_BAD_STATE = 15,      /* a lent machine state with a value out of its range, or not 0 in a field without meaning */
+    KNITOUT_BAD_STATE = 15,      /* a hook limit out of 1 to 8; a lent machine state with a value out of its range, with more
+                                    loops on a hook than its limit, or with not 0 in a field without meaning */
     KNITOUT_YARN_TWICE = 16      /* one yarn twice: a plated stitch whose two carriers are equal */
 };
 
@@ -60,14 +61,17 @@ enum knitout_kind {
 #define KNITOUT_PROGRAM_MOST 32768u
 #define KNITOUT_LOG_MOST 32768u
 
-/* The machine: needles on a bed (0 to 249), hooks on both beds, carriers; the furthest racking, the most loops on a hook,
-   the outermost slots, the longest float in columns, the longest record in bytes. */
+/* The machine: needles on a bed (0 to 249), hooks on both beds, carriers; the furthest racking, the least and the greatest
+   hook limit, the most loops on a hook at any limit, the outermost slots, the longest float in columns, the longest record
+   in bytes. */
 #define KNITOUT_NEEDLES 250
 #define KNITOUT_HOOKS 500
 #define KNITOUT_CARRIERS 10
 #define KNITOUT_RACKING_LEAST (-8)
 #define KNITOUT_RACKING_MOST 8
-#define KNITOUT_LOOPS_MOST 8
+#define KNITOUT_LIMIT_LEAST 1
+#define KNITOUT_LIMIT_MOST 8
+#define KNITOUT_LOOPS_MOST KNITOUT_LIMIT_MOST
 #define KNITOUT_SLOT_LEAST (-8)
 #define KNITOUT_SLOT_MOST 258
 #define KNITOUT_FLOAT_MOST 20
@@ -86,13 +90,18 @@ struct knitout_carrier {
     uint16_t needle; /* its number there, 0 to 249 */
 };
 
-/* A machine state. All 0 is the empty state, where a run starts: racking 0, no loops, no active carrier. The byte after
-   the loops is padding: no answer depends on it, and what a step that is done leaves there is not said. */
+/* A machine state. There is no padding: every byte is a value. The empty state, where a run starts, has racking 0, no loops,
+   no active carrier and the machine's hook limit (KNITOUT_EMPTY). A state of all 0 is not in range: its limit is 0. */
 struct knitout_state {
     int8_t racking;                                    /* -8 to 8: the back bed's shift to the right, in columns */
-    uint8_t loops[KNITOUT_HOOKS];                      /* 0 to 8 on each hook: f.0 to f.249, then b.0 to b.249 */
+    uint8_t loops[KNITOUT_HOOKS];                      /* 0 to limit on each hook: f.0 to f.249, then b.0 to b.249 */
+    uint8_t limit;                                     /* 1 to 8: the loops that a hook can hold; no step changes it */
     struct knitout_carrier carriers[KNITOUT_CARRIERS]; /* carrier k at k - 1 */
 };
+
+/* Initialises a state, static or not, to the empty one at a limit:
+       static struct knitout_state panel = KNITOUT_EMPTY(KNITOUT_LIMIT_MOST); */
+#define KNITOUT_EMPTY(limit) {0, {0}, (limit), {{0, 0, 0, 0, 0}}}
 
 /* The answer of a panel service. */
 struct knitout_served {
@@ -103,36 +112,45 @@ struct knitout_served {
 /* The hook of a needle among a state's loops. */
 #define KNITOUT_HOOK(bed, needle) ((bed) * KNITOUT_NEEDLES + (needle))
 
-/* Runs a program from the empty state: number times 65,536 plus place. The place is the refused record's start, its kind
-   byte (3 to 11 and 16), else 0. Reads program[0] to program[length - 1] at most and writes nothing.
-   Stack 2,136 bytes; worst time 33 ms. */
+/* Runs a program from the empty state at a hook limit: number times 65,536 plus place. A limit out of 1 to 8 gets 15,
+   before all else. The place is the refused record's start, its kind byte (3 to 11 and 16), else 0. Reads program[0] to
+   program[length - 1] at most and writes nothing.
+   Stack 2,168 bytes; worst time 33 ms. */
+uint64_t knitout_run_at(uint8_t limit, const uint8_t *program, size_t length);
+
+/* The same at limit 8. Stack 2,168 bytes; worst time 33 ms. */
 uint64_t knitout_run(const uint8_t *program, size_t length);
 
-/* Runs a program and makes a log's swaps in a copy of it: number times 65,536 plus place. The place is the start of
-   the refused record in the program (3 to 11 and 16) or in the log (12 to 14), else 0. Lengths are in bytes, work_count in
-   entries; the output needs program_length bytes, work program_length / 2 entries. Output and work overlap nothing else
-   that is lent; program and log are only read and may share bytes.
+/* Runs a program at a hook limit and makes a log's swaps in a copy of it: number times 65,536 plus place. A limit out of 1
+   to 8 gets 15, before all else. The place is the start of the refused record in the program (3 to 11 and 16) or in the log
+   (12 to 14), else 0. Lengths are in bytes, work_count in entries; the output needs program_length bytes, work
+   program_length / 2 entries. Output and work overlap nothing else that is lent; program and log are only read and may share
+   bytes.
    0 writes the program as the swaps made it to the front of the output, and the start of each of its records to the
-   front of work; 12 to 14 the same, as the swaps before the refused one made it (KNITOUT_WRITTEN); 1 to 11 and 16 write
+   front of work; 12 to 14 the same, as the swaps before the refused one made it (KNITOUT_WRITTEN); 1 to 11, 15 and 16 write
    nothing. Output past the program's length and work past the last record's start keep their contents.
-   Stack 2,264 bytes; worst time 200 ms. */
+   Stack 2,360 bytes; worst time 200 ms. */
+uint64_t knitout_rewrite_at(uint8_t limit, const uint8_t *program, size_t program_length, const uint8_t *log,
+                            size_t log_length, uint8_t *output, size_t output_length, uint16_t *work, size_t work_count);
+
+/* The same at limit 8. Stack 2,360 bytes; worst time 200 ms. */
 uint64_t knitout_rewrite(const uint8_t *program, size_t program_length, const uint8_t *log, size_t log_length,
                          uint8_t *output, size_t output_length, uint16_t *work, size_t work_count);
 
-/* The parts of an answer of knitout_run and knitout_rewrite. */
+/* The parts of an answer of a run or a rewriter. */
 #define KNITOUT_NUMBER(answer) ((unsigned)((answer) >> 16))
 #define KNITOUT_PLACE(answer) ((unsigned)((answer) & 0xFFFFu))
 
-/* Whether knitout_rewrite wrote output and work: 0 and 12 to 14. Evaluates its argument up to four times. */
+/* Whether a rewriter wrote output and work: 0 and 12 to 14. Evaluates its argument up to four times. */
 #define KNITOUT_WRITTEN(number)                                          \
     ((number) == KNITOUT_DONE || (number) == KNITOUT_NO_PAIR ||          \
      (number) == KNITOUT_TIED || (number) == KNITOUT_TORN_LOG)
 
-/* Makes the step of the first record of bytes[0] to bytes[length - 1] on the lent state; what follows the record is not
-   looked at, and a length of 0 gives 4. 0: the state is the one after the record, and the answer's length the record's.
-   15 (looked at first), 3 to 11 and 16: length 0, and nothing is written, not even the padding. Which of them it will be
-   is not known beforehand, so the state's memory must be writable.
-   Stack 2,728 bytes; worst time 45 microseconds. */
+/* Makes the step of the first record of bytes[0] to bytes[length - 1] on the lent state, at that state's limit; what follows
+   the record is not looked at, and a length of 0 gives 4. 0: the state is the one after the record, its limit the same, and
+   the answer's length the record's. 15 (looked at first), 3 to 11 and 16: length 0, and nothing is written. Which of them it
+   will be is not known beforehand, so the state's memory must be writable.
+   Stack 2,744 bytes; worst time 45 microseconds. */
 struct knitout_served knitout_step(struct knitout_state *state, const uint8_t *bytes, size_t length);
 
 /* Lists the carriers of a state. 0 writes carriers 1 to 10 to list[0] to list[9] and gives length 10; entries from list[10]
@@ -141,25 +159,32 @@ struct knitout_served knitout_step(struct knitout_state *state, const uint8_t *b
    Stack 240 bytes; worst time 26 microseconds. */
 struct knitout_served knitout_carriers(const struct knitout_state *state, struct knitout_carrier *list, size_t count);
 
-/* The layout that the library is built with (x86-64); crates/banthewig/proofs/Crossing.antt proves the same of it. */
+/* The layout that the library is built with (x86-64); crates/banthewig/proofs/Crossing.antt proves the same of it. A packed
+   carrier or state is known by its alignment alone: neither has padding. */
 #ifdef __cplusplus
 #define KNITOUT_ASSERT(holds) static_assert(holds, #holds)
+#define KNITOUT_ALIGNMENT(type) alignof(type)
 #else
 #define KNITOUT_ASSERT(holds) _Static_assert(holds, #holds)
+#define KNITOUT_ALIGNMENT(type) _Alignof(type)
 #endif
 KNITOUT_ASSERT(sizeof(struct knitout_carrier) == 8);
+KNITOUT_ASSERT(KNITOUT_ALIGNMENT(struct knitout_carrier) == 2);
 KNITOUT_ASSERT(offsetof(struct knitout_carrier, active) == 0);
 KNITOUT_ASSERT(offsetof(struct knitout_carrier, side) == 1);
 KNITOUT_ASSERT(offsetof(struct knitout_carrier, slot) == 2);
 KNITOUT_ASSERT(offsetof(struct knitout_carrier, bed) == 4);
 KNITOUT_ASSERT(offsetof(struct knitout_carrier, needle) == 6);
 KNITOUT_ASSERT(sizeof(struct knitout_state) == 582);
+KNITOUT_ASSERT(KNITOUT_ALIGNMENT(struct knitout_state) == 2);
 KNITOUT_ASSERT(offsetof(struct knitout_state, racking) == 0);
 KNITOUT_ASSERT(offsetof(struct knitout_state, loops) == 1);
+KNITOUT_ASSERT(offsetof(struct knitout_state, limit) == 501);
 KNITOUT_ASSERT(offsetof(struct knitout_state, carriers) == 502);
 KNITOUT_ASSERT(sizeof(struct knitout_served) == 16);
 KNITOUT_ASSERT(offsetof(struct knitout_served, number) == 0);
 KNITOUT_ASSERT(offsetof(struct knitout_served, length) == 8);
+#undef KNITOUT_ALIGNMENT
 #undef KNITOUT_ASSERT
 
 #ifdef __cplusplus

@@ -1,18 +1,27 @@
-/* Plays the firmware: runs a program, swaps by a log, steps the result on a panel and lists it: host PROGRAM LOG. */
+/* Plays the firmware: runs a program, swaps by a log, steps the result on a panel and lists it: host PROGRAM LOG [LIMIT].
+   LIMIT is the loops that a hook of the machine can hold, a byte; 8 if it is not given. */
 #include "banthewig.h"
 
 #include <stdbool.h>
 #include <stdio.h>
+#include <stdlib.h>
 #include <string.h>
 
 /* Exit statuses. */
 enum { KNITTABLE = 0, REFUSED = 1, UNREADABLE = 2, BROKEN = 3 };
 
+/* Every byte of what is lent for writing, before a call. */
+enum { PAINT = 0xA5 };
+
+/* The hook limit of run, rewriter and panel. */
+static uint8_t limit = KNITOUT_LIMIT_MOST;
+
 /* Room for the longest file and one byte more, by which the library sees that a longer one is too long. */
 static uint8_t program[KNITOUT_PROGRAM_MOST + 1], log_bytes[KNITOUT_LOG_MOST + 1];
-/* Lent to the rewriter: enough for every program. */
-static uint8_t output[KNITOUT_PROGRAM_MOST];
-static uint16_t work[KNITOUT_PROGRAM_MOST / 2];
+/* Lent to the rewriter: enough for every program. The second ones are for the call without a limit. */
+static uint8_t output[KNITOUT_PROGRAM_MOST], output_again[KNITOUT_PROGRAM_MOST];
+static uint16_t work[KNITOUT_PROGRAM_MOST / 2], work_again[KNITOUT_PROGRAM_MOST / 2];
+enum { ENTRIES = sizeof work / sizeof *work };
 /* The panel's machine state, and the same before the last step. */
 static struct knitout_state panel, before;
 /* Lent to the list: the ten carriers and one entry more, which no call may change; and what it held before. */
@@ -43,10 +52,29 @@ static void keep(const struct knitout_state *state)
     memcpy(&before, state, sizeof before);
 }
 
-/* Whether a refused step wrote nothing, not even the padding. */
+/* Whether a refused step wrote nothing. */
 static bool is_kept(const struct knitout_state *state)
 {
     return memcmp(state, &before, sizeof before) == 0;
+}
+
+/* Empties the panel, whatever it held. One assignment leaves no value out; the limit is known only now. */
+static void empty_panel(void)
+{
+    static const struct knitout_state empty = KNITOUT_EMPTY(KNITOUT_LIMIT_MOST);
+
+    panel = empty;
+    panel.limit = limit;
+}
+
+/* Whether the output from a byte on and the work area from an entry on are as they were painted. */
+static bool is_painted(size_t byte, size_t entry)
+{
+    while (byte < sizeof output && output[byte] == PAINT)
+        byte++;
+    while (entry < ENTRIES && work[entry] == PAINT * 0x101)
+        entry++;
+    return byte == sizeof output && entry == ENTRIES;
 }
 
 /* Reads a file, the most bytes at most. False if it can't be opened or read. */
@@ -174,12 +202,12 @@ static void show_step(size_t place, struct knitout_served served, const uint8_t 
     putchar('\n');
 }
 
-/* Steps a program's records on the panel from the empty state. Gives number and place as knitout_run does. */
+/* Steps a program's records on the panel from the empty state. Gives number and place as knitout_run_at does. */
 static uint64_t walk(const uint8_t *bytes, size_t length)
 {
     size_t place = 0, record = 0;
 
-    memset(&panel, 0, sizeof panel);
+    empty_panel();
     while (place < length) { /* at the end there is no record: a step of no bytes would get 4 */
         if (bytes == output && work[record++] != place)
             check(false, "the work area has each record's start");
@@ -190,8 +218,12 @@ static uint64_t walk(const uint8_t *bytes, size_t length)
             check(served.length == 0 && is_kept(&panel), "the refused step left the panel as it was");
             return ((uint64_t)served.number << 16) + place;
         }
+        if (panel.limit != limit)
+            check(false, "a step keeps the limit");
         place += served.length;
     }
+    if (bytes == output)
+        check(is_painted(length, record), "past the program, output and work are as they were");
     return KNITOUT_DONE;
 }
 
@@ -225,7 +257,7 @@ static void show_hooks(void)
 /* Lends a list of so many entries, marked beforehand to see which are written. */
 static struct knitout_served list_carriers(const struct knitout_state *state, size_t count)
 {
-    memset(list, 0xA5, sizeof list);
+    memset(list, PAINT, sizeof list);
     memcpy(kept, list, sizeof list);
     return knitout_carriers(state, list, count);
 }
@@ -234,7 +266,7 @@ static void show_panel(const char *when)
 {
     struct knitout_served served = list_carriers(&panel, KNITOUT_CARRIERS + 1);
 
-    printf("panel %s: racking %d\n", when, panel.racking);
+    printf("panel %s: racking %d, limit %u\n", when, panel.racking, panel.limit);
     printf("list of eleven: ");
     show_served(served);
     check(served.number == KNITOUT_DONE && served.length == KNITOUT_CARRIERS &&
@@ -246,65 +278,109 @@ static void show_panel(const char *when)
     show_hooks();
 }
 
-/* A list that must be refused with this number and stay as it was. */
-static void try_list(const char *what, const struct knitout_state *state, size_t count, unsigned number)
+/* Whether a list is refused with this number and stays as it was. */
+static bool is_refused_list(const struct knitout_state *state, size_t count, unsigned number)
 {
     struct knitout_served served = list_carriers(state, count);
 
-    printf("%s: ", what);
-    show_served(served);
-    check(served.number == number && served.length == 0 && memcmp(list, kept, sizeof list) == 0,
-          ", the list left as it was");
+    return served.number == number && served.length == 0 && memcmp(list, kept, sizeof list) == 0;
 }
 
-/* A damaged state is refused first, even by the drop that would empty the bad hook and for a list too short. */
-static void try_refusals(void)
+/* A foul state is refused first, even by the drop that would empty a bad hook and for a list too short. */
+static void try_foul(const char *what, struct knitout_state *foul)
 {
     static const uint8_t drop[] = {KNITOUT_DROP, KNITOUT_FRONT, 3};
+
+    keep(foul);
+    struct knitout_served served = knitout_step(foul, drop, sizeof drop);
+    printf("%s: step ", what);
+    show_served(served);
+    check(served.number == KNITOUT_BAD_STATE && served.length == 0 &&
+              is_refused_list(foul, KNITOUT_CARRIERS - 1, KNITOUT_BAD_STATE) &&
+              is_refused_list(foul, KNITOUT_CARRIERS + 1, KNITOUT_BAD_STATE) && is_kept(foul),
+          ", lists of nine and eleven too, nothing written");
+}
+
+/* The panel with a value damaged, and a list too short. */
+static void try_refusals(void)
+{
     static struct knitout_state foul;
 
     foul = panel;
-    foul.loops[KNITOUT_HOOK(KNITOUT_FRONT, 3)] = KNITOUT_LOOPS_MOST + 1;
-    keep(&foul);
-    struct knitout_served served = knitout_step(&foul, drop, sizeof drop);
-    printf("nine loops on a hook: ");
-    show_served(served);
-    check(served.number == KNITOUT_BAD_STATE && served.length == 0 && is_kept(&foul),
-          ", the state left as it was");
-    try_list("nine loops on a hook, list of nine", &foul, KNITOUT_CARRIERS - 1, KNITOUT_BAD_STATE);
-    try_list("list of nine", &panel, KNITOUT_CARRIERS - 1, KNITOUT_NO_ROOM);
+    foul.loops[KNITOUT_HOOK(KNITOUT_FRONT, 3)] = limit + 1;
+    try_foul("a loop over the limit", &foul);
+    foul = panel;
+    foul.limit = KNITOUT_LIMIT_LEAST - 1;
+    try_foul("limit 0", &foul);
+    foul.limit = KNITOUT_LIMIT_MOST + 1;
+    try_foul("limit 9", &foul);
+    check(is_refused_list(&panel, KNITOUT_CARRIERS - 1, KNITOUT_NO_ROOM), "list of nine: 2, nothing written");
+}
+
+/* Limit 8 is that of the calls without one. */
+static void try_without_limit(size_t length, size_t log_length, uint64_t run, uint64_t rewrite)
+{
+    memset(output_again, PAINT, sizeof output_again);
+    memset(work_again, PAINT, sizeof work_again);
+    uint64_t run_again = knitout_run(program, length);
+    uint64_t rewrite_again = knitout_rewrite(program, length, log_bytes, log_length, output_again, sizeof output_again,
+                                             work_again, ENTRIES);
+    check(run_again == run && rewrite_again == rewrite && memcmp(output_again, output, sizeof output) == 0 &&
+              memcmp(work_again, work, sizeof work) == 0,
+          "the calls without a limit do the same");
 }
 
 /* Runs, rewrites and walks the loaded program; gives the exit status. */
 static int serve(size_t length, size_t log_length)
 {
-    uint64_t run = knitout_run(program, length);
-    uint64_t rewrite = knitout_rewrite(program, length, log_bytes, log_length, output, sizeof output,
-                                       work, sizeof work / sizeof *work);
+    memset(output, PAINT, sizeof output);
+    memset(work, PAINT, sizeof work);
+    uint64_t run = knitout_run_at(limit, program, length);
+    uint64_t rewrite = knitout_rewrite_at(limit, program, length, log_bytes, log_length, output, sizeof output,
+                                          work, ENTRIES);
     /* if the output was not written, the program stays the one to go by */
     const uint8_t *bytes = KNITOUT_WRITTEN(KNITOUT_NUMBER(rewrite)) ? output : program;
 
     show_answer("run", run);
     show_answer("rewrite", rewrite);
+    if (bytes == program)
+        check(is_painted(0, 0), "the refused rewriter wrote nothing");
+    if (limit == KNITOUT_LIMIT_MOST)
+        try_without_limit(length, log_length, run, rewrite);
+    if (KNITOUT_NUMBER(run) == KNITOUT_BAD_STATE) { /* no machine has this limit */
+        empty_panel();
+        try_foul("empty panel at this limit", &panel);
+        return REFUSED;
+    }
     if (KNITOUT_NUMBER(run) == KNITOUT_TOO_LONG)
         return REFUSED; /* the step looks at one record only, so it has no number for this */
     printf("walk of the %s:\n", bytes == output ? "output" : "program");
     uint64_t end = walk(bytes, length);
-    check(end == knitout_run(bytes, length), "the walk ended as the run of the same bytes");
+    check(end == knitout_run_at(limit, bytes, length), "the walk ended as the run of the same bytes");
     show_panel(KNITOUT_NUMBER(end) == KNITOUT_DONE ? "after the last record" : "before the refused record");
     try_refusals();
     return KNITOUT_NUMBER(run) == KNITOUT_DONE && KNITOUT_NUMBER(rewrite) == KNITOUT_DONE ? KNITTABLE : REFUSED;
+}
+
+/* Takes the limit from a text; false if that is not a byte's value. */
+static bool take_limit(const char *text)
+{
+    char *end;
+    unsigned long value = strtoul(text, &end, 10);
+
+    limit = (uint8_t)value;
+    return '0' <= text[0] && text[0] <= '9' && *end == '\0' && value <= UINT8_MAX;
 }
 
 int main(int count, char **names)
 {
     size_t length, log_length;
 
-    if (count != 3) {
-        fputs("usage: host PROGRAM LOG\n", stderr);
+    if (count < 3 || count > 4 || (count == 4 && !take_limit(names[3]))) {
+        fputs("usage: host PROGRAM LOG [LIMIT]\n", stderr);
         return UNREADABLE;
     }
-    printf("%s by %s\n", names[1], names[2]);
+    printf("%s by %s at limit %u\n", names[1], names[2], limit);
     if (!load(names[1], program, sizeof program, &length) ||
         !load(names[2], log_bytes, sizeof log_bytes, &log_length))
         return UNREADABLE;

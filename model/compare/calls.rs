@@ -2,6 +2,8 @@
 
 use crate::draft::Random;
 use crate::lend::{behind, place_in, Lent};
+use crate::limit_coverage::OtherLimits;
+use crate::machine::HOOK_LIMIT;
 use crate::rewrite::is_written;
 use crate::swap_coverage::{SwapCoverage, LOANS};
 use crate::{fail, show, show_answer};
@@ -17,15 +19,37 @@ extern "C" {
         work: *mut u16,
         work_count: usize,
     ) -> u64;
+    fn knitout_rewrite_at(
+        limit: u8,
+        program: *const u8,
+        program_length: usize,
+        log: *const u8,
+        log_length: usize,
+        output: *mut u8,
+        output_length: usize,
+        work: *mut u16,
+        work_count: usize,
+    ) -> u64;
 }
 
-/// A program, a log, and how long an output and a work area are lent.
+/// One in so many calls at limit 8 is also made by the entry that takes none.
+const PLAIN_EVERY: u64 = 4;
+
+/// A limit, a program, a log, and how long an output and a work area are lent.
 #[derive(Clone, Copy)]
 pub struct Call<'a> {
+    pub limit: u8,
     pub program: &'a [u8],
     pub log: &'a [u8],
     pub output: usize,
     pub work: usize,
+}
+
+/// Which entry a call is made by.
+#[derive(Clone, Copy)]
+enum Entry {
+    At,
+    Plain,
 }
 
 /// What a call leaves behind.
@@ -40,6 +64,8 @@ pub struct Rewriter {
     pub calls: u64,
     pub chains: u64,
     pub changed_chains: u64,
+    pub other_limits: OtherLimits,
+    pub plain_calls: u64,
     random: Random,
     lent: [Lent; 4],
 }
@@ -61,6 +87,8 @@ impl Rewriter {
             calls: 0,
             chains: 0,
             changed_chains: 0,
+            other_limits: OtherLimits::new(),
+            plain_calls: 0,
             random: Random::new(!seed),
             lent: [0; 4].map(|_| Lent::new()),
         }
@@ -90,7 +118,14 @@ impl Rewriter {
     }
 
     /// Makes the call; if it may write nothing, output and work can only be read.
-    fn library(&mut self, call: &Call, output: &[u8], work: &[u16], locked: bool) -> Left {
+    fn library(
+        &mut self,
+        entry: Entry,
+        call: &Call,
+        output: &[u8],
+        work: &[u16],
+        locked: bool,
+    ) -> Left {
         let work: Vec<u8> = work.iter().flat_map(|entry| entry.to_ne_bytes()).collect();
         let program = self.lend(0, call.program);
         let log = match place_in(call.program, call.log) {
@@ -100,19 +135,19 @@ impl Rewriter {
         };
         let out = self.lend(2, output);
         let starts = self.lend(3, &work).cast::<u16>();
+        let (length, log_length) = (call.program.len(), call.log.len());
+        let (out_length, count) = (call.output, call.work);
         // SAFETY: each pointer is readable, and the last two writable if the call must write, for
         // the length beside it; the work area ends an even number of bytes before a page's end.
         let make = || unsafe {
-            knitout_rewrite(
-                program,
-                call.program.len(),
-                log,
-                call.log.len(),
-                out,
-                call.output,
-                starts,
-                call.work,
-            )
+            match entry {
+                Entry::Plain => knitout_rewrite(
+                    program, length, log, log_length, out, out_length, starts, count,
+                ),
+                Entry::At => knitout_rewrite_at(
+                    call.limit, program, length, log, log_length, out, out_length, starts, count,
+                ),
+            }
         };
         let answer = if locked {
             self.lent[2].read_only(|| self.lent[3].read_only(make))
@@ -126,30 +161,34 @@ impl Rewriter {
         }
     }
 
-    /// Makes a call and gives the program that the next one in a chain starts from.
-    pub fn call(&mut self, call: &Call, from: &str) -> Vec<u8> {
+    /// Makes a call and gives its number and the program that the next one in a chain starts from.
+    pub fn call(&mut self, call: &Call, from: &str) -> (u8, Vec<u8>) {
         let (mut output, mut work) = self.patterns(call);
         let (lent_output, lent_work) = (output.clone(), work.clone());
-        let answer = self
-            .coverage
-            .rewrite(call.program, call.log, &mut output, &mut work);
+        let answer = self.coverage.rewrite(call, &mut output, &mut work);
         let locked = !is_written(answer.number) && self.random.percent(25);
         if locked {
             self.coverage.locked(answer.number);
         }
-        let given = self.library(call, &lent_output, &lent_work, locked);
         let expected = Left {
             answer: answer.packed(),
             output,
             work,
         };
-        self.compare(call, &expected, &given, from);
+        let plain = call.limit == HOOK_LIMIT && self.calls % PLAIN_EVERY == 0;
+        let entries = [Entry::At, Entry::Plain].into_iter();
+        for entry in entries.take(1 + usize::from(plain)) {
+            let given = self.library(entry, call, &lent_output, &lent_work, locked);
+            self.compare(call, &expected, &given, from);
+        }
         self.calls += 1;
-        if is_written(answer.number) {
+        self.plain_calls += u64::from(plain);
+        let next = if is_written(answer.number) {
             expected.output[..call.program.len()].to_vec()
         } else {
             call.program.to_vec()
-        }
+        };
+        (answer.number, next)
     }
 
     fn compare(&self, call: &Call, expected: &Left, given: &Left, from: &str) {
@@ -187,6 +226,7 @@ fn differ(call: &Call, expected: &Left, given: &Left, from: &str, what: &str) ->
     }
     let (program, log) = (call.program.len(), call.log.len());
     let (output, work) = (call.output, call.work);
+    println!("limit {}", call.limit);
     println!("lengths: program {program}, log {log}, output {output}, work {work} entries");
     show("program", call.program);
     show("log", call.log);

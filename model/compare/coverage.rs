@@ -1,5 +1,6 @@
-//! What the compared programs came to: counts of kinds, numbers, fields, floats, hooks, lengths.
+//! What the compared programs came to at limit 8: kinds, numbers, fields, floats, hooks, lengths.
 
+use crate::limit_coverage::{LimitCoverage, RUN};
 use crate::machine::*;
 use crate::plated_coverage::PlatedCoverage;
 
@@ -25,8 +26,8 @@ pub const KIND_NAMES: [&str; KIND_COUNT] = [
 /// The numbers that a run can give, in the order of looking.
 const RUN_NUMBERS: [usize; 12] = [0, 1, 3, 4, 5, 16, 6, 7, 8, 9, 10, 11];
 
-/// For each kind, the numbers it can get besides 0, 4 and 5.
-const KIND_NUMBERS: [(u8, &[u8]); 11] = [
+/// For each kind, the numbers it can get at limit 8 besides 0, 4 and 5.
+pub const KIND_NUMBERS: [(u8, &[u8]); 11] = [
     (RACK, &[]),
     (DROP, &[]),
     (XFER, &[10, 11]),
@@ -148,6 +149,7 @@ pub struct Coverage {
     stitched: [u64; STITCHING * 64],
     attached: [u64; STITCHES * WAYS_MOVED * 8],
     plated: PlatedCoverage,
+    pub limits: LimitCoverage,
     events: [u64; EVENTS.len()],
     pasts: [Past; CARRIERS],
 }
@@ -175,17 +177,20 @@ impl Coverage {
             stitched: [0; STITCHING * 64],
             attached: [0; STITCHES * WAYS_MOVED * 8],
             plated: PlatedCoverage::new(),
+            limits: LimitCoverage::new(RUN),
             events: [0; EVENTS.len()],
             pasts: [NO_PAST; CARRIERS],
         }
     }
 
-    /// Runs the model on a program and counts what it comes to.
+    /// Runs the model on a program at limit 8 and counts what it comes to.
     pub fn run(&mut self, program: &[u8]) -> Answer {
         self.pasts = [NO_PAST; CARRIERS];
-        let answer = run_watched(program, |state, bytes, number| {
-            self.record(state, bytes, number)
+        let answer = run_watched(HOOK_LIMIT, program, |state, bytes, number| {
+            self.limits.record(state, bytes, number);
+            self.record(state, bytes, number);
         });
+        self.limits.call(HOOK_LIMIT, answer.number);
         self.numbers[usize::from(answer.number)] += 1;
         self.ending(program, &answer);
         answer
@@ -215,7 +220,7 @@ impl Coverage {
             is_of_record(number) && place >= PROGRAM_LIMIT - 8,
         );
         if number == TOO_LONG {
-            let valid = run_records(program, |_, _, _| {}).number == DONE;
+            let valid = run_records(HOOK_LIMIT, program, |_, _, _| {}).number == DONE;
             self.note(Event::OtherwiseValid, valid && length == PROGRAM_LIMIT + 1);
             self.note(Event::TooLongFaulty, !valid);
             self.note(Event::TooLongFar, length >= 65_536);
@@ -549,6 +554,7 @@ impl Coverage {
         self.missing_fields(&mut missing);
         self.missing_classes(&mut missing);
         missing.extend(self.plated.missing("run"));
+        missing.extend(self.limits.missing());
         missing
     }
 
@@ -653,6 +659,7 @@ impl Coverage {
         for (name, count) in EVENTS.iter().zip(self.events) {
             println!("{count:>9}  {name}");
         }
+        self.limits.print();
     }
 
     fn print_pairs(&self) {

@@ -64,6 +64,14 @@ impl Random {
         self.pick(&[Bed::Front, Bed::Back])
     }
 
+    /// A hook limit in range, often the most.
+    pub fn limit(&mut self) -> u8 {
+        match self.below(10) {
+            0..=2 => HOOK_LIMIT,
+            _ => 1 + self.below(HOOK_LIMIT.into()) as u8,
+        }
+    }
+
     pub fn known_kind(&mut self) -> u8 {
         self.between((*KINDS.start()).into(), (*KINDS.end()).into()) as u8
     }
@@ -152,10 +160,10 @@ pub struct Draft {
 }
 
 impl Draft {
-    pub fn new() -> Draft {
+    pub fn new(limit: u8) -> Draft {
         Draft {
             bytes: Vec::new(),
-            state: State::empty(),
+            state: State::empty(limit),
         }
     }
 

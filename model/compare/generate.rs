@@ -7,7 +7,8 @@ use crate::plated::{plated, plated_case, plated_stitches, with_any, with_ready, 
 /// Takes each generated program.
 pub type Check<'a> = &'a mut dyn FnMut(&[u8]);
 
-type Generator = fn(&mut Random, Check);
+/// Makes programs for machines of a hook limit.
+type Generator = fn(&mut Random, u8, Check);
 
 /// Name of a group, calls a round, and its generator; one call may give several programs.
 pub const GROUPS: [(&str, usize, Generator); 11] = [
@@ -189,9 +190,9 @@ fn refused(
     None
 }
 
-fn crowded(random: &mut Random, check: Check) {
+fn crowded(random: &mut Random, limit: u8, check: Check) {
     let crowd = CrowdedColumns::new(random);
-    let mut draft = Draft::new();
+    let mut draft = Draft::new(limit);
     let length = random.pick(&[0, 10, 40, 100, 200, 300, 500, 1000]);
     add_candidates(random, &mut draft, &crowd, length);
     check(&draft.bytes);
@@ -252,8 +253,8 @@ pub fn reverse(direction: Direction) -> Direction {
 
 /// The draft, then tucks on the needle until its hook is full and one tuck more.
 pub fn filled(random: &mut Random, draft: &Draft, needle: Needle) -> Vec<u8> {
-    let mut draft = draft.clone();
-    if tuck_to(random, &mut draft, needle, HOOK_LIMIT).is_none() {
+    let (mut draft, limit) = (draft.clone(), draft.state.limit);
+    if tuck_to(random, &mut draft, needle, limit).is_none() {
         return draft.bytes;
     }
     let tuck = |carrier: usize, direction| Record::Tuck(carrier_move(direction, needle, carrier));
@@ -323,12 +324,13 @@ pub fn measured(random: &mut Random, mut draft: Draft, carrier: usize) -> Option
     let needle = any_needle_at(random, &draft.state, column)?;
     let m = carrier_move(random.direction(), needle, carrier);
     miss_to(random, &mut draft, carrier, entry_slot(column, m.direction))?;
+    let limit = draft.state.limit;
     if random.percent(20) {
-        tuck_to(random, &mut draft, needle, HOOK_LIMIT)?;
+        tuck_to(random, &mut draft, needle, limit)?;
     }
     if random.percent(20) {
         let second = opposite(&draft.state, needle)?;
-        let loops = random.pick(&[1, HOOK_LIMIT]);
+        let loops = random.pick(&[1, limit]);
         tuck_to(random, &mut draft, second, loops)?;
     }
     if random.percent(15) {
@@ -374,8 +376,8 @@ fn reentered(random: &mut Random, mut draft: Draft, carrier: usize) -> Option<(D
 }
 
 /// From the outermost back needle over both beds to a stitch 256 or 257 columns away.
-fn widest(random: &mut Random) -> Option<(Draft, Record)> {
-    let mut draft = Draft::new();
+fn widest(random: &mut Random, limit: u8) -> Option<(Draft, Record)> {
+    let mut draft = Draft::new(limit);
     let (racking, number, columns) = random.pick(&[(-8, 0, [248, 249]), (8, 249, [0, 1])]);
     draft.add(&Record::Rack(racking))?;
     let bed = Bed::Back;
@@ -389,14 +391,14 @@ fn widest(random: &mut Random) -> Option<(Draft, Record)> {
 }
 
 /// A draft and a record after it that the float rule may refuse.
-fn float_case(random: &mut Random) -> (Draft, Record) {
+fn float_case(random: &mut Random, limit: u8) -> (Draft, Record) {
     loop {
-        let mut draft = Draft::new();
+        let mut draft = Draft::new(limit);
         let Some(carrier) = attached(random, &mut draft) else {
             continue;
         };
         let case = match random.below(100) {
-            0 => widest(random),
+            0 => widest(random, limit),
             1..=9 => reentered(random, draft, carrier),
             _ => measured(random, draft, carrier),
         };
@@ -406,8 +408,8 @@ fn float_case(random: &mut Random) -> (Draft, Record) {
     }
 }
 
-fn floats(random: &mut Random, check: Check) {
-    let (draft, record) = float_case(random);
+fn floats(random: &mut Random, limit: u8, check: Check) {
+    let (draft, record) = float_case(random, limit);
     check(&draft.with(&bytes_of(&record)));
 }
 
@@ -431,18 +433,22 @@ fn loaded_pair(random: &mut Random, draft: &mut Draft) -> Option<Pair> {
         number: (second.number + 1) % NEEDLES,
         ..second
     };
-    let on_first = random.below(9) as u8;
+    let limit = draft.state.limit;
+    let on_first = match random.below(10) {
+        0 => 0,
+        _ => random.between(0, limit.into()) as u8,
+    };
     let on_second = match random.below(8) {
-        0 => HOOK_LIMIT,
-        1 => random.below(9) as u8,
-        2 | 3 => (HOOK_LIMIT + 1 - on_first).min(HOOK_LIMIT),
-        _ => HOOK_LIMIT - on_first,
+        0 => limit,
+        1 => random.between(0, limit.into()) as u8,
+        2 | 3 => (limit + 1 - on_first).min(limit),
+        _ => limit - on_first,
     };
     tuck_to(random, draft, first, on_first)?;
     tuck_to(random, draft, second, on_second)?;
     let carrier = (0..CARRIERS).find(|&k| draft.state.carriers[k].is_some())?;
     if random.percent(50) {
-        tuck_to(random, draft, neighbour, HOOK_LIMIT)?;
+        tuck_to(random, draft, neighbour, limit)?;
     }
     Some(Pair {
         first,
@@ -452,9 +458,9 @@ fn loaded_pair(random: &mut Random, draft: &mut Draft) -> Option<Pair> {
     })
 }
 
-fn pair_case(random: &mut Random) -> (Draft, Pair) {
+fn pair_case(random: &mut Random, limit: u8) -> (Draft, Pair) {
     loop {
-        let mut draft = Draft::new();
+        let mut draft = Draft::new(limit);
         if let Some(pair) = loaded_pair(random, &mut draft) {
             return (draft, pair);
         }
@@ -494,8 +500,8 @@ fn pair_records(random: &mut Random, draft: &Draft, pair: &Pair) -> Vec<Record> 
     records
 }
 
-fn hooks(random: &mut Random, check: Check) {
-    let (draft, pair) = pair_case(random);
+fn hooks(random: &mut Random, limit: u8, check: Check) {
+    let (draft, pair) = pair_case(random, limit);
     for record in pair_records(random, &draft, &pair) {
         let mut branch = draft.clone();
         if branch.add(&record).is_some() {
@@ -523,9 +529,9 @@ fn tucks(random: &mut Random, draft: &mut Draft, needle: Needle, count: u8) -> O
     }))
 }
 
-/// Loads all 500 hooks at random, then fills each one to 8, so that no two can be confused.
-fn every_hook(random: &mut Random, check: Check) {
-    let mut draft = Draft::new();
+/// Loads all 500 hooks at random, then fills each one to the limit, so that no two can be confused.
+fn every_hook(random: &mut Random, limit: u8, check: Check) {
+    let mut draft = Draft::new(limit);
     draft.add(&Record::Rack(random.racking()));
     let beds = [Bed::Front, Bed::Back];
     let mut needles: Vec<Needle> = beds
@@ -537,9 +543,9 @@ fn every_hook(random: &mut Random, check: Check) {
         for &needle in &needles {
             let loops = draft.state.loops(needle);
             let more = if round == 0 {
-                random.below(9) as u8
+                random.between(0, limit.into()) as u8
             } else {
-                HOOK_LIMIT - loops
+                limit - loops
             };
             if more > 0 {
                 tucks(random, &mut draft, needle, more);
@@ -558,17 +564,17 @@ const FIELD_VALUES: [u8; 18] = [
     0xfe, 0xff,
 ];
 
-fn small_draft(random: &mut Random, crowd: &CrowdedColumns) -> Draft {
-    let mut draft = Draft::new();
+fn small_draft(random: &mut Random, limit: u8, crowd: &CrowdedColumns) -> Draft {
+    let mut draft = Draft::new(limit);
     let length = random.below(150);
     add_candidates(random, &mut draft, crowd, length);
     draft
 }
 
 /// A record of any kind, accepted or refused as wished if such a one is found.
-fn crowd_case(random: &mut Random) -> (Draft, Record) {
+fn crowd_case(random: &mut Random, limit: u8) -> (Draft, Record) {
     let crowd = CrowdedColumns::new(random);
-    let draft = small_draft(random, &crowd);
+    let draft = small_draft(random, limit, &crowd);
     let kind = random.known_kind();
     let wants_refusal = random.percent(50);
     let mut found = Record::Rack(0);
@@ -587,22 +593,22 @@ fn crowd_case(random: &mut Random) -> (Draft, Record) {
 }
 
 /// A valid draft and a whole record after it, accepted or refused.
-fn any_case(random: &mut Random) -> (Draft, Record) {
+fn any_case(random: &mut Random, limit: u8) -> (Draft, Record) {
     match random.below(12) {
-        0 | 1 => float_case(random),
-        2 | 3 => plated_case(random),
+        0 | 1 => float_case(random, limit),
+        2 | 3 => plated_case(random, limit),
         4 | 5 => {
-            let (draft, pair) = pair_case(random);
+            let (draft, pair) = pair_case(random, limit);
             let records = pair_records(random, &draft, &pair);
             (draft, random.pick(&records))
         }
-        _ => crowd_case(random),
+        _ => crowd_case(random, limit),
     }
 }
 
 /// Each field of a record in turn set to chosen values.
-fn fields(random: &mut Random, check: Check) {
-    let (draft, record) = any_case(random);
+fn fields(random: &mut Random, limit: u8, check: Check) {
+    let (draft, record) = any_case(random, limit);
     let bytes = bytes_of(&record);
     for field in 1..bytes.len() {
         for value in FIELD_VALUES {
@@ -613,14 +619,14 @@ fn fields(random: &mut Random, check: Check) {
     }
 }
 
-pub fn whole_program(random: &mut Random) -> Vec<u8> {
-    let (draft, record) = any_case(random);
+pub fn whole_program(random: &mut Random, limit: u8) -> Vec<u8> {
+    let (draft, record) = any_case(random, limit);
     draft.with(&bytes_of(&record))
 }
 
 /// A program cut at every place near its end, and its last record cut behind a field out of range.
-fn cut_ends(random: &mut Random, check: Check) {
-    let (draft, record) = any_case(random);
+fn cut_ends(random: &mut Random, limit: u8, check: Check) {
+    let (draft, record) = any_case(random, limit);
     let bytes = bytes_of(&record);
     let program = draft.with(&bytes);
     for end in program.len().saturating_sub(13)..=program.len() {
@@ -635,8 +641,8 @@ fn cut_ends(random: &mut Random, check: Check) {
     }
 }
 
-fn damaged(random: &mut Random, check: Check) {
-    let program = whole_program(random);
+fn damaged(random: &mut Random, limit: u8, check: Check) {
+    let program = whole_program(random, limit);
     for _ in 0..8 {
         let mut changed = program.clone();
         if changed.is_empty() {
@@ -654,18 +660,18 @@ fn damaged(random: &mut Random, check: Check) {
     }
 }
 
-fn unknown_kinds(random: &mut Random, check: Check) {
+fn unknown_kinds(random: &mut Random, limit: u8, check: Check) {
     let mut program = if random.percent(30) {
         Vec::new()
     } else {
-        whole_program(random)
+        whole_program(random, limit)
     };
     program.push(random.unknown_kind());
     add_bytes(random, &mut program);
     check(&program);
 }
 
-fn random_bytes(random: &mut Random, check: Check) {
+fn random_bytes(random: &mut Random, _: u8, check: Check) {
     let longest = random.pick(&[8, 30, 300]);
     let length = random.below(longest);
     let bound = random.pick(&[2, 10, 11, 12, 13, 16, 256]);
@@ -696,8 +702,8 @@ pub fn add_racks_and_drops(random: &mut Random, draft: &mut Draft, length: usize
 }
 
 /// A draft of exactly so many bytes, mostly of accepted candidates or mostly of racks and drops.
-fn long_draft(random: &mut Random, crowd: &CrowdedColumns, length: usize) -> Draft {
-    let mut draft = Draft::new();
+fn long_draft(random: &mut Random, limit: u8, crowd: &CrowdedColumns, length: usize) -> Draft {
+    let mut draft = Draft::new(limit);
     let most = length.saturating_sub(10);
     let candidates = if random.percent(70) {
         most
@@ -710,23 +716,23 @@ fn long_draft(random: &mut Random, crowd: &CrowdedColumns, length: usize) -> Dra
 }
 
 fn wanted_length(random: &mut Random) -> usize {
-    let limit = PROGRAM_LIMIT;
+    let most = PROGRAM_LIMIT;
     match random.below(20) {
-        0..=2 => random.pick(&[65_535, 65_536, 65_537, 65_543, 65_536 + limit, 131_072]),
-        3..=5 => random.pick(&[limit - 2, limit + 2]),
-        6..=9 => limit - 1,
-        10..=14 => limit,
-        _ => limit + 1,
+        0..=2 => random.pick(&[65_535, 65_536, 65_537, 65_543, 65_536 + most, 131_072]),
+        3..=5 => random.pick(&[most - 2, most + 2]),
+        6..=9 => most - 1,
+        10..=14 => most,
+        _ => most + 1,
     }
 }
 
 /// Programs at, under and over the limit: done, refused at the end, or with a fault at the start.
-fn lengths(random: &mut Random, check: Check) {
+fn lengths(random: &mut Random, limit: u8, check: Check) {
     let crowd = CrowdedColumns::new(random);
     let length = wanted_length(random);
     let end = random.below(5);
     if end == 0 {
-        let draft = long_draft(random, &crowd, length - 1);
+        let draft = long_draft(random, limit, &crowd, length - 1);
         check(&draft.with(&[random.unknown_kind()]));
         check(&draft.with(&[random.known_kind()]));
         check(&draft.bytes);
@@ -734,14 +740,14 @@ fn lengths(random: &mut Random, check: Check) {
     }
     if end == 1 {
         let last = random.pick(&[5, 6]);
-        let draft = long_draft(random, &crowd, length - last);
+        let draft = long_draft(random, limit, &crowd, length - last);
         if let Some(bytes) = refused(random, &draft, &crowd, Some(last)) {
             check(&draft.with(&bytes));
             check(&draft.with(&bytes[..last - 1]));
             return;
         }
     }
-    let mut program = long_draft(random, &crowd, length).bytes;
+    let mut program = long_draft(random, limit, &crowd, length).bytes;
     check(&program);
     let place = if end == 2 { 0 } else { random.below(length) };
     program[place] = random.byte();

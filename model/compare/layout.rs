@@ -6,7 +6,7 @@ use std::mem::{align_of, offset_of, size_of};
 
 pub const CARRIER_BYTES: usize = 8;
 pub const STATE_BYTES: usize = 582;
-const PADDING: usize = 501;
+const LIMIT_AT: usize = 501;
 const CARRIERS_AT: usize = 502;
 
 // The layout that the header asserts.
@@ -21,8 +21,12 @@ const _: () = assert!(size_of::<RawState>() == STATE_BYTES);
 const _: () = assert!(align_of::<RawState>() == 2);
 const _: () = assert!(offset_of!(RawState, racking) == 0);
 const _: () = assert!(offset_of!(RawState, loops) == 1);
-const _: () = assert!(offset_of!(RawState, loops) + HOOKS == PADDING);
+const _: () = assert!(offset_of!(RawState, loops) + HOOKS == LIMIT_AT);
+const _: () = assert!(offset_of!(RawState, limit) == LIMIT_AT);
 const _: () = assert!(offset_of!(RawState, carriers) == CARRIERS_AT);
+// No byte is without a value.
+const _: () = assert!(LIMIT_AT + 1 == CARRIERS_AT);
+const _: () = assert!(CARRIERS_AT + CARRIERS * CARRIER_BYTES == STATE_BYTES);
 const _: () = assert!(size_of::<Served>() == 2 * size_of::<usize>());
 const _: () = assert!(offset_of!(Served, number) == 0);
 const _: () = assert!(offset_of!(Served, length) == size_of::<usize>());
@@ -55,10 +59,11 @@ pub fn carrier_of(bytes: &[u8]) -> RawCarrier {
     }
 }
 
-pub fn state_bytes(state: &RawState, padding: u8) -> [u8; STATE_BYTES] {
-    let mut bytes = [padding; STATE_BYTES];
+pub fn state_bytes(state: &RawState) -> [u8; STATE_BYTES] {
+    let mut bytes = [0; STATE_BYTES];
     bytes[0] = state.racking as u8;
-    bytes[1..PADDING].copy_from_slice(&state.loops);
+    bytes[1..LIMIT_AT].copy_from_slice(&state.loops);
+    bytes[LIMIT_AT] = state.limit;
     let entries = bytes[CARRIERS_AT..].chunks_exact_mut(CARRIER_BYTES);
     for (entry, carrier) in entries.zip(&state.carriers) {
         entry.copy_from_slice(&carrier_bytes(carrier));
@@ -66,11 +71,11 @@ pub fn state_bytes(state: &RawState, padding: u8) -> [u8; STATE_BYTES] {
     bytes
 }
 
-/// The state of its bytes; the padding is not looked at.
+/// The state of its bytes, each of which it shows.
 pub fn state_of(bytes: &[u8]) -> RawState {
-    let mut state = RawState::empty();
+    let mut state = RawState::empty(bytes[LIMIT_AT]);
     state.racking = bytes[0] as i8;
-    state.loops.copy_from_slice(&bytes[1..PADDING]);
+    state.loops.copy_from_slice(&bytes[1..LIMIT_AT]);
     let entries = bytes[CARRIERS_AT..].chunks_exact(CARRIER_BYTES);
     for (carrier, entry) in state.carriers.iter_mut().zip(entries) {
         *carrier = carrier_of(entry);
@@ -87,6 +92,9 @@ pub fn state_difference(first: &RawState, second: &RawState) -> Option<String> {
         let (bed, number) = (["f", "b"][hook / NEEDLES], hook % NEEDLES);
         let (one, two) = (first.loops[hook], second.loops[hook]);
         return Some(format!("loops on {bed}.{number}, {one} and {two}"));
+    }
+    if first.limit != second.limit {
+        return Some(format!("limit {} and {}", first.limit, second.limit));
     }
     for (place, (one, two)) in first.carriers.iter().zip(&second.carriers).enumerate() {
         if one != two {

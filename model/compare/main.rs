@@ -6,6 +6,7 @@ mod draft;
 mod generate;
 mod layout;
 mod lend;
+mod limit_coverage;
 mod logs;
 mod panel_calls;
 mod panel_coverage;
@@ -24,13 +25,17 @@ use coverage::Coverage;
 use draft::Random;
 use generate::GROUPS;
 use lend::Lent;
+use limit_coverage::{is_bad, Raised, CALL_LIMITS};
+use machine::{Answer, DONE, HOOK_LIMIT, LIMITS};
 use model::{history, machine, panel, pieces, raw_state, rewrite};
 use panel_calls::Panel;
 use std::process::exit;
 
 const DEFAULT_SEED: u64 = 20_230_726;
 const ROUNDS: usize = 240;
-const LEAST_PROGRAMS: u64 = 200_000;
+/// Rounds at each limit but 8.
+const LIMIT_ROUNDS: usize = 10;
+const LEAST_PROGRAMS: u64 = 1_000_000;
 const LEAST_CALLS: u64 = 100_000;
 
 /// Every program cut short, and one in so many of the others, is also run before a guard page.
@@ -38,9 +43,16 @@ const GUARD_EVERY: u64 = 8;
 
 extern "C" {
     fn knitout_run(program: *const u8, length: usize) -> u64;
+    fn knitout_run_at(limit: u8, program: *const u8, length: usize) -> u64;
 }
 
-fn library_run(program: &[u8]) -> u64 {
+fn library_run(limit: u8, program: &[u8]) -> u64 {
+    // SAFETY: the slice is readable for its length.
+    unsafe { knitout_run_at(limit, program.as_ptr(), program.len()) }
+}
+
+/// The library's run at limit 8, by the entry that takes none.
+fn plain_run(program: &[u8]) -> u64 {
     // SAFETY: the slice is readable for its length.
     unsafe { knitout_run(program.as_ptr(), program.len()) }
 }
@@ -72,57 +84,107 @@ fn show_answer(name: &str, packed: u64) {
     println!("{name}: number {number} place {place}");
 }
 
-fn report_difference(program: &[u8], expected: u64, given: u64, from: &str) -> ! {
+fn report_difference(limit: u8, program: &[u8], expected: u64, given: u64, from: &str) -> ! {
     show_answer("model", expected);
     show_answer("library", given);
-    println!("length {}, {from}", program.len());
+    println!("limit {limit}, length {}, {from}", program.len());
     show("program", program);
     fail("the library differs from the model")
 }
 
 /// The library's answer for a copy of the program that ends at a guard page.
-fn guarded_run(guarded: &mut Lent, program: &[u8]) -> u64 {
+fn guarded_run(guarded: &mut Lent, limit: u8, program: &[u8]) -> u64 {
     let copy = guarded.lend(program, 0);
     // SAFETY: the copy is readable for its length.
-    unsafe { knitout_run(copy, program.len()) }
+    unsafe { knitout_run_at(limit, copy, program.len()) }
 }
 
 struct Comparison {
     coverage: Coverage,
     guarded: Lent,
+    raised: Raised,
     programs: u64,
     guarded_programs: u64,
+    other_limits: u64,
+}
+
+/// Fails if the library's answer is not the model's.
+fn agree(limit: u8, program: &[u8], answer: &Answer, given: u64, from: &str) {
+    let expected = answer.packed();
+    if given != expected {
+        report_difference(limit, program, expected, given, from);
+    }
 }
 
 impl Comparison {
-    fn compare(&mut self, program: &[u8], from: &str) {
-        let answer = self.coverage.run(program);
-        let expected = answer.packed();
-        let given = library_run(program);
-        if given != expected {
-            report_difference(program, expected, given, from);
+    /// Compares a program at a limit in range, and at another one of those that calls are made at.
+    fn compare(&mut self, limit: u8, program: &[u8], from: &str) {
+        let answer = if limit == HOOK_LIMIT {
+            self.coverage.run(program)
+        } else {
+            self.coverage.limits.run(limit, program)
+        };
+        if limit == HOOK_LIMIT {
+            agree(limit, program, &answer, plain_run(program), from);
         }
+        agree(limit, program, &answer, library_run(limit, program), from);
         if answer.number == machine::CUT_SHORT || self.programs % GUARD_EVERY == 0 {
-            let given = guarded_run(&mut self.guarded, program);
-            if given != expected {
-                let from = format!("{from}, before a guard page");
-                report_difference(program, expected, given, &from);
-            }
+            let given = guarded_run(&mut self.guarded, limit, program);
+            let from = format!("{from}, before a guard page");
+            agree(limit, program, &answer, given, &from);
             self.guarded_programs += 1;
         }
+        let turn = self.programs as usize % CALL_LIMITS.len();
+        self.other_limit(CALL_LIMITS[turn], program, &answer, from);
         self.programs += 1;
     }
 
+    /// Compares a program at another limit than that of an answer.
+    fn other_limit(&mut self, limit: u8, program: &[u8], answer: &Answer, from: &str) {
+        if limit == answer.state.limit {
+            return;
+        }
+        let other = self.coverage.limits.run(limit, program);
+        agree(limit, program, &other, library_run(limit, program), from);
+        self.other_limits += 1;
+        if is_bad(limit) {
+            self.coverage.limits.bad(limit, answer.number);
+            return;
+        }
+        let (lower, greater) = if limit < answer.state.limit {
+            (&other, answer)
+        } else {
+            (answer, &other)
+        };
+        if let Some(what) = history::raised_difference(lower, greater) {
+            show("program", program);
+            fail(what);
+        }
+        if lower.number == DONE {
+            self.raised.valid(lower.state.limit, greater.state.limit);
+        }
+    }
+
+    /// Each piece at its own limit, then at the others.
     fn pieces(&mut self) {
         for piece in pieces::pieces() {
-            let answer = machine::run(&piece.program);
+            let answer = machine::run_at(piece.limit, &piece.program);
             if (answer.number, answer.place) != (piece.number, piece.place) {
                 fail(&format!(
                     "the model differs from the paper on piece {}",
                     piece.name
                 ));
             }
-            self.compare(&piece.program, piece.name);
+            agree(
+                piece.limit,
+                &piece.program,
+                &answer,
+                library_run(piece.limit, &piece.program),
+                piece.name,
+            );
+            for limit in LIMITS {
+                self.compare(limit, &piece.program, piece.name);
+            }
         }
         if !pieces::states_agree() {
             fail("the model differs from the paper on a final state");
@@ -132,21 +194,43 @@ impl Comparison {
     /// Every program of one byte or two, and every drop.
     fn short_programs(&mut self) {
         for first in 0..=255 {
-            self.compare(&[first], "one byte");
+            self.compare(HOOK_LIMIT, &[first], "one byte");
             for second in 0..=255 {
-                self.compare(&[first, second], "two bytes");
-                self.compare(&[machine::DROP, first, second], "one drop");
+                self.compare(HOOK_LIMIT, &[first, second], "two bytes");
+                self.compare(HOOK_LIMIT, &[machine::DROP, first, second], "one drop");
+            }
+        }
+    }
+
+    /// Every limit out of range, on a program of each piece.
+    fn bad_limits(&mut self) {
+        for piece in pieces::pieces() {
+            let answer = machine::run(&piece.program);
+            for limit in (0..=255).filter(|&limit| is_bad(limit)) {
+                self.other_limit(limit, &piece.program, &answer, piece.name);
             }
         }
     }
 
     fn seeded_programs(&mut self, seed: u64) {
         let mut random = Random::new(seed);
-        for _ in 0..ROUNDS {
-            for (name, calls, generate) in GROUPS {
-                for _ in 0..calls {
-                    generate(&mut random, &mut |program| self.compare(program, name));
-                }
+        for limit in LIMITS {
+            let rounds = if limit == HOOK_LIMIT {
+                ROUNDS
+            } else {
+                LIMIT_ROUNDS
+            };
+            for _ in 0..rounds {
+                self.round(&mut random, limit);
+            }
+        }
+    }
+
+    fn round(&mut self, random: &mut Random, limit: u8) {
+        for (name, calls, generate) in GROUPS {
+            for _ in 0..calls {
+                let mut check = |program: &[u8]| self.compare(limit, program, name);
+                generate(random, limit, &mut check);
             }
         }
     }
@@ -164,38 +248,37 @@ fn seed_argument() -> u64 {
 fn main() {
     let seed = seed_argument();
     println!("model: seed {seed}");
-    let mut comparison = Comparison {
-        coverage: Coverage::new(),
-        guarded: Lent::new(),
-        programs: 0,
-        guarded_programs: 0,
-    };
-    comparison.pieces();
-    comparison.short_programs();
-    let exhaustive = comparison.programs;
-    comparison.seeded_programs(seed);
-    let seeded = comparison.programs - exhaustive;
-    comparison.coverage.print();
-    println!("{exhaustive} short programs, {seeded} seeded ones");
-    println!(
-        "{} of them also before a guard page",
-        comparison.guarded_programs
-    );
+    let comparison = runs(seed);
     let rewriter = rewriter_calls(seed);
-    let mut missing = comparison.coverage.missing();
-    missing.extend(rewriter.coverage.missing());
-    missing.extend(panel_services(seed).coverage.missing());
-    for name in &missing {
-        println!("never came: {name}");
-    }
-    let few = seeded < LEAST_PROGRAMS || rewriter.calls < LEAST_CALLS;
-    if !missing.is_empty() || few || rewriter.changed_chains == 0 {
+    let panel = panel_services(seed);
+    let covered = covered(&comparison, &rewriter, &panel);
+    let few = comparison.programs < LEAST_PROGRAMS || rewriter.calls < LEAST_CALLS;
+    if !covered || few || rewriter.changed_chains == 0 {
         fail("the programs do not cover what they should");
     }
     println!(
         "model: {} programs agree (seed {seed})",
         comparison.programs
     );
+}
+
+/// Whether all counts are what they should be; tells those that are not.
+fn covered(comparison: &Comparison, rewriter: &Rewriter, panel: &Panel) -> bool {
+    let mut missing = comparison.coverage.missing();
+    missing.extend(comparison.raised.missing());
+    missing.extend(rewriter.coverage.missing());
+    missing.extend(rewriter.other_limits.missing());
+    missing.extend(panel.coverage.missing());
+    let mut impossible = comparison.coverage.limits.impossible();
+    impossible.extend(rewriter.coverage.limits.impossible());
+    impossible.extend(panel.coverage.impossible());
+    for name in &missing {
+        println!("never came: {name}");
+    }
+    for name in &impossible {
+        println!("came and cannot: {name}");
+    }
+    missing.is_empty() && impossible.is_empty()
 }
 
 /// Counts by number, those that came.
@@ -205,6 +288,33 @@ fn by_number(counts: &[u64]) -> String {
         .map(|(number, count)| format!("{number}: {count}"))
         .collect();
     cells.join(", ")
+}
+
+/// Compares the run and tells the counts.
+fn runs(seed: u64) -> Comparison {
+    let mut comparison = Comparison {
+        coverage: Coverage::new(),
+        guarded: Lent::new(),
+        raised: Raised::new(),
+        programs: 0,
+        guarded_programs: 0,
+        other_limits: 0,
+    };
+    comparison.pieces();
+    comparison.bad_limits();
+    comparison.short_programs();
+    let short = comparison.programs;
+    comparison.seeded_programs(seed);
+    let seeded = comparison.programs - short;
+    comparison.coverage.print();
+    println!("{short} short programs, {seeded} seeded ones");
+    println!(
+        "{} of them also before a guard page",
+        comparison.guarded_programs
+    );
+    println!("{} runs more at another limit", comparison.other_limits);
+    comparison.raised.print();
+    comparison
 }
 
 /// Compares the rewriter and tells the counts.
@@ -220,12 +330,18 @@ fn rewriter_calls(seed: u64) -> Rewriter {
         by_number(&rewriter.coverage.numbers)
     );
     println!(
+        "rewriter: {} of these at limit 8 by the entry that takes none too",
+        rewriter.plain_calls
+    );
+    println!(
         "rewriter: {} refused calls store nothing in read-only memory; {}",
         rewriter.coverage.locked.iter().sum::<u64>(),
         by_number(&rewriter.coverage.locked)
     );
     rewriter.coverage.plated.print("rewriter");
     rewriter.coverage.plated_ties.print();
+    rewriter.coverage.limits.print();
+    rewriter.other_limits.print();
     rewriter
 }
 

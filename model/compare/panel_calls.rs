@@ -51,10 +51,9 @@ impl Panel {
         }
     }
 
-    /// Lends a state, with anything in its padding.
     pub fn lend_state(&mut self, state: &RawState) {
-        let (padding, behind) = (self.random.byte(), behind(&mut self.random));
-        self.state.lend(&state_bytes(state, padding), behind);
+        let behind = behind(&mut self.random);
+        self.state.lend(&state_bytes(state), behind);
         self.coverage.note(Event::StateGuarded, behind == 0);
         self.coverage.note(Event::StateMarked, behind > 0);
     }
@@ -117,7 +116,6 @@ impl Panel {
         from: &str,
     ) -> Served {
         let before = state.clone();
-        let was = self.state.bytes().to_vec();
         let expected = step_first(state, bytes);
         let accepted = expected.number == DONE;
         let lent = self.state.at().cast::<RawState>();
@@ -145,15 +143,12 @@ impl Panel {
             given,
         };
         self.compare_state(&call, state);
-        if !accepted && self.state.bytes() != was {
-            differ(&call, "the padding after a refused step");
-        }
         self.coverage
             .step(source, [&before, state], bytes, expected);
         expected
     }
 
-    /// Compares the answer, and the lent state with what it must hold.
+    /// Compares the answer, and every byte of the lent state with what it must hold.
     fn compare_state(&self, call: &Call, wanted: &RawState) {
         if call.given != call.expected {
             differ(call, "number or length");
@@ -190,7 +185,7 @@ impl Panel {
             differ(&call, "bytes around the list");
         }
         let number = call.expected.number;
-        self.coverage.list(source, count, number);
+        self.coverage.list(source, state, count, number);
         self.coverage.note(Event::ListNull, null);
         self.coverage
             .note(Event::ListGuarded, count == CARRIERS && behind == 0);
@@ -206,7 +201,7 @@ impl Panel {
             differ(&call, &format!("entry {entry} of the list"));
         }
         let number = call.expected.number;
-        self.coverage.list(source, count, number);
+        self.coverage.list(source, state, count, number);
     }
 
     /// Makes both calls and compares all but the lists' contents. `guarded`: the list is in lent
@@ -267,7 +262,7 @@ fn differ(call: &Call, what: &str) -> ! {
     for (name, served) in [("model", call.expected), ("library", call.given)] {
         println!("{name}: number {} length {}", served.number, served.length);
     }
-    show("state before", &state_bytes(call.before, 0));
+    show("state before", &state_bytes(call.before));
     show("bytes", call.bytes);
     fail("a panel service of the library differs from the model")
 }

@@ -2,6 +2,7 @@
 
 use crate::by_number;
 use crate::coverage::{events, KIND_COUNT, KIND_NAMES, NUMBERS};
+use crate::limit_coverage::{is_bad, LimitCoverage, LIST, STEP};
 use crate::machine::*;
 use crate::panel_states::{Change, Field};
 use crate::plated_coverage::PlatedCoverage;
@@ -25,6 +26,10 @@ events! {
     EmptyAgain: "step that leaves the empty state",
     FoulTouched: "foul state and a record that works on its foul field",
     FoulSeveral: "foul state by several values or by random bytes",
+    LimitUnder: "reached state with its limit lowered under what it holds",
+    LimitDown: "accepted step of a reached state with its limit lowered to what it holds",
+    LimitUp: "accepted step of a reached state with its limit raised",
+    LimitFuller: "accepted step that fills a hook over the limit before it was raised",
     ListReadOnly: "list of ten or more of a state in read-only memory",
     ListGuarded: "list of ten before a guard page",
     ListNull: "list of none at a null pointer",
@@ -65,10 +70,13 @@ const LEAST_COUNT: u64 = 4_000;
 /// Calls with a changed value that is still in range, and with one that is foul.
 type InAndOut = [u64; 2];
 
-/// A service's changed values; of carriers by index, status and field.
+/// A service's changed values; of carriers by index, status and field. `edges` are hooks by the
+/// limit, at it and one over it.
 struct Changes {
     rackings: [u64; 256],
+    limits: [u64; 256],
     hooks: [InAndOut; HOOKS],
+    edges: Box<[[InAndOut; HOOKS]; 9]>,
     carriers: [[[InAndOut; 5]; 3]; CARRIERS],
 }
 
@@ -81,6 +89,7 @@ pub struct PanelCoverage {
     foul_over: [u64; NUMBERS],
     locked: [[u64; NUMBERS]; 2],
     plated: PlatedCoverage,
+    limits: [LimitCoverage; 2],
     changes: [Changes; 2],
     counts: [[u64; NUMBERS]; MOST_COUNT + 1],
     events: [u64; EVENTS.len()],
@@ -99,9 +108,12 @@ impl PanelCoverage {
             foul_over: [0; NUMBERS],
             locked: [[0; NUMBERS]; 2],
             plated: PlatedCoverage::new(),
+            limits: [LimitCoverage::new(STEP), LimitCoverage::new(LIST)],
             changes: [0; 2].map(|_| Changes {
                 rackings: [0; 256],
+                limits: [0; 256],
                 hooks: [[0; 2]; HOOKS],
+                edges: Box::new([[[0; 2]; HOOKS]; 9]),
                 carriers: [[[[0; 2]; 5]; 3]; CARRIERS],
             }),
             counts: [[0; NUMBERS]; MOST_COUNT + 1],
@@ -115,9 +127,13 @@ impl PanelCoverage {
 
     pub fn step(&mut self, source: Source, states: [&RawState; 2], bytes: &[u8], served: Served) {
         self.steps[source as usize][usize::from(served.number)] += 1;
-        if served.number != FOUL_STATE && bytes.first() >= Some(&PLATED_TUCK) {
+        self.limit(Service::Step, states[0], served.number);
+        if served.number != FOUL_STATE {
             let before = states[0].state();
-            self.plated.record(&before, bytes, served.number);
+            self.limits[0].record(&before, bytes, served.number);
+            if before.limit == HOOK_LIMIT {
+                self.plated.record(&before, bytes, served.number);
+            }
         }
         if served.number == DONE {
             self.kinds[source as usize][usize::from(bytes[0])] += 1;
@@ -142,13 +158,25 @@ impl PanelCoverage {
             let (slot, active) = (after.carriers[m.carrier].slot, kind != OUT);
             self.note(Event::LeftmostSlot, active && slot == LEAST_SLOT);
             self.note(Event::RightmostSlot, active && slot == MOST_SLOT);
-            self.note(Event::EmptyAgain, !active && *after == RawState::empty());
+            self.note(
+                Event::EmptyAgain,
+                !active && *after == RawState::empty(after.limit),
+            );
+        }
+    }
+
+    fn limit(&mut self, service: Service, state: &RawState, number: u8) {
+        if !is_bad(state.limit) {
+            self.limits[service as usize].call(state.limit, number);
         }
     }
 
     /// Counts a foul state by what the step would give without the foul values.
-    pub fn foul_over(&mut self, number: u8) {
+    pub fn foul_over(&mut self, state: &RawState, number: u8) {
         self.foul_over[usize::from(number)] += 1;
+        if is_bad(state.limit) {
+            self.limits[0].bad(state.limit, number);
+        }
     }
 
     /// Counts a refused call with its loan in read-only memory: a store would have ended the program.
@@ -156,7 +184,12 @@ impl PanelCoverage {
         self.locked[service as usize][usize::from(number)] += 1;
     }
 
-    pub fn list(&mut self, source: Source, count: usize, number: u8) {
+    pub fn list(&mut self, source: Source, state: &RawState, count: usize, number: u8) {
+        self.limit(Service::List, state, number);
+        if is_bad(state.limit) {
+            let otherwise = if count < CARRIERS { NO_BENCH } else { DONE };
+            self.limits[1].bad(state.limit, otherwise);
+        }
         self.lists[source as usize][usize::from(number)] += 1;
         if count <= MOST_COUNT {
             self.counts[count][usize::from(number)] += 1;
@@ -173,8 +206,16 @@ impl PanelCoverage {
                 changes.rackings[usize::from(change.value as i8 as u8)] += 1;
                 return;
             }
+            Field::Limit => {
+                changes.limits[change.value as usize] += 1;
+                return;
+            }
             Field::Loops(hook) => {
                 changes.hooks[hook][outcome] += 1;
+                let limit = change.limit.unwrap_or(HOOK_LIMIT);
+                if change.value <= i32::from(limit) + 1 {
+                    changes.edges[usize::from(limit)][hook][outcome] += 1;
+                }
                 return;
             }
             Field::Active(_) => 0,
@@ -223,7 +264,14 @@ impl PanelCoverage {
             want(&mut missing, count, 1, || name.to_string());
         }
         missing.extend(self.plated.missing("step"));
+        missing.extend(self.limits.iter().flat_map(LimitCoverage::missing));
         missing
+    }
+
+    /// The names of counts that are not zero, of what cannot occur.
+    pub fn impossible(&self) -> Vec<String> {
+        let limits = self.limits.iter();
+        limits.flat_map(LimitCoverage::impossible).collect()
     }
 
     fn missing_numbers(&self, missing: &mut Vec<String>) {
@@ -306,6 +354,12 @@ fn missing_changes(missing: &mut Vec<String>, service: &str, changes: &Changes) 
             format!("{service} with racking {}", racking as u8 as i8)
         });
     }
+    for (limit, &count) in changes.limits.iter().enumerate() {
+        want(missing, count, LEAST_CHANGE, || {
+            format!("{service} with limit {limit}")
+        });
+    }
+    missing_edges(missing, service, changes);
     for outcome in 0..2 {
         for (hook, counts) in changes.hooks.iter().enumerate() {
             want(missing, counts[outcome], LEAST_CHANGE, || {
@@ -320,6 +374,18 @@ fn missing_changes(missing: &mut Vec<String>, service: &str, changes: &Changes) 
                         format!("{service}, {status} carrier {carrier}, {field} {outcome}")
                     });
                 }
+            }
+        }
+    }
+}
+
+fn missing_edges(missing: &mut Vec<String>, service: &str, changes: &Changes) {
+    for limit in LIMITS {
+        for (hook, counts) in changes.edges[usize::from(limit)].iter().enumerate() {
+            for (outcome, &count) in ["at", "one over"].iter().zip(counts) {
+                want(missing, count, 1, || {
+                    format!("{service}, hook {hook} {outcome} limit {limit}")
+                });
             }
         }
     }
@@ -340,6 +406,7 @@ impl PanelCoverage {
         let reached: u64 = self.steps[0].iter().sum();
         println!("panel: {steps} steps agree, {reached} of them on reached states; {cells}");
         self.plated.print("step");
+        self.limits.iter().for_each(LimitCoverage::print);
         let (lists, cells) = numbers(&self.lists);
         println!("panel: {lists} carrier lists agree; {cells}");
         for (service, counts) in SERVICES.iter().zip(self.locked) {

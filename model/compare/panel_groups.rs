@@ -2,7 +2,9 @@
 
 use crate::draft::{add_bytes, Draft, Random};
 use crate::generate::{self, add_racks_and_drops};
+use crate::limit_coverage::{is_bad, BAD_LIMITS, CALL_LIMITS};
 use crate::machine::*;
+use crate::panel::step_first;
 use crate::panel_calls::Panel;
 use crate::panel_coverage::{Event, Service, Source, MOST_COUNT};
 use crate::panel_records::*;
@@ -18,9 +20,10 @@ pub fn compare(panel: &mut Panel, seed: u64) {
     let mut random = Random::new(seed.rotate_left(32));
     programs(&mut random, panel);
     wide_slices(&mut random, panel);
-    for _ in 0..SWEEPS {
-        sweep(&mut random, panel);
+    for turn in 0..SWEEPS {
+        sweep(&mut random, panel, turn);
     }
+    other_limits(&mut random, panel);
     random_states(&mut random, panel);
     several_values(&mut random, panel);
     lists(&mut random, panel);
@@ -39,37 +42,62 @@ const PROGRAM_ROUNDS: usize = 4;
 const LONG: usize = 32_000;
 const LONG_EVERY: usize = 4;
 
-/// Programs that end with a plated stitch.
-const PLATED_PROGRAMS: usize = 6_000;
+/// At each limit but 8, one in so many of a round's calls.
+const LIMIT_SHARE: usize = 3;
+
+/// Programs that end with a plated stitch, at limit 8 and at each other limit.
+const PLATED_PROGRAMS: [usize; 2] = [6_000, 300];
 
 fn programs(random: &mut Random, panel: &mut Panel) {
     let mut own = Random::new(random.below(usize::MAX) as u64);
     for piece in crate::pieces::pieces() {
-        step_all(&mut own, panel, &piece.program, piece.name);
+        for limit in LIMITS {
+            step_all(&mut own, panel, limit, &piece.program, piece.name);
+        }
     }
-    let mut over = Draft::new();
+    let mut over = Draft::new(HOOK_LIMIT);
     add_racks_and_drops(random, &mut over, PROGRAM_LIMIT + 2);
-    step_all(&mut own, panel, &over.bytes, "over the limit");
-    for _ in 0..PLATED_PROGRAMS {
-        let program = plated_program(random);
-        step_all(&mut own, panel, &program, "plated programs");
-    }
-    for _ in 0..PROGRAM_ROUNDS {
-        for (name, calls, generate) in generate::GROUPS {
-            for _ in 0..calls {
-                generate(random, &mut |program| {
-                    if program.len() < LONG || own.below(LONG_EVERY) == 0 {
-                        step_all(&mut own, panel, program, name);
-                    }
-                });
-            }
+    step_all(&mut own, panel, HOOK_LIMIT, &over.bytes, "over the limit");
+    for limit in LIMITS {
+        let most = limit == HOOK_LIMIT;
+        for _ in 0..PLATED_PROGRAMS[usize::from(!most)] {
+            let program = plated_program(random, limit);
+            step_all(&mut own, panel, limit, &program, "plated programs");
+        }
+        let (rounds, share) = if most {
+            (PROGRAM_ROUNDS, 1)
+        } else {
+            (1, LIMIT_SHARE)
+        };
+        for _ in 0..rounds {
+            program_round(random, &mut own, panel, limit, share);
         }
     }
 }
 
-/// Steps one lent state through a program; the end must be the library's run's and the model's.
-fn step_all(random: &mut Random, panel: &mut Panel, program: &[u8], from: &str) {
-    let mut state = RawState::empty();
+/// Steps through one in so many of a round's programs, made at a limit.
+fn program_round(
+    random: &mut Random,
+    own: &mut Random,
+    panel: &mut Panel,
+    limit: u8,
+    share: usize,
+) {
+    for (name, calls, generate) in generate::GROUPS {
+        for _ in 0..calls.div_ceil(share) {
+            generate(random, limit, &mut |program| {
+                if program.len() < LONG || own.below(LONG_EVERY) == 0 {
+                    step_all(own, panel, limit, program, name);
+                }
+            });
+        }
+    }
+}
+
+/// Steps one lent state through a program from the empty one at a limit; the end must be the
+/// library's run's and the model's.
+fn step_all(random: &mut Random, panel: &mut Panel, limit: u8, program: &[u8], from: &str) {
+    let mut state = RawState::empty(limit);
     panel.lend_state(&state);
     panel.lend_program(program);
     let (mut number, mut place) = (DONE, 0);
@@ -87,7 +115,7 @@ fn step_all(random: &mut Random, panel: &mut Panel, program: &[u8], from: &str) 
             .note(Event::WentOn, refused && number == DONE);
     }
     let place = if number == DONE { 0 } else { place };
-    let end = run_records(program, |_, _, _| {});
+    let end = run_records(limit, program, |_, _, _| {});
     if (end.number, end.place) != (number, place) || RawState::of(&end.state) != state {
         fail("the model's step differs from its run");
     }
@@ -100,9 +128,9 @@ fn step_all(random: &mut Random, panel: &mut Panel, program: &[u8], from: &str) 
     } else {
         packed(number, place)
     };
-    let given = library_run(program);
+    let given = library_run(limit, program);
     if given != expected {
-        report_difference(program, expected, given, "steps of the program");
+        report_difference(limit, program, expected, given, "steps of the program");
     }
     if !panel.program_stands(program) {
         fail("the library's step writes to a program or around it");
@@ -182,9 +210,9 @@ fn wide_slices(random: &mut Random, panel: &mut Panel) {
 const BASE_EVERY: usize = 20;
 
 /// Each change made alone to a state in range, then a step and a list.
-fn sweep(random: &mut Random, panel: &mut Panel) {
+fn sweep(random: &mut Random, panel: &mut Panel, turn: usize) {
     let mut base = sound_state(random);
-    for (place, change) in every_change().into_iter().enumerate() {
+    for (place, change) in every_change(turn).into_iter().enumerate() {
         if place % BASE_EVERY == 0 {
             base = sound_state(random);
         }
@@ -199,17 +227,14 @@ fn sweep(random: &mut Random, panel: &mut Panel) {
             any_bytes(random, &sound.state())
         };
         let foul = state.foul();
-        let listed = made(random, panel, &sound, state, &bytes, "one value changed");
+        made(random, panel, &sound, state, &bytes, "one value changed");
         panel.coverage.change(Service::Step, &change, foul);
-        if listed {
-            panel.coverage.change(Service::List, &change, foul);
-        }
+        panel.coverage.change(Service::List, &change, foul);
         panel.coverage.note(Event::FoulTouched, touches && foul);
     }
 }
 
-/// A list and a step, in either order, of a state made from one in range. Gives whether the list
-/// was of the state as it was made.
+/// A list and a step of a state made from one in range, at times another list then.
 fn made(
     random: &mut Random,
     panel: &mut Panel,
@@ -217,23 +242,67 @@ fn made(
     mut state: RawState,
     bytes: &[u8],
     from: &str,
-) -> bool {
-    let foul = state.foul();
-    if foul {
+) {
+    if state.foul() {
         let number = look(&sound.state(), bytes).map_or_else(|number| number, |_| DONE);
-        panel.coverage.foul_over(number);
+        panel.coverage.foul_over(&state, number);
     }
     let count = any_count(random);
     panel.lend_state(&state);
-    let first = random.percent(75);
-    if first {
-        panel.list(Source::Made, &state, count, from);
-    }
+    panel.list(Source::Made, &state, count, from);
     panel.step(Source::Made, &mut state, bytes, from);
-    if !first {
+    if random.percent(25) {
         panel.list(Source::Made, &state, count, from);
     }
-    first || foul
+}
+
+// A reached state at other limits than the one it was reached at.
+
+/// States of each limit, and those lent at each limit that must come before every number.
+const LIMIT_STATES: usize = 150;
+const BAD_LIMIT_STATES: usize = 600;
+
+fn other_limits(random: &mut Random, panel: &mut Panel) {
+    for limit in LIMITS {
+        for _ in 0..LIMIT_STATES {
+            let state = reached_state(random, limit);
+            for other in CALL_LIMITS {
+                at_other_limit(random, panel, &state, other);
+            }
+        }
+    }
+    for limit in BAD_LIMITS {
+        for _ in 0..BAD_LIMIT_STATES {
+            let state = sound_state(random);
+            at_other_limit(random, panel, &state, limit);
+        }
+    }
+}
+
+/// A state in range with its limit byte changed, then a list and a step.
+fn at_other_limit(random: &mut Random, panel: &mut Panel, sound: &RawState, limit: u8) {
+    let mut state = sound.clone();
+    state.limit = limit;
+    let held = state.loops.iter().max().copied().unwrap_or(0);
+    let bytes = if state.foul() {
+        any_bytes(random, &sound.state())
+    } else {
+        any_bytes(random, &state.state())
+    };
+    let mut stepped = state.clone();
+    let accepted = step_first(&mut stepped, &bytes).number == DONE;
+    let fullest = stepped.loops.iter().max().copied().unwrap_or(0);
+    let (down, up) = (limit < sound.limit, limit > sound.limit);
+    let events = [
+        (Event::LimitUnder, !is_bad(limit) && limit < held),
+        (Event::LimitDown, accepted && down && limit == held),
+        (Event::LimitUp, accepted && up),
+        (Event::LimitFuller, accepted && up && fullest > sound.limit),
+    ];
+    for (event, happened) in events {
+        panel.coverage.note(event, happened);
+    }
+    made(random, panel, sound, state, &bytes, "another limit");
 }
 
 // Random states, several values changed, random bytes.
@@ -283,10 +352,13 @@ const LISTED_STATES: usize = 4_000;
 
 /// Every length of list, for states that are reached, random, or foul by one value.
 fn lists(random: &mut Random, panel: &mut Panel) {
-    let changes = every_change();
+    let changes = every_change(0);
     for _ in 0..LISTED_STATES {
         let (source, state) = match random.below(3) {
-            0 => (Source::Reached, reached_state(random)),
+            0 => {
+                let limit = random.limit();
+                (Source::Reached, reached_state(random, limit))
+            }
             1 => (Source::Made, random_state(random)),
             _ => {
                 let mut state = sound_state(random);

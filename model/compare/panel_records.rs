@@ -107,11 +107,19 @@ pub fn any_bytes(random: &mut Random, state: &State) -> Vec<u8> {
     bytes
 }
 
+fn drop_at(hook: usize) -> Vec<u8> {
+    vec![DROP, (hook / NEEDLES) as u8, (hook % NEEDLES) as u8]
+}
+
 /// A record that works on the changed field, and would often put it right.
 pub fn touching(random: &mut Random, field: Field, state: &RawState) -> Vec<u8> {
     match field {
         Field::Racking => vec![RACK, random.racking() as u8],
-        Field::Loops(hook) => vec![DROP, (hook / NEEDLES) as u8, (hook % NEEDLES) as u8],
+        Field::Loops(hook) => drop_at(hook),
+        Field::Limit => {
+            let over = |hook: &usize| state.loops[*hook] > state.limit;
+            drop_at((0..HOOKS).find(over).unwrap_or(0))
+        }
         Field::Active(k) | Field::Side(k) | Field::Slot(k) | Field::Bed(k) | Field::Needle(k) => {
             let direction = random.below(2) as u8;
             let slot = i32::from(state.carriers[k].slot);

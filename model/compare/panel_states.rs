@@ -17,13 +17,15 @@ pub enum Status {
 
 pub const STATUSES: [Status; 3] = [Status::Inactive, Status::Unattached, Status::Attached];
 
-fn any_loops(random: &mut Random) -> [u8; HOOKS] {
+/// Loops up to a limit.
+fn any_loops(random: &mut Random, limit: u8) -> [u8; HOOKS] {
+    let all: Vec<u8> = (0..=limit).collect();
     let choices: [&[u8]; 5] = [
         &[0],
-        &[8],
-        &[0, 1, 7, 8],
-        &[0, 0, 0, 0, 0, 0, 0, 0, 0, 0, 1, 2],
-        &[0, 1, 2, 3, 4, 5, 6, 7, 8],
+        &[limit],
+        &[0, 1, limit - 1, limit],
+        &[0, 0, 0, 0, 0, 0, 0, 0, 0, 0, 1, limit.min(2)],
+        &all,
     ];
     let counts = random.pick(&choices);
     let mut loops = [0; HOOKS];
@@ -69,9 +71,9 @@ pub fn any_carrier(random: &mut Random, status: Status) -> RawCarrier {
 
 /// Any state in range.
 pub fn random_state(random: &mut Random) -> RawState {
-    let mut state = RawState::empty();
+    let mut state = RawState::empty(random.limit());
     state.racking = random.racking() as i8;
-    state.loops = any_loops(random);
+    state.loops = any_loops(random, state.limit);
     for carrier in &mut state.carriers {
         let status = random.pick(&STATUSES);
         *carrier = any_carrier(random, status);
@@ -97,18 +99,29 @@ fn gather(random: &mut Random, state: &mut RawState) {
     }
 }
 
-/// A state that a run ends in.
-pub fn reached_state(random: &mut Random) -> RawState {
-    RawState::of(&run(&whole_program(random)).state)
+/// A state that a run at a limit ends in.
+pub fn reached_state(random: &mut Random, limit: u8) -> RawState {
+    RawState::of(&run_at(limit, &whole_program(random, limit)).state)
 }
 
 /// A state in range: reached by a run, random, or empty.
 pub fn sound_state(random: &mut Random) -> RawState {
+    let limit = random.limit();
     match random.below(10) {
-        0..=3 => reached_state(random),
-        4 => RawState::empty(),
+        0..=3 => reached_state(random, limit),
+        4 => RawState::empty(limit),
         _ => random_state(random),
     }
+}
+
+/// The state with another limit in range, to which it is emptied where it holds more.
+pub fn fitted(state: &RawState, limit: u8) -> RawState {
+    let mut state = state.clone();
+    state.limit = limit;
+    for count in &mut state.loops {
+        *count = (*count).min(limit);
+    }
+    state
 }
 
 // One value of a state changed.
@@ -117,6 +130,7 @@ pub fn sound_state(random: &mut Random) -> RawState {
 #[derive(Clone, Copy)]
 pub enum Field {
     Racking,
+    Limit,
     Loops(usize),
     Active(usize),
     Side(usize),
@@ -135,10 +149,11 @@ pub const CARRIER_FIELDS: [fn(usize) -> Field; 5] = [
 
 impl Field {
     /// The values just in range and just out of it, those that a narrower number would mistake, the
-    /// least and the most; of loops, every value on some hook.
+    /// least and the most; of the limit, all; of loops, every value on some hook.
     pub fn values(self) -> Vec<i32> {
         match self {
             Field::Racking => (-128..=127).collect(),
+            Field::Limit => (0..=255).collect(),
             Field::Loops(hook) => vec![8, 9, 10 + (hook % 245) as i32, 255],
             Field::Active(_) => vec![0, 1, 2, 3, 127, 128, 254, 255],
             Field::Side(_) => vec![0, 1, 2, 3, 4, 127, 128, 129, 255],
@@ -156,6 +171,7 @@ impl Field {
     pub fn set(self, state: &mut RawState, value: i32) {
         match self {
             Field::Racking => state.racking = value as i8,
+            Field::Limit => state.limit = value as u8,
             Field::Loops(hook) => state.loops[hook] = value as u8,
             Field::Active(k) => state.carriers[k].active = value as u8,
             Field::Side(k) => state.carriers[k].side = value as u8,
@@ -166,12 +182,13 @@ impl Field {
     }
 }
 
-/// A field to change; for a carrier's field, what the carrier is before.
+/// A field to change; for a carrier's field, what the carrier is before, and for loops, the limit.
 #[derive(Clone, Copy)]
 pub struct Change {
     pub field: Field,
     pub value: i32,
     pub before: Option<(usize, Status)>,
+    pub limit: Option<u8>,
 }
 
 fn changes_of(field: Field, before: Option<(usize, Status)>) -> impl Iterator<Item = Change> {
@@ -179,14 +196,34 @@ fn changes_of(field: Field, before: Option<(usize, Status)>) -> impl Iterator<It
         field,
         value,
         before,
+        limit: None,
     })
 }
 
-/// Every value of every field, with every status of a carrier.
-pub fn every_change() -> Vec<Change> {
+/// A hook's loops at a limit and one over it, and at limit 8 every value of the field.
+fn loop_changes(hook: usize, limit: u8) -> impl Iterator<Item = Change> {
+    let field = Field::Loops(hook);
+    let change = move |limit, value| Change {
+        field,
+        value,
+        before: None,
+        limit: Some(limit),
+    };
+    let edges = [0, 1].map(|more| change(limit, i32::from(limit) + more));
+    let values = field.values().into_iter();
+    edges
+        .into_iter()
+        .chain(values.map(move |value| change(HOOK_LIMIT, value)))
+}
+
+/// Every value of every field, with every status of a carrier; in eight turns, every limit at each
+/// hook.
+pub fn every_change(turn: usize) -> Vec<Change> {
     let mut changes: Vec<Change> = changes_of(Field::Racking, None).collect();
+    changes.extend(changes_of(Field::Limit, None));
     for hook in 0..HOOKS {
-        changes.extend(changes_of(Field::Loops(hook), None));
+        let limit = 1 + (hook + turn) % usize::from(HOOK_LIMIT);
+        changes.extend(loop_changes(hook, limit as u8));
     }
     for carrier in 0..CARRIERS {
         for status in STATUSES {
@@ -199,8 +236,11 @@ pub fn every_change() -> Vec<Change> {
 }
 
 impl Change {
-    /// Gives the carrier its status; the state stays in range.
+    /// Gives the state its limit or the carrier its status; the state stays in range.
     pub fn prepare(&self, random: &mut Random, state: &mut RawState) {
+        if let Some(limit) = self.limit {
+            *state = fitted(state, limit);
+        }
         let Some((carrier, status)) = self.before else {
             return;
         };
@@ -215,8 +255,9 @@ impl Change {
 // Several values changed, and random bytes.
 
 fn any_field(random: &mut Random) -> Field {
-    match random.below(8) {
+    match random.below(9) {
         0 => Field::Racking,
+        8 => Field::Limit,
         1 => Field::Loops(random.below(HOOKS)),
         _ => random.pick(&CARRIER_FIELDS)(random.below(CARRIERS)),
     }
@@ -248,7 +289,8 @@ pub fn random_bytes(random: &mut Random) -> RawState {
     let mut state = state_of(&bytes);
     if random.percent(30) {
         state.racking = random.racking() as i8;
-        state.loops = any_loops(random);
+        state.limit = random.limit();
+        state.loops = any_loops(random, state.limit);
     }
     state
 }

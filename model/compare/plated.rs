@@ -90,13 +90,13 @@ pub fn with_any(random: &mut Random, draft: &mut Draft, m: CarrierMove) -> Optio
     Some(with_second(random, m, carrier))
 }
 
-fn plated_draft(random: &mut Random) -> Option<(Draft, Record)> {
-    let mut draft = Draft::new();
+fn plated_draft(random: &mut Random, limit: u8) -> Option<(Draft, Record)> {
+    let mut draft = Draft::new(limit);
     draft.add(&Record::Rack(random.racking()))?;
     let column = random.between(-8, 257);
     let needle = any_needle_at(random, &draft.state, column)?;
     let loops = random.pick(&[0, 1, 2, 3, 4, 5, 6, 6, 7, 7, 8]);
-    tuck_to(random, &mut draft, needle, loops)?;
+    tuck_to(random, &mut draft, needle, loops.min(limit))?;
     let carrier = draft.inactive_carrier(random)?;
     let m = carrier_move(random.direction(), needle, carrier);
     let standing = any_standing(random);
@@ -106,9 +106,9 @@ fn plated_draft(random: &mut Random) -> Option<(Draft, Record)> {
 }
 
 /// A valid draft and a plated stitch after it, accepted or refused.
-pub fn plated_case(random: &mut Random) -> (Draft, Record) {
+pub fn plated_case(random: &mut Random, limit: u8) -> (Draft, Record) {
     loop {
-        if let Some(case) = plated_draft(random) {
+        if let Some(case) = plated_draft(random, limit) {
             return case;
         }
     }
@@ -127,8 +127,8 @@ fn spoil_carriers(random: &mut Random, bytes: &mut [u8]) {
 }
 
 /// A program that ends with a plated stitch, at times with bad carriers or cut short.
-pub fn plated_program(random: &mut Random) -> Vec<u8> {
-    let (draft, record) = plated_case(random);
+pub fn plated_program(random: &mut Random, limit: u8) -> Vec<u8> {
+    let (draft, record) = plated_case(random, limit);
     let mut bytes = bytes_of(&record);
     match random.below(10) {
         0 | 1 => spoil_carriers(random, &mut bytes),
@@ -140,8 +140,8 @@ pub fn plated_program(random: &mut Random) -> Vec<u8> {
 
 /// The stitch, its carriers set to values in and out of range, and records that show where both
 /// carriers and the hook are after it.
-pub fn plated_stitches(random: &mut Random, check: Check) {
-    let (mut draft, record) = plated_case(random);
+pub fn plated_stitches(random: &mut Random, limit: u8, check: Check) {
+    let (mut draft, record) = plated_case(random, limit);
     let bytes = bytes_of(&record);
     check(&draft.with(&bytes));
     let mut changed = bytes.clone();

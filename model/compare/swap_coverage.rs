@@ -1,7 +1,9 @@
 //! What the compared rewriter calls came to: numbers, pairs of kinds, extents, racks, logs, areas.
 
+use crate::calls::Call;
 use crate::coverage::{events, KIND_COUNT, KIND_NAMES, NUMBERS};
 use crate::lend::place_in;
+use crate::limit_coverage::{is_bad, LimitCoverage, REWRITER};
 use crate::machine::*;
 use crate::plated_coverage::{PlatedCoverage, PlatedTies};
 use crate::rewrite::*;
@@ -72,6 +74,7 @@ pub struct SwapCoverage {
     pub swapped: u64,
     pub plated: PlatedCoverage,
     pub plated_ties: PlatedTies,
+    pub limits: LimitCoverage,
     kinds: [[[u64; 2]; KIND_COUNT]; KIND_COUNT],
     lengths: [[u64; 7]; 7],
     classes: Vec<[u64; 2]>,
@@ -103,6 +106,7 @@ impl SwapCoverage {
             swapped: 0,
             plated: PlatedCoverage::new(),
             plated_ties: PlatedTies::new(),
+            limits: LimitCoverage::new(REWRITER),
             kinds: [[[0; 2]; KIND_COUNT]; KIND_COUNT],
             lengths: [[0; 7]; 7],
             classes: vec![[0; 2]; PAIR_CLASSES],
@@ -116,31 +120,34 @@ impl SwapCoverage {
     }
 
     /// Runs the model's rewriter and counts what it comes to.
-    pub fn rewrite(
-        &mut self,
-        program: &[u8],
-        log: &[u8],
-        output: &mut [u8],
-        work: &mut [u16],
-    ) -> Answer {
+    pub fn rewrite(&mut self, call: &Call, output: &mut [u8], work: &mut [u16]) -> Answer {
+        let (limit, program, log) = (call.limit, call.program, call.log);
         let mut progress = Progress::default();
-        let answer = rewrite_watched(program, log, output, work, |order, log, number| {
+        let answer = rewrite_watched(limit, program, log, output, work, |order, log, number| {
             self.log_record(order, log, number, &mut progress);
         });
         self.numbers[usize::from(answer.number)] += 1;
+        if is_bad(limit) {
+            self.bad_limit(call);
+            return answer;
+        }
+        self.limits.call(limit, answer.number);
         self.areas[area_class(output.len(), program.len())]
             [area_class(work.len(), program.len() / 2)] += 1;
         if is_written(answer.number) {
             self.written(program, log, answer.number, progress.made);
         } else {
-            self.refused(program, log, answer.number);
+            self.refused(call, answer.number);
         }
         if answer.number == DONE {
             self.done(program, output.len(), work.len());
         }
         if !matches!(answer.number, TOO_LONG | NO_BENCH) {
-            run_watched(program, |state, bytes, number| {
-                self.plated.record(state, bytes, number);
+            run_watched(limit, program, |state, bytes, number| {
+                self.limits.record(state, bytes, number);
+                if limit == HOOK_LIMIT {
+                    self.plated.record(state, bytes, number);
+                }
             });
         }
         if answer.number == TOO_LONG {
@@ -148,6 +155,13 @@ impl SwapCoverage {
             self.note(Event::TooLongNoBench, short);
         }
         answer
+    }
+
+    /// Counts a call at a limit out of range by what it would come to at 8.
+    fn bad_limit(&mut self, call: &Call) {
+        let (mut output, mut work) = (vec![0; call.output], vec![0; call.work]);
+        let answer = rewrite_at(HOOK_LIMIT, call.program, call.log, &mut output, &mut work);
+        self.limits.bad(call.limit, answer.number);
     }
 
     /// Counts a refused call with output and work in read-only memory: a store would have ended the
@@ -328,10 +342,11 @@ impl SwapCoverage {
         }
     }
 
-    fn refused(&mut self, program: &[u8], log: &[u8], number: u8) {
+    fn refused(&mut self, call: &Call, number: u8) {
+        let (program, log) = (call.program, call.log);
         let over_program = program.len() > PROGRAM_LIMIT;
         let over_log = log.len() > LOG_LIMIT;
-        let faulty = !over_program && run(program).number != DONE;
+        let faulty = !over_program && run_at(call.limit, program).number != DONE;
         match number {
             TOO_LONG => {
                 let just = |length: usize| length == 32_769;
@@ -357,7 +372,7 @@ impl SwapCoverage {
     /// The names of counts that are zero and should not be.
     pub fn missing(&self) -> Vec<String> {
         let mut missing = Vec::new();
-        for number in (DONE..=TORN_LOG).chain([YARN_TWICE]) {
+        for number in DONE..=YARN_TWICE {
             if self.numbers[usize::from(number)] == 0 {
                 missing.push(format!("rewriter number {number}"));
             }
@@ -378,6 +393,7 @@ impl SwapCoverage {
         self.missing_areas(&mut missing);
         missing.extend(self.plated.missing("rewriter"));
         missing.extend(self.plated_ties.missing());
+        missing.extend(self.limits.missing());
         missing
     }
 

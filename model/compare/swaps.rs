@@ -77,7 +77,8 @@ fn placed(state: &State, actor: Actor, column: i32, direction: Direction) -> Opt
 
 /// The actor's record at racking 0, over a column that both beds have.
 pub fn lone_record(actor: Actor, column: i32) -> Record {
-    placed(&State::empty(), actor, column, Direction::Right).expect("a column of both beds")
+    placed(&State::empty(HOOK_LIMIT), actor, column, Direction::Right)
+        .expect("a column of both beds")
 }
 
 /// Brings a carrier of the record in where the record wants it.
@@ -97,7 +98,7 @@ fn directed_pair(
     places: [(Actor, i32); 2],
     directions: [Direction; 2],
 ) -> Option<Draft> {
-    let mut draft = Draft::new();
+    let mut draft = Draft::new(HOOK_LIMIT);
     draft.add(&Record::Rack(racking))?;
     let [first, second] = [0, 1].map(|at| {
         let (actor, column) = places[at];
@@ -190,8 +191,8 @@ fn add_lanes(
 }
 
 /// A valid program over lanes, with racks or without.
-pub fn laned(random: &mut Random, length: usize) -> Vec<u8> {
-    let mut draft = Draft::new();
+pub fn laned(random: &mut Random, limit: u8, length: usize) -> Vec<u8> {
+    let mut draft = Draft::new(limit);
     if random.percent(50) {
         draft.add(&Record::Rack(random.racking()));
     }
@@ -202,8 +203,8 @@ pub fn laned(random: &mut Random, length: usize) -> Vec<u8> {
 }
 
 /// A valid program over lanes of exactly so many bytes; racks and drops make the last of them.
-pub fn laned_exactly(random: &mut Random, length: usize) -> Vec<u8> {
-    let mut draft = Draft::new();
+pub fn laned_exactly(random: &mut Random, limit: u8, length: usize) -> Vec<u8> {
+    let mut draft = Draft::new(limit);
     let racks = random.percent(50);
     let wants = |record: &Record| racks || !matches!(record, Record::Rack(_));
     add_lanes(random, &mut draft, length.saturating_sub(10), wants);
@@ -212,9 +213,9 @@ pub fn laned_exactly(random: &mut Random, length: usize) -> Vec<u8> {
 }
 
 /// As many records of five bytes as there may be, and a drop among them: 32,768 bytes.
-pub fn full_of_fives(random: &mut Random) -> Vec<u8> {
+pub fn full_of_fives(random: &mut Random, limit: u8) -> Vec<u8> {
     loop {
-        let mut draft = Draft::new();
+        let mut draft = Draft::new(limit);
         draft.add(&Record::Drop(Needle {
             bed: Bed::Back,
             number: random.below(NEEDLES),
@@ -245,7 +246,7 @@ fn rack_positions(random: &mut Random, count: usize) -> Vec<usize> {
 
 /// A valid program on few columns, whose racks are close to each other and stand near 64ths; with
 /// it, the positions of its racks.
-pub fn racked(random: &mut Random) -> (Vec<u8>, Vec<usize>) {
+pub fn racked(random: &mut Random, limit: u8) -> (Vec<u8>, Vec<usize>) {
     let count = random.pick(&[64, 65, 66, 70, 70, 128, 130, 135, 200, 262]);
     let racks = rack_positions(random, count);
     let middle = random.between(-6, 6);
@@ -253,7 +254,7 @@ pub fn racked(random: &mut Random) -> (Vec<u8>, Vec<usize>) {
     crowd.rackings = (-2..=2).map(|more| middle + more).collect();
     crowd.first = random.between(8, 230);
     crowd.last = crowd.first + random.between(1, 5);
-    let mut draft = Draft::new();
+    let mut draft = Draft::new(limit);
     for position in 0..count {
         if racks.contains(&position) {
             draft.add(&Record::Rack(random.pick(&crowd.rackings)));
@@ -276,7 +277,7 @@ pub fn racked(random: &mut Random) -> (Vec<u8>, Vec<usize>) {
 pub fn full_of_short_records(random: &mut Random) -> Vec<u8> {
     let middle = random.between(-6, 6);
     let first = random.between(8, 230);
-    let mut draft = Draft::new();
+    let mut draft = Draft::new(HOOK_LIMIT);
     for position in 0.. {
         if draft.bytes.len() + 4 > PROGRAM_LIMIT {
             break;

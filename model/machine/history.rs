@@ -1,4 +1,5 @@
-//! What no list of rewriter calls may change: validity, final state, racks, stretches, histories.
+//! What no list of rewriter calls may change: validity, final state, racks, stretches, histories;
+//! and what no greater limit may.
 
 use crate::machine::*;
 use std::collections::HashMap;
@@ -72,9 +73,11 @@ impl<'a> Story<'a> {
     }
 }
 
-/// What differs between a valid program and the one that calls made of it, if anything does.
-pub fn difference(before: &[u8], after: &[u8]) -> Option<&'static str> {
-    let (run_before, run_after) = (run(before), run(after));
+/// What differs between a program valid at a limit and the one that calls made of it, if anything
+/// does. "Valid now means at a limit: demand 2 holds at each, demand 3 at the starting program's,
+/// whatever limits its calls are given" (02, W2).
+pub fn difference(limit: u8, before: &[u8], after: &[u8]) -> Option<&'static str> {
+    let (run_before, run_after) = (run_at(limit, before), run_at(limit, after));
     if run_before.number != DONE || run_after.number != DONE {
         return Some("one program is not valid");
     }
@@ -89,4 +92,20 @@ pub fn difference(before: &[u8], after: &[u8]) -> Option<&'static str> {
         return Some("a needle's history differs");
     }
     (old.carriers != new.carriers).then_some("a carrier's history differs")
+}
+
+/// What differs between a program's runs at a limit and at a greater one, if anything does: once
+/// valid, it is valid at the greater one, with the same final state but for the limit.
+pub fn raised_difference(lower: &Answer, greater: &Answer) -> Option<&'static str> {
+    if lower.number != DONE {
+        return None;
+    }
+    if greater.number != DONE {
+        return Some("a program is valid at a limit and not at a greater one");
+    }
+    let raised = State {
+        limit: greater.state.limit,
+        ..lower.state.clone()
+    };
+    (raised != greater.state).then_some("the final states differ by more than the limit")
 }

@@ -13,6 +13,7 @@ pub const WRONG_SLOT: u8 = 8;
 pub const FLOAT_TOO_LONG: u8 = 9;
 pub const NOT_OPPOSITE: u8 = 10;
 pub const HOOK_FULL: u8 = 11;
+pub const FOUL_STATE: u8 = 15;
 pub const YARN_TWICE: u8 = 16;
 
 /// The numbers of a record that was read whole, its fields in range, in the order of looking.
@@ -33,7 +34,13 @@ pub fn is_of_record(number: u8) -> bool {
 pub const NEEDLES: usize = 250;
 pub const CARRIERS: usize = 10;
 pub const MAX_RACKING: i32 = 8;
+
+/// Hook limits: "The machine state gains a hook limit, 1 to 8" (02, W2).
+pub const LIMITS: RangeInclusive<u8> = 1..=8;
+
+/// The limit of calls that are given none: "The listing and the C entry run with limit 8" (02, W2).
 pub const HOOK_LIMIT: u8 = 8;
+
 pub const FLOAT_LIMIT: i32 = 20;
 pub const PROGRAM_LIMIT: usize = 32_768;
 
@@ -82,12 +89,14 @@ pub struct Parked {
     pub attachment: Option<Attachment>,
 }
 
-/// Carrier k is at index k - 1; None is an inactive one.
+/// Carrier k is at index k - 1; None is an inactive one. The limit is "given when a run starts and
+/// kept by every step" (02, W2).
 #[derive(Clone, PartialEq, Eq, Debug)]
 pub struct State {
     pub racking: i32,
     pub front_loops: [u8; NEEDLES],
     pub back_loops: [u8; NEEDLES],
+    pub limit: u8,
     pub carriers: [Option<Parked>; CARRIERS],
 }
 
@@ -129,17 +138,24 @@ pub struct Answer {
 }
 
 impl Answer {
-    /// A refusal before the program is looked at.
-    pub fn not_run(number: u8) -> Answer {
+    /// A refusal before the program is looked at, at a limit in range.
+    pub fn not_run(limit: u8, number: u8) -> Answer {
         Answer {
             number,
             place: 0,
-            state: State::empty(),
+            state: State::empty(limit),
         }
     }
 
+    /// "a run or rewrite started with a bad limit gets 15 too, before everything else, with the
+    /// empty state of limit 8, complete" (02, W2).
+    pub fn bad_limit() -> Answer {
+        Answer::not_run(HOOK_LIMIT, FOUL_STATE)
+    }
+
+    /// "The empty state has the limit given, and complete compares against that" (02, W2).
     pub fn complete(&self) -> bool {
-        self.state == State::empty()
+        self.state == State::empty(self.state.limit)
     }
 
     /// The answer as the C entries give it.
@@ -188,11 +204,12 @@ pub fn exit_slot(column: i32, direction: Direction) -> i32 {
 }
 
 impl State {
-    pub fn empty() -> State {
+    pub fn empty(limit: u8) -> State {
         State {
             racking: 0,
             front_loops: [0; NEEDLES],
             back_loops: [0; NEEDLES],
+            limit,
             carriers: [None; CARRIERS],
         }
     }
@@ -441,13 +458,25 @@ fn not_opposite(state: &State, record: &Record) -> bool {
     }
 }
 
-fn hook_full(state: &State, record: &Record) -> bool {
-    match (record, record.transfer()) {
-        (Record::Tuck(m), _) => state.loops(m.needle) + 1 > HOOK_LIMIT,
-        (Record::PlatedTuck(p), _) => state.loops(p.first.needle) + 2 > HOOK_LIMIT,
-        (_, Some((first, second))) => state.loops(first) + state.loops(second) > HOOK_LIMIT,
-        _ => false,
+/// The loops on a hook that are measured against the limit: those there after a tuck or plated
+/// stitch, or on the second hook of an xfer or split. One loop always fits, so a knit and a split's
+/// own loop are not measured.
+pub fn loops_measured(state: &State, record: &Record) -> Option<u8> {
+    match *record {
+        Record::Tuck(m) => Some(state.loops(m.needle) + 1),
+        Record::PlatedTuck(p) => Some(state.loops(p.first.needle) + 2),
+        Record::PlatedKnit(_) => Some(2),
+        _ => {
+            let (first, second) = record.transfer()?;
+            Some(state.loops(first) + state.loops(second))
+        }
     }
+}
+
+/// "Number 11 is measured against it for all loop-forming and moving records, so a plated knit at
+/// limit 1 gets 11" (02, W2).
+fn hook_full(state: &State, record: &Record) -> bool {
+    loops_measured(state, record).is_some_and(|loops| loops > state.limit)
 }
 
 pub fn holds(state: &State, record: &Record, number: u8) -> bool {
@@ -560,10 +589,10 @@ pub fn step(state: &mut State, record: &Record) -> Result<(), u8> {
 
 // The run.
 
-/// Runs the records in turn without a limit of length. Before each step, `watch` gets the state,
-/// the bytes from the record on, and the record's number.
-pub fn run_records(program: &[u8], mut watch: impl FnMut(&State, &[u8], u8)) -> Answer {
-    let mut state = State::empty();
+/// Runs the records in turn at a hook limit in range, whatever the program's length. Before each
+/// step, `watch` gets the state, the bytes from the record on, and the record's number.
+pub fn run_records(limit: u8, program: &[u8], mut watch: impl FnMut(&State, &[u8], u8)) -> Answer {
+    let mut state = State::empty(limit);
     let mut place = 0;
     while place < program.len() {
         let bytes = &program[place..];
@@ -590,13 +619,20 @@ pub fn run_records(program: &[u8], mut watch: impl FnMut(&State, &[u8], u8)) -> 
     }
 }
 
-pub fn run_watched(program: &[u8], watch: impl FnMut(&State, &[u8], u8)) -> Answer {
-    if program.len() > PROGRAM_LIMIT {
-        return Answer::not_run(TOO_LONG);
+pub fn run_watched(limit: u8, program: &[u8], watch: impl FnMut(&State, &[u8], u8)) -> Answer {
+    if !LIMITS.contains(&limit) {
+        return Answer::bad_limit();
     }
-    run_records(program, watch)
+    if program.len() > PROGRAM_LIMIT {
+        return Answer::not_run(limit, TOO_LONG);
+    }
+    run_records(limit, program, watch)
+}
+
+pub fn run_at(limit: u8, program: &[u8]) -> Answer {
+    run_watched(limit, program, |_, _, _| {})
 }
 
 pub fn run(program: &[u8]) -> Answer {
-    run_watched(program, |_, _, _| {})
+    run_at(HOOK_LIMIT, program)
 }

@@ -1,22 +1,28 @@
-//! Paper 01's pieces for run and rewriter with the answers it gives, and rows for paper 02's W1.
+//! Paper 01's pieces for run and rewriter with the answers it gives, and rows for 02's W1 and W2.
 
 use crate::machine::*;
 use crate::rewrite::*;
 
-/// A program, its number and its place.
+/// A program at a limit, its number and its place.
 pub struct Piece {
     pub name: &'static str,
+    pub limit: u8,
     pub program: Vec<u8>,
     pub number: u8,
     pub place: usize,
 }
 
 fn piece(name: &'static str, program: Vec<u8>, number: u8, place: usize) -> Piece {
+    piece_at(HOOK_LIMIT, name, program, (number, place))
+}
+
+fn piece_at(limit: u8, name: &'static str, program: Vec<u8>, answer: (u8, usize)) -> Piece {
     Piece {
         name,
+        limit,
         program,
-        number,
-        place,
+        number: answer.0,
+        place: answer.1,
     }
 }
 
@@ -64,6 +70,10 @@ pub fn pieces() -> Vec<Piece> {
     let mut pieces = paper_pieces();
     pieces.extend(plated_pieces());
     pieces.extend(second_carrier_pieces());
+    pieces.extend(tuck_limit_pieces());
+    pieces.extend(stitch_limit_pieces());
+    pieces.extend(transfer_limit_pieces());
+    pieces.extend(bad_limit_pieces());
     pieces
 }
 
@@ -176,8 +186,91 @@ fn second_carrier_pieces() -> Vec<Piece> {
     ]
 }
 
+// Hook limits (W2).
+
+/// As many tucks as the limit and one more, at each limit.
+fn tuck_limit_pieces() -> Vec<Piece> {
+    let at = |limit: u8| {
+        let count = usize::from(limit);
+        let over = (HOOK_FULL, 5 + 5 * count);
+        [
+            piece_at(limit, "W2, tucks up to the limit", tucks(count), (DONE, 0)),
+            piece_at(limit, "W2, one tuck more", tucks(count + 1), over),
+        ]
+    };
+    LIMITS.flat_map(at).collect()
+}
+
+/// Knits, plated knits and plated tucks at limits about two.
+fn stitch_limit_pieces() -> Vec<Piece> {
+    let knits = || {
+        let turns = [front(KNIT, 1, 10), front(KNIT, 0, 10), front(KNIT, 1, 10)];
+        [front(IN, 1, 10).to_vec(), turns.concat()].concat()
+    };
+    let plated_knit_on = |loops| plated_onto(loops, PLATED_KNIT);
+    let tuck_on = |loops| plated_onto(loops, PLATED_TUCK);
+    vec![
+        piece_at(1, "W2, knits at 1", knits(), (DONE, 0)),
+        piece_at(1, "W2, plated knit at 1", plated_knit(), (HOOK_FULL, 10)),
+        piece_at(2, "W2, plated knit at 2", plated_knit(), (DONE, 0)),
+        piece_at(2, "W2, plated knit on 2", plated_knit_on(2), (DONE, 0)),
+        piece_at(1, "W2, plated tuck at 1", tuck_on(0), (HOOK_FULL, 15)),
+        piece_at(2, "W2, plated tuck at 2", tuck_on(0), (DONE, 0)),
+        piece_at(2, "W2, plated tuck on 1", tuck_on(1), (HOOK_FULL, 20)),
+        piece_at(3, "W2, plated tuck on 1 at 3", tuck_on(1), (DONE, 0)),
+        piece_at(3, "W2, plated tuck on 2 at 3", tuck_on(2), (HOOK_FULL, 25)),
+        piece_at(1, "W2, 16 at 1", plated(11, 10, [3, 3]), (YARN_TWICE, 0)),
+        piece_at(1, "W2, 7 at 1", plated(11, 10, [3, 4]), (NOT_IN, 0)),
+    ]
+}
+
+/// Tucks on f.10 by carrier 3 and on b.10 by carrier 4, then a record there.
+fn loaded(on_front: usize, on_back: usize, last: &[u8]) -> Vec<u8> {
+    let mut back = tucks(on_back);
+    for record in back.chunks_mut(5) {
+        (record[2], record[4]) = (1, 4);
+    }
+    [&tucks(on_front), &back, last].concat()
+}
+
+/// Transfers whose loops just fit the second hook, and one loop more; a split's own always fits.
+fn transfer_limit_pieces() -> Vec<Piece> {
+    let xfer = |first, second| loaded(first, second, &[XFER, 0, 10, 10]);
+    let split = |first, second| {
+        let by_five = [IN, 1, 0, 10, 5, SPLIT, 1, 0, 10, 5, 10];
+        loaded(first, second, &by_five)
+    };
+    vec![
+        piece_at(1, "W2, xfer 1 and 0", xfer(1, 0), (DONE, 0)),
+        piece_at(1, "W2, xfer 1 and 1", xfer(1, 1), (HOOK_FULL, 20)),
+        piece_at(1, "W2, xfer 0 and 1", xfer(0, 1), (DONE, 0)),
+        piece_at(4, "W2, xfer 3 and 1", xfer(3, 1), (DONE, 0)),
+        piece_at(4, "W2, xfer 4 and 1", xfer(4, 1), (HOOK_FULL, 35)),
+        piece_at(5, "W2, xfer 4 and 1 at 5", xfer(4, 1), (DONE, 0)),
+        piece_at(1, "W2, split 0 and 1", split(0, 1), (DONE, 0)),
+        piece_at(1, "W2, split 1 and 0", split(1, 0), (DONE, 0)),
+        piece_at(1, "W2, split 1 and 1", split(1, 1), (HOOK_FULL, 25)),
+        piece_at(4, "W2, split 2 and 2", split(2, 2), (DONE, 0)),
+        piece_at(4, "W2, split 3 and 2", split(3, 2), (HOOK_FULL, 40)),
+    ]
+}
+
+/// Limits out of range, and 15 before 1.
+fn bad_limit_pieces() -> Vec<Piece> {
+    let too_long = || vec![0; PROGRAM_LIMIT + 1];
+    let mut pieces = vec![
+        piece_at(1, "W2, too long at 1", too_long(), (TOO_LONG, 0)),
+        piece_at(9, "W2, too long at 9", too_long(), (FOUL_STATE, 0)),
+        piece_at(9, "W2, P at 9", program_p(), (FOUL_STATE, 0)),
+        piece_at(9, "W2, kind 00 at 9", vec![0], (FOUL_STATE, 0)),
+    ];
+    let empty = |limit| piece_at(limit, "W2, bad limit", vec![], (FOUL_STATE, 0));
+    pieces.extend([0, 9, 128, 255].map(empty));
+    pieces
+}
+
 /// Whether the model ends P in the state that the paper lists and a plated knit with both carriers
-/// attached, and completes piece 9's in and out.
+/// attached, completes piece 9's in and out, and has the empty state's limit as W2 says.
 pub fn states_agree() -> bool {
     let parked = |bed| {
         let needle = Needle { bed, number: 10 };
@@ -189,25 +282,50 @@ pub fn states_agree() -> bool {
             }),
         })
     };
-    let mut listed = State::empty();
+    let mut listed = State::empty(HOOK_LIMIT);
     listed.front_loops[10] = 1;
     listed.back_loops[10] = 1;
     listed.carriers[2] = parked(Bed::Front);
     listed.carriers[3] = parked(Bed::Back);
-    let mut plated = State::empty();
+    let mut plated = State::empty(HOOK_LIMIT);
     plated.front_loops[10] = 2;
     plated.carriers[2] = parked(Bed::Front);
     plated.carriers[3] = parked(Bed::Front);
     let p = run(&program_p());
     let complete = run(&in_out()).complete() && run(&[]).complete();
-    p.state == listed && !p.complete() && complete && run(&plated_knit()).state == plated
+    let ends = p.state == listed && run(&plated_knit()).state == plated;
+    ends && !p.complete() && complete && limits_agree()
+}
+
+/// The limit of the states that W2 names: the given one, and 8 with 15; all of these are complete.
+fn limits_agree() -> bool {
+    let too_long = vec![0; PROGRAM_LIMIT + 1];
+    let empty = |answer: Answer, limit| answer.complete() && answer.state == State::empty(limit);
+    let given = |limit| {
+        let not_run = [run_at(limit, &too_long), no_bench(limit)];
+        let ends = [run_at(limit, &in_out()), run_at(limit, &[])];
+        not_run.into_iter().chain(ends).all(|a| empty(a, limit))
+    };
+    let bad = |limit| {
+        let answers = [run_at(limit, &too_long), no_bench(limit)];
+        answers.into_iter().all(|answer| empty(answer, HOOK_LIMIT))
+    };
+    let p = run_at(3, &program_p());
+    let all = LIMITS.into_iter().all(given) && [0, 9, 255].into_iter().all(bad);
+    all && p.state.limit == 3 && !p.complete()
+}
+
+/// A rewriter call that lends no output.
+fn no_bench(limit: u8) -> Answer {
+    rewrite_at(limit, &program_p(), &[], &mut [], &mut [])
 }
 
 // The rewriter's pieces.
 
-/// A program, a log, their number and place, and the output if the program is written.
+/// A program and a log at a limit, their number and place, and the output if it is written.
 pub struct SwapPiece {
     pub name: &'static str,
+    pub limit: u8,
     pub program: Vec<u8>,
     pub log: Vec<u8>,
     pub number: u8,
@@ -224,6 +342,7 @@ fn swap_piece(
 ) -> SwapPiece {
     SwapPiece {
         name,
+        limit: HOOK_LIMIT,
         program: program.to_vec(),
         log: log.to_vec(),
         number: answer.0,
@@ -308,12 +427,48 @@ fn plated_tie_pieces() -> Vec<SwapPiece> {
     ]
 }
 
+/// A piece at another limit.
+fn at(limit: u8, piece: SwapPiece) -> SwapPiece {
+    SwapPiece { limit, ..piece }
+}
+
+/// Swaps at limit 1 and 2, and limits out of range before everything else (W2).
+fn limit_swap_pieces() -> Vec<SwapPiece> {
+    let (p, two, foul) = (program_p(), [SWAP, 0, 2], [0x41]);
+    let knit = plated_knit();
+    let too_long = vec![0; PROGRAM_LIMIT + 1];
+    let refused = |name, program: &[u8], log: &[u8], number, place| {
+        swap_piece(name, program, log, (number, place), None)
+    };
+    let bad = |name, program: &[u8], log: &[u8]| refused(name, program, log, FOUL_STATE, 0);
+    vec![
+        at(
+            1,
+            swap_piece("W2, P", &p, &two, (DONE, 0), Some(&P_SWAPPED)),
+        ),
+        at(1, refused("W2, knit at 1", &knit, &foul, HOOK_FULL, 10)),
+        at(
+            2,
+            swap_piece("W2, foul", &knit, &foul, (TORN_LOG, 0), Some(&knit)),
+        ),
+        at(0, bad("W2, P at 0", &p, &two)),
+        at(9, bad("W2, P at 9", &p, &two)),
+        at(255, bad("W2, P at 255", &p, &foul)),
+        at(9, bad("W2, too long at 9", &too_long, &two)),
+        at(
+            1,
+            refused("W2, too long at 1", &too_long, &two, TOO_LONG, 0),
+        ),
+    ]
+}
+
 pub fn swap_pieces() -> Vec<SwapPiece> {
     let p = program_p();
     let (two, three) = ([SWAP, 0, 2], [SWAP, 0, 3]);
     let torn = [SWAP, 0, 2, SWAP];
     let mut pieces = tie_pieces();
     pieces.extend(plated_tie_pieces());
+    pieces.extend(limit_swap_pieces());
     pieces.extend([
         swap_piece("1, empty program", &[], &[], (DONE, 0), Some(&[])),
         swap_piece("1, empty log", &p, &[], (DONE, 0), Some(&p)),

@@ -2,8 +2,6 @@
 
 use crate::machine::*;
 
-pub const FOUL_STATE: u8 = 15;
-
 pub const HOOKS: usize = 2 * NEEDLES;
 pub const LEAST_SLOT: i16 = -8;
 pub const MOST_SLOT: i16 = 258;
@@ -23,12 +21,13 @@ pub struct RawCarrier {
     pub needle: u16,
 }
 
-/// Hooks f.0 to f.249, then b.0 to b.249; carrier k at k - 1.
+/// Hooks f.0 to f.249, then b.0 to b.249; the hook limit; carrier k at k - 1.
 #[repr(C)]
 #[derive(Clone, PartialEq, Eq, Debug)]
 pub struct RawState {
     pub racking: i8,
     pub loops: [u8; HOOKS],
+    pub limit: u8,
     pub carriers: [RawCarrier; CARRIERS],
 }
 
@@ -83,16 +82,17 @@ impl RawCarrier {
 }
 
 impl RawState {
-    pub fn empty() -> RawState {
+    pub fn empty(limit: u8) -> RawState {
         RawState {
             racking: 0,
             loops: [0; HOOKS],
+            limit,
             carriers: [RawCarrier::default(); CARRIERS],
         }
     }
 
     pub fn of(state: &State) -> RawState {
-        let mut raw = RawState::empty();
+        let mut raw = RawState::empty(state.limit);
         raw.racking = state.racking as i8;
         raw.loops[..NEEDLES].copy_from_slice(&state.front_loops);
         raw.loops[NEEDLES..].copy_from_slice(&state.back_loops);
@@ -102,7 +102,7 @@ impl RawState {
 
     /// The model's state, of one that is not foul.
     pub fn state(&self) -> State {
-        let mut state = State::empty();
+        let mut state = State::empty(self.limit);
         state.racking = self.racking.into();
         state.front_loops.copy_from_slice(&self.loops[..NEEDLES]);
         state.back_loops.copy_from_slice(&self.loops[NEEDLES..]);
@@ -129,9 +129,11 @@ impl RawCarrier {
 }
 
 impl RawState {
+    /// "A lent state with a limit out of range, or more loops than its limit, is 15" (02, W2).
     pub fn foul(&self) -> bool {
         i32::from(self.racking).abs() > MAX_RACKING
-            || self.loops.iter().any(|&count| count > HOOK_LIMIT)
+            || !LIMITS.contains(&self.limit)
+            || self.loops.iter().any(|&count| count > self.limit)
             || self.carriers.iter().any(RawCarrier::foul)
     }
 }

@@ -209,19 +209,23 @@ impl<'a> Order<'a> {
 // The call.
 
 pub fn rewrite_watched(
+    limit: u8,
     program: &[u8],
     log: &[u8],
     output: &mut [u8],
     work: &mut [u16],
     watch: impl FnMut(&Order, &[u8], u8),
 ) -> Answer {
+    if !LIMITS.contains(&limit) {
+        return Answer::bad_limit();
+    }
     if program.len() > PROGRAM_LIMIT || log.len() > LOG_LIMIT {
-        return Answer::not_run(TOO_LONG);
+        return Answer::not_run(limit, TOO_LONG);
     }
     if output.len() < program.len() || work.len() < program.len() / 2 {
-        return Answer::not_run(NO_BENCH);
+        return Answer::not_run(limit, NO_BENCH);
     }
-    let answer = run(program);
+    let answer = run_at(limit, program);
     if answer.number != DONE {
         return answer;
     }
@@ -235,6 +239,12 @@ pub fn rewrite_watched(
     }
 }
 
-pub fn rewrite(program: &[u8], log: &[u8], output: &mut [u8], work: &mut [u16]) -> Answer {
-    rewrite_watched(program, log, output, work, |_, _, _| {})
+pub fn rewrite_at(
+    limit: u8,
+    program: &[u8],
+    log: &[u8],
+    output: &mut [u8],
+    work: &mut [u16],
+) -> Answer {
+    rewrite_watched(limit, program, log, output, work, |_, _, _| {})
 }

@@ -51,12 +51,12 @@ pub carrier-order : (c : Carrier)
     ≡ vstruct (ofList (vint w8 (c .active) ∷ vint w8 (c .side) ∷ vstruct (ofList (vint w16 (ofZ w16 (c .slot .0)) ∷ [])) ∷ vstruct (ofList (vint w16 (c .needle .0) ∷ vint w16 (c .needle .1) ∷ [])) ∷ []))
 carrier-order c = refl
 
--- state: racking, loops, carriers
+-- state: racking, loops, limit, carriers; no byte of the 582 is padding
 pub state-laid : Laid state.mir 582 2
 state-laid = record { size-is = refl; align-is = refl }
 
-pub state-fields : FieldAt state.mir 0 racking.mir 0 × FieldAt state.mir 1 (tyArray (tyInt w8) 500) 1 × FieldAt state.mir 2 (tyArray carrier.mir 10) 502
-state-fields = (refl, refl, refl)
+pub state-fields : FieldAt state.mir 0 racking.mir 0 × FieldAt state.mir 1 (tyArray (tyInt w8) 500) 1 × FieldAt state.mir 2 (tyInt w8) 501 × FieldAt state.mir 3 (tyArray carrier.mir 10) 502
+state-fields = (refl, refl, refl, refl)
 
 -- a service's answer: number, length
 pub served-laid : Laid served.mir 16 8

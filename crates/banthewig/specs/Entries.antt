@@ -1,4 +1,4 @@
--- What the C entries answer.
+-- What the C entries answer: those at a limit, and, at limit 8, those without (02, W2: 'The listing and the C entry run with limit 8').
 use Prim.Native.Nat.{ℕ, _+_, _*_, _/_, _%_}
 use mathlib.Core.Path.{_≡_}
 use mathlib.Core.List.{List}
@@ -18,21 +18,21 @@ abbrev pub Reads : Answer → Type 0
 Reads a = (packed a / 65536 ≡ a .number) × (packed a % 65536 ≡ a .place)
 
 abbrev pub ReadBack : Type 0
-ReadBack = (p : List ℕ) → Reads (runOf p)
+ReadBack = (limit : ℕ) (p : List ℕ) → Reads (runOf limit p)
 
 abbrev pub RewriteReadBack : Type 0
-RewriteReadBack = (p log output work : List ℕ) → Reads (rewriteOf p log output work .answer)
+RewriteReadBack = (limit : ℕ) (p log output work : List ℕ) → Reads (rewriteOf limit p log output work .answer)
 
 -- each entry in one statement: the word, and what is lent for writing afterwards, are those of an answer in 01's words, and no others
 abbrev pub RunEntry : Type 0
-RunEntry = (p : List ℕ) (n : ℕ) → (packed (runOf p) ≡ n) ↔ ((a : Answer) × Answers p a × (a .number * 65536 + a .place ≡ n))
+RunEntry = (limit : ℕ) (p : List ℕ) (n : ℕ) → (packed (runOf limit p) ≡ n) ↔ ((a : Answer) × Answers limit p a × (a .number * 65536 + a .place ≡ n))
 
-pub record Leaves (p log output work : List ℕ) (n : ℕ) (bytes starts : List ℕ) : Type 0 where
-  pub word : packed (rewriteOf p log output work .answer) ≡ n
-  pub bytes-are : rewriteOf p log output work .output ≡ bytes
-  pub starts-are : rewriteOf p log output work .work ≡ starts
+pub record Leaves (limit : ℕ) (p log output work : List ℕ) (n : ℕ) (bytes starts : List ℕ) : Type 0 where
+  pub word : packed (rewriteOf limit p log output work .answer) ≡ n
+  pub bytes-are : rewriteOf limit p log output work .output ≡ bytes
+  pub starts-are : rewriteOf limit p log output work .work ≡ starts
 
 abbrev pub RewriteEntry : Type 0
 RewriteEntry =
-    (p log output work : List ℕ) (n : ℕ) (bytes starts : List ℕ) → Leaves p log output work n bytes starts
-    ↔ ((a : Answer) × Rewrites p log output work (record { answer = a; output = bytes; work = starts }) × (a .number * 65536 + a .place ≡ n))
+    (limit : ℕ) (p log output work : List ℕ) (n : ℕ) (bytes starts : List ℕ) → Leaves limit p log output work n bytes starts
+    ↔ ((a : Answer) × Rewrites limit p log output work (record { answer = a; output = bytes; work = starts }) × (a .number * 65536 + a .place ≡ n))

@@ -2,6 +2,7 @@
 ghost use mathlib.Core.Path.{_≡_};
 ghost use Prim.Native.Nat.{_+_, _*_, _<_};
 ghost use lib.ListN.{length};
+ghost use Rattle.machine.specs.Limits.{limitMost};
 ghost use Rattle.run.specs.Run.{runOf};
 ghost use Rattle.rewrite.specs.Rewrite.{rewriteOf};
 ghost use Rattle.panel.specs.Panel.{panelStep, listAnswer, carrierList};
@@ -15,17 +16,42 @@ fn word(number: u8, place: usize) -> u64
     (number as u64) * 65536 + (place as u64)
 }
 
-// Runs a program: number times 65,536 plus place.
+// Runs a program at a hook limit: number times 65,536 plus place. A limit out of 1 to 8 gets 15 before all else.
 #[no_mangle]
-pub extern "C" fn knitout_run(program: &[u8]) -> u64
-    ensures { λ n. ⌜ n ≡ packed (runOf (now (program .entry))) ⌝ }
+pub extern "C" fn knitout_run_at(limit: u8, program: &[u8]) -> u64
+    ensures { λ n. ⌜ n ≡ packed (runOf limit (now (program .entry))) ⌝ }
 {
-    let a = run::outcome(program);
+    let a = run::outcome(limit, program);
     word(a.number, a.place)
 }
 
-// Rewrites a program by a log: number times 65,536 plus place. The output begins with the program as the swaps left it,
-// the work area with its records' starts; numbers 1 to 11 and 16 write nothing.
+// The same at limit 8.
+#[no_mangle]
+pub extern "C" fn knitout_run(program: &[u8]) -> u64
+    ensures { λ n. ⌜ n ≡ packed (runOf limitMost (now (program .entry))) ⌝ }
+{
+    knitout_run_at(machine::State::LIMIT_MOST, program)
+}
+
+// Rewrites a program by a log at a hook limit: number times 65,536 plus place. The output begins with the program as the
+// swaps left it, the work area with its records' starts; numbers 1 to 11, 15 and 16 write nothing.
+#[no_mangle]
+pub extern "C" fn knitout_rewrite_at(
+    limit: u8,
+    program: &[u8],
+    log: &[u8],
+    output: &mut [u8],
+    work: &mut [u16],
+) -> u64
+    ensures answer { λ n. ⌜ n ≡ packed (rewriteOf limit (now (program .entry)) (now (log .entry)) (now (output .entry)) (now (work .entry)) .answer) ⌝ }
+    ensures bytes { λ _. ⌜ now (output .exit) ≡ rewriteOf limit (now (program .entry)) (now (log .entry)) (now (output .entry)) (now (work .entry)) .output ⌝ }
+    ensures starts { λ _. ⌜ now (work .exit) ≡ rewriteOf limit (now (program .entry)) (now (log .entry)) (now (output .entry)) (now (work .entry)) .work ⌝ }
+{
+    let a = rewrite::rewrite(limit, program, log, output, work);
+    word(a.number, a.place)
+}
+
+// The same at limit 8.
 #[no_mangle]
 pub extern "C" fn knitout_rewrite(
     program: &[u8],
@@ -33,12 +59,11 @@ pub extern "C" fn knitout_rewrite(
     output: &mut [u8],
     work: &mut [u16],
 ) -> u64
-    ensures answer { λ n. ⌜ n ≡ packed (rewriteOf (now (program .entry)) (now (log .entry)) (now (output .entry)) (now (work .entry)) .answer) ⌝ }
-    ensures bytes { λ _. ⌜ now (output .exit) ≡ rewriteOf (now (program .entry)) (now (log .entry)) (now (output .entry)) (now (work .entry)) .output ⌝ }
-    ensures starts { λ _. ⌜ now (work .exit) ≡ rewriteOf (now (program .entry)) (now (log .entry)) (now (output .entry)) (now (work .entry)) .work ⌝ }
+    ensures answer { λ n. ⌜ n ≡ packed (rewriteOf limitMost (now (program .entry)) (now (log .entry)) (now (output .entry)) (now (work .entry)) .answer) ⌝ }
+    ensures bytes { λ _. ⌜ now (output .exit) ≡ rewriteOf limitMost (now (program .entry)) (now (log .entry)) (now (output .entry)) (now (work .entry)) .output ⌝ }
+    ensures starts { λ _. ⌜ now (work .exit) ≡ rewriteOf limitMost (now (program .entry)) (now (log .entry)) (now (output .entry)) (now (work .entry)) .work ⌝ }
 {
-    let a = rewrite::rewrite(program, log, output, work);
-    word(a.number, a.place)
+    knitout_rewrite_at(machine::State::LIMIT_MOST, program, log, output, work)
 }
 
 // Makes the step of the first record of a slice on a lent state: number, and the record's length. A refused call stores

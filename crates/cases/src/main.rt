@@ -22,15 +22,20 @@ fn join(folder: &[u8], file: &[u8], path: &mut [u8]) -> usize
     n + file.len()
 }
 
-// Writes out the listing of two files.
-fn show(program_path: &[u8], log_path: &[u8]) {
+// Writes out the listing of two files at a hook limit.
+fn show(limit: u8, program_path: &[u8], log_path: &[u8]) {
     let mut text = [0u8; listing_text::LONGEST];
-    let n = listing_text::list_files(program_path, log_path, &mut text);
+    let n = listing_text::list_files_at(limit, program_path, log_path, &mut text);
     io::write_all(STDOUT_FILENO, &text[..n]);
 }
 
-// A title line and the listing of the folder.
+// A title line and the listing of the folder at limit 8.
 fn case(name: &[u8]) {
+    case_at(8, name);
+}
+
+// The same at a hook limit.
+fn case_at(limit: u8, name: &[u8]) {
     io::write_all(STDOUT_FILENO, b"# ");
     io::write_all(STDOUT_FILENO, name);
     io::write_all(STDOUT_FILENO, b"\n");
@@ -38,7 +43,7 @@ fn case(name: &[u8]) {
     let program_length = join(name, b"/knit.prg", &mut program);
     let mut log = io::buffer();
     let log_length = join(name, b"/swap.log", &mut log);
-    show(&program[..program_length], &log[..log_length]);
+    show(limit, &program[..program_length], &log[..log_length]);
 }
 
 // Missing files, and files at and over their limits. (2, no bench, cannot happen: LentIsEnough of crate listing_text.)
@@ -179,6 +184,48 @@ fn plated_ties() {
     case(b"plated_pair");
 }
 
+// Hook limits of document 02, W2: loops at and over them.
+fn limits() {
+    case_at(1, b"plated_knit_at_1");
+    case_at(2, b"plated_knit_at_2");
+    case_at(1, b"tuck_at_1");
+    case_at(1, b"two_tucks_at_1");
+    case_at(2, b"two_tucks_at_2");
+    case_at(2, b"three_tucks_at_2");
+    case_at(1, b"plated_tuck_at_1");
+    case_at(2, b"plated_tuck_at_2");
+    case_at(2, b"plated_tuck_over_at_2");
+    case_at(3, b"plated_tuck_over_at_3");
+    case_at(1, b"knits_at_1");
+    case_at(1, b"split_at_1");
+    case_at(1, b"split_onto_loop_at_1");
+    case_at(1, b"split_of_none_at_1");
+    case_at(1, b"xfer_at_1");
+    case_at(4, b"xfer_over_4");
+    case_at(4, b"xfer_to_4");
+    case_at(1, b"xfer_none_onto_full_at_1");
+    case_at(5, b"eight_tucks_at_5");
+    case_at(6, b"eight_tucks_at_6");
+    case_at(7, b"eight_tucks_at_7");
+    case_at(8, b"eight_tucks_at_8");
+    case_at(8, b"nine_tucks_at_8");
+}
+
+// Limits out of range before everything else, and swaps at a limit.
+fn limit_calls() {
+    case_at(0, b"limit_0");
+    case_at(9, b"limit_9");
+    case_at(255, b"limit_255");
+    case_at(1, b"too_long_at_1");
+    case_at(9, b"too_long_at_9");
+    case_at(0, b"kind_00_at_0");
+    case_at(0, b"foul_log_at_0");
+    case_at(1, b"swap_at_1");
+    case_at(1, b"tied_at_1");
+    case_at(1, b"full_before_log");
+    case_at(3, b"complete_at_3");
+}
+
 fn main() {
     files();
     pieces();
@@ -188,4 +235,6 @@ fn main() {
     ties();
     plated();
     plated_ties();
+    limits();
+    limit_calls();
 }

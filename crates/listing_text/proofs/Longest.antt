@@ -108,12 +108,12 @@ longest a l h k n =
     join (number (a .number)) (join (some 1 (32 ∷ []) (omega arith)) (join (number (a .place)) (join (some 3 (32 ∷ flagOf (a .complete) ∷ 10 ∷ []) (omega arith)) (join (state (a .state) h k) (program l n)))))
 
 -- so that a text of 88,307 bytes holds the listing of every call whose output has 32,768
-pub uncut : (program log output work old new : List ℕ) (end : ℕ) → Grown old 0 (listedOf program log output work) new end → length output ≤ 32768 → 88307 ≤ length old
-    → take end new ≡ listedOf program log output work
+pub uncut : (limit : ℕ) (program log output work old new : List ℕ) (end : ℕ) → Grown old 0 (listedOf limit program log output work) new end → length output ≤ 32768 → 88307 ≤ length old
+    → take end new ≡ listedOf limit program log output work
 unfolding listedOf
-uncut program log output work old new end g h r =
-    let w = rewriteOf program log output work in
+uncut limit program log output work old new end g h r =
+    let w = rewriteOf limit program log output work in
     let n = shownOf (w .answer .number) (length program) in
-    let size = state-size program log output work in
-    let long = longest (w .answer) (take n (w .output)) (omega (arith, size .loops)) (omega (arith, size .carriers)) (omega (arith, length-take n (w .output), output-length program log output work)) in
+    let size = state-size limit program log output work in
+    let long = longest (w .answer) (take n (w .output)) (omega (arith, size .loops)) (omega (arith, size .carriers)) (omega (arith, length-take n (w .output), output-length limit program log output work)) in
     g .text ∙ take-all (length old) (listingOf (w .answer) (take n (w .output))) (omega (arith, long .most))

@@ -9,13 +9,15 @@ use lib.ListN.{length}
 use borrow.Author.Tests.{eq-eqb}
 use borrow.Table.Steps.{cases}
 use Rattle.machine.specs.Machine.{emptyState, completeOf, all, inactiveCarrier, movedTo, attachedAt, sameNeedle, Each}
+use Rattle.machine.specs.Limits.{limitMost}
+use Rattle.machine.specs.Range.{LimitInRange}
 use Rattle.machine.proofs.Laws.{and-two}
 use Rattle.machine.specs.Geometry.{eqZ, columnOf, entryOf, exitOf, sameColumn, withinFloat}
 use Rattle.record.specs.Kinds.{byKind}
 use Rattle.record.specs.Format.{decodeOf, readOf, fieldsOk, recordFrom, refusedAs, rackOk, needleOk, workOk, signedOf}
 use Rattle.record.specs.Names.{needlesOf, carriersOf}
-use Rattle.run.specs.Step.{lookOf, seeOf, twiceNo, parkedNo, floatNo, carrierNo, oppositeNo, firstAfter, secondAfter, roomNo, decidedNo, edit, actOf, acted, moveAttachments, numberAt, applyOf}
-use Rattle.run.specs.Run.{stepOf, turn, runFrom, answerOf, runOf}
+use Rattle.run.specs.Step.{lookOf, seeOf, twiceNo, parkedNo, floatNo, carrierNo, oppositeNo, firstAfter, secondAfter, firstAsked, roomNo, decidedNo, edit, actOf, acted, moveAttachments, numberAt, applyOf}
+use Rattle.run.specs.Run.{stepOf, turn, runFrom, startNo, answerLimit, answerOf, runOf}
 use Rattle.rewrite.specs.Extents.{halfColumn, layerOf, extentOf, meets, member, common}
 use Rattle.rewrite.specs.Programs.{cut, startsOf, sameBytes, recordsOf}
 use Rattle.rewrite.specs.Rewrite.{replayFrom, replay, lentNo, writes, Rewritten, refused, written, rewriteOf}
@@ -26,13 +28,16 @@ use Rattle.listing_text.specs.Listed.{callListed, listedOf, lentOutput, 
 use Rattle.listing_text.specs.Printed.{bytesIn, text, Listing, P-swapped, listings, Printed, ListsP, ListsPRead, ListingsPrinted, FiguresPrinted, PAloneRefused, PAloneEmpty}
 use Rattle.listing_text.proofs.Lent.{lent-is-enough}
 
--- the call where what is lent is enough: it computes whatever output and work area hold
+-- the call at limit 8 where what is lent is enough: it computes whatever output and work area hold
 abbrev lentCall : List ℕ → List ℕ → List ℕ → List ℕ → Rewritten
-lentCall p log output work = cond (eqb (runOf p .number) 0) (written p (replay log 0 (recordsOf p)) output work) (refused (runOf p) output work)
+lentCall p log output work = cond (eqb (runOf limitMost p .number) 0) (written limitMost p (replay log 0 (recordsOf p)) output work) (refused (runOf limitMost p) output work)
 
-lent-listed : (p log output work : List ℕ) → lentNo (length p) (length log) (length output) (length work) ≡ 0 → listedOf p log output work ≡ callListed (length p) (lentCall p log output work)
+lent-listed : (p log output work : List ℕ) → lentNo limitMost (length p) (length log) (length output) (length work) ≡ 0 → listedOf limitMost p log output work ≡ callListed (length p) (lentCall p log output work)
 unfolding listedOf rewriteOf
-lent-listed p log output work e = simp (eq-eqb (lentNo (length p) (length log) (length output) (length work)) 0 e)
+lent-listed p log output work e = simp (eq-eqb (lentNo limitMost (length p) (length log) (length output) (length work)) 0 e)
+
+eight : LimitInRange limitMost
+eight = record { least = omega arith; most = omega arith }
 
 -- the test that is computed, and that it says so
 test : List ℕ → List ℕ → Listing → Bool
@@ -40,7 +45,7 @@ test output work r = sameBytes (callListed (length (r .program)) (lentCall (r .p
 
 test-says : (r : Listing) → ((output work : List ℕ) → test output work r ≡ true) → Printed r
 unfolding test
-test-says r e output work h = lent-listed (r .program) (r .log) output work (all-lent _ _ _ _ h) ∙ lawful .same-eq _ _ (e output work)
+test-says r e output work h = lent-listed (r .program) (r .log) output work (all-lent _ _ _ _ _ eight h) ∙ lawful .same-eq _ _ (e output work)
 
 abbrev every : List ℕ → List ℕ → List Listing → Bool
 every output work [] = true
@@ -54,7 +59,7 @@ each (r ∷ l) e = (
 )
 
 computed : (output work : List ℕ) → every output work listings ≡ true
-unfolding test bytesIn text digitsOf letterOf signOf flagOf lines hookLine attachmentOf carrierLine programLine bedsOf stateOf shownOf listingOf writes replayFrom cut startsOf sameBytes halfColumn layerOf extentOf meets member common byKind runOf runFrom turn stepOf answerOf emptyState completeOf all inactiveCarrier movedTo attachedAt sameNeedle eqZ columnOf entryOf exitOf sameColumn withinFloat decodeOf readOf fieldsOk recordFrom refusedAs rackOk needleOk workOk signedOf needlesOf carriersOf lookOf seeOf twiceNo parkedNo floatNo carrierNo oppositeNo firstAfter secondAfter roomNo decidedNo edit actOf acted moveAttachments numberAt applyOf
+unfolding test bytesIn text digitsOf letterOf signOf flagOf lines hookLine attachmentOf carrierLine programLine bedsOf stateOf shownOf listingOf writes replayFrom cut startsOf sameBytes halfColumn layerOf extentOf meets member common byKind runOf runFrom turn stepOf startNo answerLimit answerOf emptyState completeOf all inactiveCarrier movedTo attachedAt sameNeedle eqZ columnOf entryOf exitOf sameColumn withinFloat decodeOf readOf fieldsOk recordFrom refusedAs rackOk needleOk workOk signedOf needlesOf carriersOf lookOf seeOf twiceNo parkedNo floatNo carrierNo oppositeNo firstAfter secondAfter firstAsked roomNo decidedNo edit actOf acted moveAttachments numberAt applyOf
 computed output work = refl
 
 pub listings-printed : ListingsPrinted
@@ -67,8 +72,8 @@ lists-P = listings-printed .0
 pub lists-P-read : ListsPRead
 lists-P-read old new n r e f h =
     r .uncut h
-    ∙ ap (λ (p : List ℕ). listedOf p (r .log) lentOutput lentWork) e
-    ∙ ap (λ (l : List ℕ). listedOf (P-swapped .program) l lentOutput lentWork) f
+    ∙ ap (λ (p : List ℕ). listedOf limitMost p (r .log) lentOutput lentWork) e
+    ∙ ap (λ (l : List ℕ). listedOf limitMost (P-swapped .program) l lentOutput lentWork) f
     ∙ lists-P lentOutput lentWork (lent-is-enough (P-swapped .program) (P-swapped .log) (omega arith) (omega arith))
 
 pub figures-printed : FiguresPrinted
@@ -82,7 +87,7 @@ no-bytes n length e = simp e
 
 pub p-alone-refused : PAloneRefused
 unfolding listedOf
-p-alone-refused program log output work e = simp (no-bytes _ (length program) e)
+p-alone-refused limit program log output work e = simp (no-bytes _ (length program) e)
 
 none-of-none : (n : ℕ) → shownOf n 0 ≡ 0
 unfolding shownOf
@@ -90,4 +95,4 @@ none-of-none n = cases (writes n) (λ e. simp e) (λ e. simp e)
 
 pub p-alone-empty : PAloneEmpty
 unfolding listedOf
-p-alone-empty log output work = simp (none-of-none (rewriteOf [] log output work .answer .number))
+p-alone-empty limit log output work = simp (none-of-none (rewriteOf limit [] log output work .answer .number))

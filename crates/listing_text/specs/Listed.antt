@@ -1,4 +1,4 @@
--- What is listed: the rewriter's answer on a program and a log, and the output's program bytes.
+-- What is listed: the rewriter's answer at a limit on a program and a log, and the output's program bytes.
 use Prim.Native.Nat.{ℕ, _+_, _/_, _≤_}
 use mathlib.Core.Path.{_≡_}
 use mathlib.Core.List.{List}
@@ -14,8 +14,8 @@ use Rattle.listing_text.specs.Text.{shownOf, listingOf}
 abbrev pub callListed : ℕ → Rewritten → List ℕ
 callListed length w = listingOf (w .answer) (take (shownOf (w .answer .number) length) (w .output))
 
-unfoldable pub listedOf : List ℕ → List ℕ → List ℕ → List ℕ → List ℕ
-listedOf program log output work = callListed (length program) (rewriteOf program log output work)
+unfoldable pub listedOf : ℕ → List ℕ → List ℕ → List ℕ → List ℕ → List ℕ
+listedOf limit program log output work = callListed (length program) (rewriteOf limit program log output work)
 
 -- what the listing program lends the rewriter: bytes and offsets for every program, all 0
 unfoldable pub lentOutput : List ℕ
@@ -28,15 +28,15 @@ lentWork = replicate (programMost / 2) 0
 abbrev pub LentIsEnough : Type 0
 LentIsEnough = (program log : List ℕ) → length program ≤ programMost → length log ≤ logMost → Enough (length program) (length log) (length lentOutput) (length lentWork)
 
--- a lent text after a listing of two files, n bytes of it written: the listing of some program and log, those read, stands at its front, cut off
+-- a lent text after a listing of two files at a limit, n bytes of it written: the listing of some program and log, those read, stands at its front, cut off
 -- only where the text ends, so that 88,307 bytes hold it whole; what lies behind is kept. No contract can say what a file holds; what is read of one
 -- are bytes, at most one more than a program or a log may have.
-pub record ListsRead (old new : List ℕ) (n : ℕ) : Type 0 where
+pub record ListsRead (limit : ℕ) (old new : List ℕ) (n : ℕ) : Type 0 where
   pub program : List ℕ
   pub log : List ℕ
   pub program-bytes : Below 256 program
   pub log-bytes : Below 256 log
   pub program-front : length program ≤ programMost + 1
   pub log-front : length log ≤ logMost + 1
-  pub text : Grown old 0 (listedOf program log lentOutput lentWork) new n
-  pub uncut : 88307 ≤ length old → take n new ≡ listedOf program log lentOutput lentWork
+  pub text : Grown old 0 (listedOf limit program log lentOutput lentWork) new n
+  pub uncut : 88307 ≤ length old → take n new ≡ listedOf limit program log lentOutput lentWork

@@ -6,6 +6,7 @@ use mathlib.Core.Path.{_≡_}
 use mathlib.Core.Bool.{false}
 use mathlib.Core.List.{List, [], _∷_, _++_}
 use lib.ListN.{length, take}
+use Rattle.machine.specs.Limits.{limitMost}
 use Rattle.machine.specs.Machine.{Each}
 use Rattle.rewrite.specs.Programs.{flat}
 use Rattle.rewrite.specs.Rewrite.{writes, rewriteOf}
@@ -98,10 +99,10 @@ abbrev pub FiguresPrinted : Type 0
 FiguresPrinted =
     Each (λ (n : ℕ × String). figures (n .0) ≡ bytesIn (n .1)) ((999, "999") ∷ (1000, "1000") ∷ (9999, "9999") ∷ (10000, "10000") ∷ (32767, "32767") ∷ [])
 
--- the listing is this text, whatever the output and the work area held, if they are long enough
+-- the listing at limit 8 (02, W2: 'The listing and the C entry run with limit 8') is this text, whatever the output and the work area held, if they are long enough
 abbrev pub Printed : Listing → Type 0
 Printed r =
-    (output work : List ℕ) → Enough (length (r .program)) (length (r .log)) (length output) (length work) → listedOf (r .program) (r .log) output work ≡ text (r .lines)
+    (output work : List ℕ) → Enough (length (r .program)) (length (r .log)) (length output) (length work) → listedOf limitMost (r .program) (r .log) output work ≡ text (r .lines)
 
 abbrev pub ListsP : Type 0
 ListsP = Printed P-swapped
@@ -109,16 +110,16 @@ ListsP = Printed P-swapped
 -- so that `list_files` gives these lines, if P and 40 00 02 are what it read
 abbrev pub ListsPRead : Type 0
 ListsPRead =
-    (old new : List ℕ) (n : ℕ) (r : ListsRead old new n) → r .program ≡ P-swapped .program → r .log ≡ P-swapped .log → 88307 ≤ length old → take n new ≡ text (P-swapped .lines)
+    (old new : List ℕ) (n : ℕ) (r : ListsRead limitMost old new n) → r .program ≡ P-swapped .program → r .log ≡ P-swapped .log → 88307 ≤ length old → take n new ≡ text (P-swapped .lines)
 
 abbrev pub ListingsPrinted : Type 0
 ListingsPrinted = Each Printed listings
 
--- '"p" alone after 1 to 11 and for an empty program', and so after 16 (02, W1: 'handled like' 5): after a number that writes nothing, the listing of no bytes
+-- '"p" alone after 1 to 11 and for an empty program', and so after 16 (02, W1: 'handled like' 5) and 15: after a number that writes nothing, the listing of no bytes
 abbrev pub PAloneRefused : Type 0
 PAloneRefused =
-    (program log output work : List ℕ) → let w = rewriteOf program log output work in
-    writes (w .answer .number) ≡ false → listedOf program log output work ≡ listingOf (w .answer) []
+    (limit : ℕ) (program log output work : List ℕ) → let w = rewriteOf limit program log output work in
+    writes (w .answer .number) ≡ false → listedOf limit program log output work ≡ listingOf (w .answer) []
 
 abbrev pub PAloneEmpty : Type 0
-PAloneEmpty = (log output work : List ℕ) → listedOf [] log output work ≡ listingOf (rewriteOf [] log output work .answer) []
+PAloneEmpty = (limit : ℕ) (log output work : List ℕ) → listedOf limit [] log output work ≡ listingOf (rewriteOf limit [] log output work .answer) []

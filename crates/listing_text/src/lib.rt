@@ -3,6 +3,7 @@ ghost use Prim.Native.Nat.{_≤_, _<_, _+_, min};
 ghost use mathlib.Core.Path.{_≡_};
 ghost use mathlib.Core.List.{[], _∷_};
 ghost use lib.ListN.{length, take};
+ghost use Rattle.machine.specs.Limits.{limitMost};
 ghost use Rattle.listing_text.specs.Grown.{Grown};
 ghost use Rattle.listing_text.specs.Text.{digitsOf, figures, signed, hexDigit, hexOf, letterOf, signOf, flagOf, hookLine, hookLines, bedsOf, attachmentOf, carrierLine, carrierLines, rackingLine, bytesOf, programLine, stateOf, shownOf, listingOf};
 ghost use Rattle.rewrite.specs.Calls.{Below};
@@ -277,18 +278,20 @@ fn least(a: usize, b: usize) -> usize
     if a < b { a } else { b }
 }
 
-// The listing of a program and a log, at the front of the text; the rewriter is lent the output and the work area.
+// The listing of a program and a log at a hook limit, at the front of the text; the rewriter is lent the output and the
+// work area.
 pub fn list(
+    limit: u8,
     program: &[u8],
     log: &[u8],
     output: &mut [u8],
     work: &mut [u16],
     text: &mut [u8],
 ) -> usize
-    ensures { λ r. ⌜ Grown (now (text .entry)) 0 (listedOf (now (program .entry)) (now (log .entry)) (now (output .entry)) (now (work .entry))) (now (text .exit)) r ⌝ }
-    ensures { λ _. ⌜ (now (output .exit) ≡ rewriteOf (now (program .entry)) (now (log .entry)) (now (output .entry)) (now (work .entry)) .output) × (now (work .exit) ≡ rewriteOf (now (program .entry)) (now (log .entry)) (now (output .entry)) (now (work .entry)) .work) ⌝ }
+    ensures { λ r. ⌜ Grown (now (text .entry)) 0 (listedOf limit (now (program .entry)) (now (log .entry)) (now (output .entry)) (now (work .entry))) (now (text .exit)) r ⌝ }
+    ensures { λ _. ⌜ (now (output .exit) ≡ rewriteOf limit (now (program .entry)) (now (log .entry)) (now (output .entry)) (now (work .entry)) .output) × (now (work .exit) ≡ rewriteOf limit (now (program .entry)) (now (log .entry)) (now (output .entry)) (now (work .entry)) .work) ⌝ }
 {
-    let a = rewrite(program, log, output, work);
+    let a = rewrite(limit, program, log, output, work);
     let n = shown(a.number, program.len(), output.len());
     listing(a, &output[..n], text)
 }
@@ -319,8 +322,8 @@ pub const LONGEST: usize = 88307;
 
 // Puts the listing of the program and the log in two files at the front of the text and answers its length. A text of
 // LONGEST bytes holds it whole.
-pub fn list_files(program_path: &[u8], log_path: &[u8], text: &mut [u8]) -> usize
-    ensures { λ n. ⌜ ListsRead (now (text .entry)) (now (text .exit)) n ⌝ }
+pub fn list_files_at(limit: u8, program_path: &[u8], log_path: &[u8], text: &mut [u8]) -> usize
+    ensures { λ n. ⌜ ListsRead limit (now (text .entry)) (now (text .exit)) n ⌝ }
 {
     let mut program = room();
     let program_length = load(program_path, &mut program);
@@ -329,10 +332,18 @@ pub fn list_files(program_path: &[u8], log_path: &[u8], text: &mut [u8]) -> usiz
     let mut output = [0u8; State::PROGRAM_MOST];
     let mut work = [0u16; State::PROGRAM_MOST / 2];
     list(
+        limit,
         &program[..program_length],
         &log[..log_length],
         &mut output,
         &mut work,
         text,
     )
+}
+
+// The same at limit 8, at which the listing program runs.
+pub fn list_files(program_path: &[u8], log_path: &[u8], text: &mut [u8]) -> usize
+    ensures { λ n. ⌜ ListsRead limitMost (now (text .entry)) (now (text .exit)) n ⌝ }
+{
+    list_files_at(State::LIMIT_MOST, program_path, log_path, text)
 }

@@ -128,24 +128,24 @@ inactive-is c e =
     same-fields (c .active) (c .side) (c .needle .0) (c .needle .1) (c .slot .0)
     (eqb-true (c .active) 0 p) (eqb-true (c .side) 0 q) (eqZ-true (c .slot .0) (pos 0) r) (eqb-true (c .needle .0) 0 t) (eqb-true (c .needle .1) 0 u)
 
-same-parts : (z : ℤ) (l : List ℕ) (k : List Carrier) → z ≡ pos 0 → l ≡ replicate 500 0 → k ≡ replicate 10 inactive
-    → _≡_ {A = State} (record { racking = record { 0 = z }; loops = l; carriers = k }) emptyState
+same-parts : (z : ℤ) (l : List ℕ) (n : ℕ) (k : List Carrier) → z ≡ pos 0 → l ≡ replicate 500 0 → k ≡ replicate 10 inactive
+    → _≡_ {A = State} (record { racking = record { 0 = z }; loops = l; limit = n; carriers = k }) (emptyState n)
 unfolding emptyState
-same-parts z l k p q r = simp (p, q, r)
+same-parts z l n k p q r = simp (p, q, r)
 
--- complete is true exactly of the empty state
-pub complete-is-empty : (s : State) → length (s .loops) ≡ 500 → length (s .carriers) ≡ 10 → completeOf s ≡ true → s ≡ emptyState
+-- complete is true exactly of the empty state at the state's own limit
+pub complete-is-empty : (s : State) → length (s .loops) ≡ 500 → length (s .carriers) ≡ 10 → completeOf s ≡ true → s ≡ emptyState (s .limit)
 unfolding completeOf
 complete-is-empty s hl hc e =
     let (r, e1) = and-two (eqZ (s .racking .0) (pos 0)) _ e in
     let (l, k) = and-two (noLoops (s .loops)) _ e1 in
-    same-parts (s .racking .0) (s .loops) (s .carriers) (eqZ-true (s .racking .0) (pos 0) r)
+    same-parts (s .racking .0) (s .loops) (s .limit) (s .carriers) (eqZ-true (s .racking .0) (pos 0) r)
     (all-one (λ (n : ℕ). eqb n 0) 0 (λ n h. eqb-true n 0 h) (s .loops) l ∙ ap (λ (n : ℕ). replicate n 0) hl)
     (all-one inactiveCarrier inactive inactive-is (s .carriers) k ∙ ap (λ (n : ℕ). replicate n inactive) hc)
 
-pub empty-is-complete : completeOf emptyState ≡ true
+pub empty-is-complete : (limit : ℕ) → completeOf (emptyState limit) ≡ true
 unfolding completeOf emptyState all inactiveCarrier eqZ
-empty-is-complete = refl
+empty-is-complete limit = refl
 
 -- a slot in range, as two comparisons
 pub slot-in : (z : ℤ) → slotOk z ≡ (leZ (negsuc 7) z && leZ z (pos 258))

@@ -1,8 +1,8 @@
 -- States in range: the test is true exactly of them, the empty state is one, and what a step makes of a slot, a carrier or a list stays in range. Assumes nothing.
 use borrow.Table.Steps.{cases}
 use Prim.Native.Nat.{ℕ, zero, suc, _+_, _≤_}
-use mathlib.Core.Path.{_≡_, refl, ap}
-use mathlib.Core.Bool.{Bool, true, false, _&&_, not, cond}
+use mathlib.Core.Path.{_≡_, refl, sym, ap, _∙_}
+use mathlib.Core.Bool.{Bool, true, false, true≢false, _&&_, not, cond}
 use mathlib.Core.List.{List, [], _∷_, map}
 use native.Mathlib.Omega.{arith}
 use lib.IntN.{ℤ, pos, negsuc, _+ℤ_, natAbs}
@@ -15,7 +15,7 @@ use Rattle.machine.specs.declared.Slot.{Slot}
 use Rattle.machine.specs.declared.Carrier.{Carrier}
 use Rattle.machine.specs.Geometry.{eqZ, columnOf, entryOf, exitOf}
 use Rattle.machine.specs.Machine.{OnBed, all, attachedAt, movedTo, sameNeedle, inactive, inactiveCarrier, emptyState}
-use Rattle.machine.specs.Range.{SlotInRange, CarrierInRange, StateInRange, slotOk, rackingOk, numberOk, onBed, attachmentOk, carrierOk, stateOk, RangeExactly}
+use Rattle.machine.specs.Range.{SlotInRange, CarrierInRange, LimitInRange, StateInRange, slotOk, rackingOk, limitOk, numberOk, onBed, attachmentOk, carrierOk, stateOk, LimitExactly, RangeExactly}
 use Rattle.machine.proofs.Signed.{up, dn, sum}
 use Rattle.machine.proofs.Laws.{and-two, inactive-is}
 
@@ -155,7 +155,18 @@ moved-in from to b c k =
     (λ t. simp t (moved to c b (eqb-false (c .side) 0 (not-true (eqb (c .side) 0) (and-two (not (eqb (c .side) 0)) (sameNeedle (c .needle) from) t .0))) k))
     (λ t. simp t k)
 
--- ---- states
+-- ---- limits and states
+pub limit-exactly : LimitExactly
+limit-exactly n =
+    (λ e. let (a, b) = and-two (leb 1 n) (leb n 8) e in record { least = leb-true 1 n a; most = leb-true n 8 b }, λ h. simp (le-leb 1 n (h .least), le-leb n 8 (h .most)))
+
+-- a limit is in range or it is not, and the test says which
+pub limit-cases : (n : ℕ) {G : Type 0} → (LimitInRange n → G) → ((LimitInRange n → ⊥) → G) → G
+limit-cases n f g = cases (limitOk n) (λ t. f (limit-exactly n .0 t)) (λ t. g (λ h. true≢false (sym (limit-exactly n .1 h) ∙ t)))
+
+pub limit-out : (n : ℕ) → (LimitInRange n → ⊥) → limitOk n ≡ false
+limit-out n h = cases (limitOk n) (λ t. absurd (h (limit-exactly n .0 t))) (λ t. t)
+
 pub range-exactly : RangeExactly
 unfolding stateOk
 range-exactly s = (is, ok)
@@ -163,10 +174,12 @@ range-exactly s = (is, ok)
     is : stateOk s ≡ true → StateInRange s
     is e =
         let (r, f) = and-two (rackingOk (s .racking .0)) _ e in
-        let (l, k) = and-two (all (λ (n : ℕ). leb n 8) (s .loops)) (all carrierOk (s .carriers)) f in
+        let (m, g) = and-two (limitOk (s .limit)) _ f in
+        let (l, k) = and-two (all (λ (n : ℕ). leb n (s .limit)) (s .loops)) (all carrierOk (s .carriers)) g in
         record {
           racking = leb-true (natAbs (s .racking .0)) 8 r;
-          loops = all-every (λ (n : ℕ). n ≤ 8) 0 (λ (n : ℕ). leb n 8) (λ n h. leb-true n 8 h) (omega arith) (s .loops) l;
+          limit = limit-exactly (s .limit) .0 m;
+          loops = all-every (λ (n : ℕ). n ≤ s .limit) 0 (λ (n : ℕ). leb n (s .limit)) (λ n h. leb-true n (s .limit) h) (omega arith) (s .loops) l;
           carriers = all-every CarrierInRange inactive carrierOk carrier-is inactive-in (s .carriers) k;
         }
 
@@ -174,14 +187,16 @@ range-exactly s = (is, ok)
     ok h =
         simp (
           le-leb (natAbs (s .racking .0)) 8 (h .racking),
-          every-all (λ (n : ℕ). n ≤ 8) 0 (λ (n : ℕ). leb n 8) (λ n k. le-leb n 8 k) (s .loops) (h .loops),
+          limit-exactly (s .limit) .1 (h .limit),
+          every-all (λ (n : ℕ). n ≤ s .limit) 0 (λ (n : ℕ). leb n (s .limit)) (λ n k. le-leb n (s .limit) k) (s .loops) (h .loops),
           every-all CarrierInRange inactive carrierOk carrier-ok (s .carriers) (h .carriers),
         )
 
-pub empty-in : StateInRange emptyState
+pub empty-in : (limit : ℕ) → LimitInRange limit → StateInRange (emptyState limit)
 unfolding emptyState
-empty-in = record {
+empty-in limit h = record {
   racking = omega arith;
-  loops = every-replicate (λ (n : ℕ). n ≤ 8) 0 500 (omega arith);
+  limit = h;
+  loops = every-replicate (λ (n : ℕ). n ≤ limit) 0 500 (omega arith);
   carriers = every-replicate CarrierInRange inactive 10 inactive-in;
 }

@@ -1,6 +1,5 @@
 -- The limits of document 01, each said once, and read by name everywhere else.
 use Prim.Native.Nat.{ℕ, _*_}
-use Rattle.machine.specs.declared.State.{State}
 
 -- 'Needles are f.0 to f.249 (front bed) and b.0 to b.249 (back)': on a bed, its last one, and the hooks of both beds
 abbrev pub bedNeedles : ℕ
@@ -23,12 +22,12 @@ rackingMost = 8
 abbrev pub slotMost : ℕ
 slotMost = 258
 
--- 'A hook holds 0 to 8 loops'; statements read it as the limit of a state
-abbrev pub hookMost : ℕ
-hookMost = 8
+-- 02, W2: 'The machine state gains a hook limit, 1 to 8'; 8 is 01's, 'A hook holds 0 to 8 loops'
+abbrev pub limitLeast : ℕ
+limitLeast = 1
 
-abbrev pub hookLimit : State → ℕ
-hookLimit s = hookMost
+abbrev pub limitMost : ℕ
+limitMost = 8
 
 -- 'at most 20 columns from the needle worked'
 abbrev pub floatMost : ℕ

@@ -24,13 +24,13 @@ sameNeedle a b = eqb (a .0) (b .0) && eqb (a .1) (b .1)
 abbrev pub inactive : Carrier
 inactive = record { active = 0; side = 0; slot = record { 0 = pos 0 }; needle = record { 0 = 0; 1 = 0 } }
 
--- racking 0, no loops and no active carrier
-unfoldable pub emptyState : State
-emptyState = record { racking = record { 0 = pos 0 }; loops = replicate hookCount 0; carriers = replicate carrierCount inactive }
+-- racking 0, no loops and no active carrier; 02, W2: 'The empty state has the limit given'
+unfoldable pub emptyState : ℕ → State
+emptyState limit = record { racking = record { 0 = pos 0 }; loops = replicate hookCount 0; limit = limit; carriers = replicate carrierCount inactive }
 
--- the state with these parts; what else a state has is kept
+-- the state with these parts; its limit is kept
 abbrev pub changed : State → Racking → List ℕ → List Carrier → State
-changed s r l cs = record { racking = r; loops = l; carriers = cs }
+changed s r l cs = record { racking = r; loops = l; limit = s .limit; carriers = cs }
 
 -- a needle's hook among the 500, and the loops on it
 abbrev pub hookOf : Needle → ℕ
@@ -70,6 +70,6 @@ inactiveCarrier c = eqb (c .active) 0 && (eqb (c .side) 0 && (eqZ (c .slot .0) (
 abbrev pub allInactive : List Carrier → Bool
 allInactive l = all inactiveCarrier l
 
--- complete: the state is the empty one
+-- complete: the state is the empty one at its own limit
 unfoldable pub completeOf : State → Bool
 completeOf s = eqZ (s .racking .0) (pos 0) && (noLoops (s .loops) && allInactive (s .carriers))

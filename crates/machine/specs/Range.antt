@@ -1,4 +1,4 @@
--- Number 15 of document 01 (foul state): the range of each value of a machine state that is lent.
+-- Number 15 of document 01 (foul state) and of 02, W2: the range of each value of a machine state that is lent, and of a limit that is given.
 use Prim.Native.Nat.{ℕ, _≤_}
 use mathlib.Core.Path.{_≡_}
 use mathlib.Core.Bool.{Bool, true, _&&_, cond}
@@ -6,7 +6,7 @@ use mathlib.Core.Logic.{_↔_}
 use lib.IntN.{ℤ, pos, negsuc, natAbs}
 use lib.ListN.{getD}
 use lib.Dec.{eqb, leb}
-use Rattle.machine.specs.Limits.{lastNeedle, rackingMost, slotMost, hookLimit}
+use Rattle.machine.specs.Limits.{lastNeedle, rackingMost, slotMost, limitLeast, limitMost}
 use Rattle.machine.specs.declared.Slot.{Slot}
 use Rattle.machine.specs.declared.Needle.{Needle}
 use Rattle.machine.specs.declared.Carrier.{Carrier}
@@ -26,12 +26,18 @@ pub data CarrierInRange (c : Carrier) : Type 0 where
   unattached : c .active ≡ 1 → SlotInRange (c .slot) → c .side ≡ 0 → c .needle ≡ record { 0 = 0; 1 = 0 } → CarrierInRange c
   attached : c .active ≡ 1 → SlotInRange (c .slot) → 1 ≤ c .side → c .side ≤ 2 → OnBed (c .needle) → CarrierInRange c
 
+-- a hook limit: 1 to 8
+pub record LimitInRange (n : ℕ) : Type 0 where
+  pub least : limitLeast ≤ n
+  pub most : n ≤ limitMost
+
 -- a state that is not foul (a state in code has 500 hooks and ten carriers; nothing is asked of the lists' lengths here)
 pub record StateInRange (s : State) : Type 0 where
   -- −8 to 8
   pub racking : natAbs (s .racking .0) ≤ rackingMost
-  -- 0 to 8 loops on each hook; past the last there is none
-  pub loops : (i : ℕ) → getD (s .loops) i 0 ≤ hookLimit s
+  pub limit : LimitInRange (s .limit)
+  -- on each hook no more loops than the limit; past the last there is none
+  pub loops : (i : ℕ) → getD (s .loops) i 0 ≤ s .limit
   pub carriers : (i : ℕ) → CarrierInRange (getD (s .carriers) i inactive)
 
 -- ---- as a test that computes, which the contracts cite
@@ -42,6 +48,9 @@ slotOk (negsuc n) = leb n 7
 -- (a racking and a needle in a record's bytes have the same ranges: crate record)
 abbrev pub rackingOk : ℤ → Bool
 rackingOk z = leb (natAbs z) rackingMost
+
+abbrev pub limitOk : ℕ → Bool
+limitOk n = leb limitLeast n && leb n limitMost
 
 abbrev pub numberOk : ℕ → Bool
 numberOk n = leb n lastNeedle
@@ -57,8 +66,11 @@ unfoldable pub carrierOk : Carrier → Bool
 carrierOk c = cond (eqb (c .active) 0) (inactiveCarrier c) (eqb (c .active) 1 && (slotOk (c .slot .0) && attachmentOk c))
 
 unfoldable pub stateOk : State → Bool
-stateOk s = rackingOk (s .racking .0) && (all (λ (n : ℕ). leb n (hookLimit s)) (s .loops) && all carrierOk (s .carriers))
+stateOk s = rackingOk (s .racking .0) && (limitOk (s .limit) && (all (λ (n : ℕ). leb n (s .limit)) (s .loops) && all carrierOk (s .carriers)))
 
--- the test is true exactly of the states in range
+-- the tests are true exactly of the limits, and of the states, in range
+abbrev pub LimitExactly : Type 0
+LimitExactly = (n : ℕ) → (limitOk n ≡ true) ↔ LimitInRange n
+
 abbrev pub RangeExactly : Type 0
 RangeExactly = (s : State) → (stateOk s ≡ true) ↔ StateInRange s

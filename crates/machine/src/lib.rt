@@ -5,10 +5,9 @@ ghost use mathlib.Core.Bool.{cond};
 ghost use mathlib.Core.List.{map};
 ghost use lib.Dec.{leb, ltb};
 ghost use Rattle.machine.specs.Machine.{OnBed, inactive, emptyState, hookOf, sameNeedle, attachedAt, movedTo, all, noLoops, inactiveCarrier, completeOf};
-ghost use Rattle.machine.specs.Limits.{hookMost};
 ghost use Rattle.machine.specs.Geometry.{columnOf, entryOf, exitOf, sameColumn, withinFloat};
 ghost use Rattle.machine.specs.Looks.{Most, carrierPasses, anyBeside};
-ghost use Rattle.machine.specs.Range.{rackingOk, slotOk, onBed, attachmentOk, carrierOk, stateOk};
+ghost use Rattle.machine.specs.Range.{rackingOk, limitOk, slotOk, onBed, attachmentOk, carrierOk, stateOk};
 
 // The numbers of refusals.
 pub mod numbers;
@@ -40,11 +39,12 @@ pub struct Carrier {
     pub needle: Needle,
 }
 
-// The machine state: racking, loops on each hook (front bed first), carriers 1 to 10.
+// The machine state: racking, loops on each hook (front bed first), the most that a hook holds, carriers 1 to 10.
 #[repr(C)]
 pub struct State {
     pub racking: Racking,
     pub loops: [u8; State::HOOKS],
+    pub limit: u8,
     pub carriers: [Carrier; State::CARRIERS],
 }
 
@@ -71,24 +71,37 @@ impl State {
     pub const FLOAT_LEAST: i64 = -20;
 
     pub const FLOAT_MOST: i64 = 20;
-    // loops on a hook and bytes of a program, at most
-    pub const LOOPS_MOST: u8 = 8;
+    // the least and the greatest hook limit
+    pub const LIMIT_LEAST: u8 = 1;
 
+    pub const LIMIT_MOST: u8 = 8;
+    // bytes of a program, at most
     pub const PROGRAM_MOST: usize = 32768;
 
-    // The empty state, where every run starts.
-    pub fn empty() -> State
-        ensures { λ s. ⌜ s ≡ emptyState ⌝ }
+    // The empty state at a hook limit, where a run starts.
+    pub fn empty(limit: u8) -> State
+        ensures { λ s. ⌜ s ≡ emptyState limit ⌝ }
     {
         let c = Carrier::inactive();
         State {
             racking: Racking(0),
             loops: [0u8; State::HOOKS],
+            limit,
             carriers: [c; State::CARRIERS],
         }
     }
 
-    // Whether the state is the empty one.
+    // Whether hooks can have the limit.
+    pub fn has_limit(limit: u8) -> bool
+        ensures { λ b. ⌜ b ≡ limitOk limit ⌝ }
+    {
+        if limit < State::LIMIT_LEAST {
+            return false;
+        }
+        limit <= State::LIMIT_MOST
+    }
+
+    // Whether the state is the empty one at its own limit.
     pub fn complete(self) -> bool
         ensures { λ b. ⌜ b ≡ completeOf self ⌝ }
     {
@@ -111,7 +124,10 @@ impl State {
         if !r.in_range() {
             return false;
         }
-        if !loops_in_range(&self.loops) {
+        if !State::has_limit(self.limit) {
+            return false;
+        }
+        if !loops_in_range(&self.loops, self.limit) {
             return false;
         }
         let cs = self.carriers;
@@ -355,11 +371,11 @@ fn no_loops(loops: &[u8]) -> bool
     most_loops(loops) == 0
 }
 
-// Whether no hook holds more loops than it can.
-fn loops_in_range(loops: &[u8]) -> bool
-    ensures { λ b. ⌜ b ≡ all (λ (n : ℕ). leb n hookMost) (now (loops .entry)) ⌝ }
+// Whether no hook holds more loops than the limit.
+fn loops_in_range(loops: &[u8], limit: u8) -> bool
+    ensures { λ b. ⌜ b ≡ all (λ (n : ℕ). leb n limit) (now (loops .entry)) ⌝ }
 {
-    most_loops(loops) <= State::LOOPS_MOST
+    most_loops(loops) <= limit
 }
 
 // Whether every carrier passes the one test or the other: one walk for both.

@@ -28,7 +28,7 @@ pub const NO_PAIR: u8 = 12;
 pub const TIED: u8 = 13;
 // torn log
 pub const TORN_LOG: u8 = 14;
-// foul state
+// foul state; a hook limit out of range
 pub const BAD_STATE: u8 = 15;
 // one yarn twice
 pub const YARN_TWICE: u8 = 16;

@@ -15,10 +15,10 @@ use Rattle.run.specs.declared.Stepped.{Stepped}
 use Rattle.run.specs.Run.{runOf, stay, stepOf}
 use Rattle.record.proofs.Shapes.{is}
 use Rattle.run.proofs.Refusals.{reason-other}
-use Rattle.run.proofs.Demand.{step-refused, run-in-range, step-in-range}
+use Rattle.run.proofs.Demand.{step-accepts, step-done, step-refused, step-keeps-limit, run-in-range, step-in-range}
 use Rattle.run.proofs.Stepwise.{steps-are-the-run, steps-are-one}
 use Rattle.panel.specs.Panel.{panelStep}
-use Rattle.panel.specs.Claims.{ServiceIsStep, RunNotFoul, ServiceNotFoul, ServedAsRun, ServedOneWay}
+use Rattle.panel.specs.Claims.{ServiceIsStep, RunNotFoul, ServiceNotFoul, ServiceKeepsLimit, ServedAsRun, ServedOneWay}
 use Rattle.panel.specs.Rows.{RangeRows}
 use Rattle.panel.proofs.Services.{foul-step, fine-step}
 
@@ -43,8 +43,8 @@ pub range-rows : RangeRows
 unfolding panelStep stateOk emptyState slotOk attachmentOk carrierOk all inactiveCarrier eqZ stepOf decodeOf refusedAs
 range-rows =
     record {
-      foul = (refl, (refl, (refl, (refl, (refl, (refl, (refl, (refl, (refl, (refl, (refl, (refl, (refl, (refl, (refl, (refl, (refl, (refl, (refl, (refl, (refl, (refl, (refl, (refl, tt))))))))))))))))))))))));
-      sound = (refl, (refl, (refl, (refl, (refl, (refl, (refl, (refl, tt))))))));
+      foul = (refl, (refl, (refl, (refl, (refl, (refl, (refl, (refl, (refl, (refl, (refl, (refl, (refl, (refl, (refl, (refl, (refl, (refl, (refl, (refl, (refl, (refl, (refl, (refl, (refl, (refl, (refl, (refl, (refl, (refl, (refl, (refl, (refl, (refl, (refl, (refl, (refl, (refl, tt))))))))))))))))))))))))))))))))))))));
+      sound = (refl, (refl, (refl, (refl, (refl, (refl, (refl, (refl, (refl, (refl, (refl, (refl, (refl, (refl, (refl, tt)))))))))))))));
     }
 
 -- a refused step keeps the state and gives length 0
@@ -63,7 +63,7 @@ module _ (s : State) (l : List ℕ) where
       Kept a = (a .number ≡ 0 → ⊥) → a ≡ stay (a .number) s
 
 pub run-not-foul : RunNotFoul
-run-not-foul p l = not-foul (runOf p .state) l (run-in-range p)
+run-not-foul limit p l = not-foul (runOf limit p .state) l (run-in-range limit p)
 
 pub service-not-foul : ServiceNotFoul
 service-not-foul s l m d = not-foul (panelStep s l .state) m (either s fair (λ f. absurd (d (foul f))))
@@ -73,6 +73,16 @@ service-not-foul s l m d = not-foul (panelStep s l .state) m (either s fair (λ 
 
     foul : stateOk s ≡ false → panelStep s l .number ≡ 15
     foul f = sym (ap (λ (t : Stepped). t .number) (foul-step s l f))
+
+pub service-keeps-limit : ServiceKeepsLimit
+service-keeps-limit s l =
+    is (panelStep s l .number) 0
+    (λ z. either s
+    (λ h. let e = service-is-step s l h in
+    let (bytes, rest, x, t, whole, form, step) = step-accepts s l .0 (sym (ap (λ (a : Stepped). a .number) e) ∙ z) in
+    ap (λ (a : Stepped). a .state .limit) (e ∙ ap (stepOf s) whole ∙ step-done s bytes rest x t form step) ∙ step-keeps-limit s t x step)
+    (λ f. absurd (omega (arith, ap (λ (a : Stepped). a .number) (foul-step s l f), z))))
+    (λ d. ap (λ (a : Stepped). a .state .limit) (refused-keeps s l d))
 
 pub served-as-run : ServedAsRun
 served-as-run = steps-are-the-run panelStep service-is-step

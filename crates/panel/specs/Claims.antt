@@ -14,12 +14,16 @@ ServiceIsStep = (s : State) (l : List ℕ) → StateInRange s → panelStep s l 
 
 -- no state that the run or the service gives is foul, unless a foul one was lent
 abbrev pub RunNotFoul : Type 0
-RunNotFoul = (p l : List ℕ) → panelStep (runOf p .state) l .number ≡ 15 → ⊥
+RunNotFoul = (limit : ℕ) (p l : List ℕ) → panelStep (runOf limit p .state) l .number ≡ 15 → ⊥
 
 abbrev pub ServiceNotFoul : Type 0
 ServiceNotFoul = (s : State) (l m : List ℕ) → (panelStep s l .number ≡ 15 → ⊥) → panelStep (panelStep s l .state) m .number ≡ 15 → ⊥
 
--- a program's records served one by one from the empty state give the run's answer, and no other
+-- 02, W2: the limit is 'kept by every step', and by a refused one, whatever state is lent
+abbrev pub ServiceKeepsLimit : Type 0
+ServiceKeepsLimit = (s : State) (l : List ℕ) → panelStep s l .state .limit ≡ s .limit
+
+-- a program's records served one by one from the empty state at a limit give the run's answer there, and no other
 abbrev pub ServedAsRun : Type 0
 ServedAsRun = StepsAreTheRun panelStep
 

@@ -16,9 +16,9 @@ use Rattle.machine.specs.Geometry.{eqZ, columnOf, entryOf, exitOf, sameColumn, 
 use Rattle.record.specs.Kinds.{byKind}
 use Rattle.record.specs.Format.{decodeOf, readOf, fieldsOk, recordFrom, refusedAs, rackOk, needleOk, workOk, signedOf}
 use Rattle.record.specs.Names.{needlesOf, carriersOf}
-use Rattle.run.specs.Step.{lookOf, seeOf, twiceNo, parkedNo, floatNo, carrierNo, oppositeNo, firstAfter, secondAfter, roomNo, decidedNo, edit, actOf, acted, moveAttachments, numberAt, applyOf}
+use Rattle.run.specs.Step.{lookOf, seeOf, twiceNo, parkedNo, floatNo, carrierNo, oppositeNo, firstAfter, secondAfter, firstAsked, roomNo, decidedNo, edit, actOf, acted, moveAttachments, numberAt, applyOf}
 use Rattle.run.specs.declared.Answer.{Answer}
-use Rattle.run.specs.Run.{stepOf, turn, runFrom, answerOf, runOf}
+use Rattle.run.specs.Run.{stepOf, turn, runFrom, startNo, answerLimit, answerOf, runOf}
 use Rattle.trace.specs.Records.{tied}
 use Rattle.rewrite.specs.Extents.{halfColumn, layerOf, extentOf, meets, member, common}
 use Rattle.rewrite.specs.Programs.{cut, startsOf, sameBytes, knitting}
@@ -73,7 +73,7 @@ carriersTest : State → List (ℕ × Carrier) → Bool
 carriersTest s l = every (λ (k : ℕ × Carrier). sameCarrier (carrierOf s (k .0)) (k .1)) l
 
 stateTest : State → Expected → Bool
-stateTest s e = eqZ (s .racking .0) (e .racking) && (hooksTest s (e .hooks) && carriersTest s (e .carriers))
+stateTest s e = eqZ (s .racking .0) (e .racking) && (eqb (s .limit) (e .limit) && (hooksTest s (e .hooks) && carriersTest s (e .carriers)))
 
 saysTest : Answer → Expected → Bool
 saysTest a e = eqb (a .number) (e .number) && (eqb (a .place) (e .place) && (sameBool (a .complete) (e .complete) && stateTest (a .state) e))
@@ -85,18 +85,20 @@ test-says a e t =
     let (p, t2) = and-two (eqb (a .place) (e .place)) _ t1 in
     let (c, t3) = and-two (sameBool (a .complete) (e .complete)) _ t2 in
     let (r, t4) = and-two (eqZ (a .state .racking .0) (e .racking)) _ t3 in
-    let (h, k) = and-two (hooksTest (a .state) (e .hooks)) (carriersTest (a .state) (e .carriers)) t4 in
+    let (l, t5) = and-two (eqb (a .state .limit) (e .limit)) _ t4 in
+    let (h, k) = and-two (hooksTest (a .state) (e .hooks)) (carriersTest (a .state) (e .carriers)) t5 in
     record {
       number = eqb-true _ _ n;
       place = eqb-true _ _ p;
       complete = same-bool _ _ c;
       racking = eqZ-true _ _ r;
+      limit = eqb-true _ _ l;
       hooks = each _ _ (λ h f. eqb-true _ _ f) (e .hooks) h;
       carriers = each _ _ (λ k f. same-carrier _ _ f) (e .carriers) k;
     }
 
 rowTest : Row → Bool
-rowTest r = saysTest (runOf (r .program)) (r .answer)
+rowTest r = saysTest (runOf (r .limit) (r .program)) (r .answer)
 
 row-says : (r : Row) → rowTest r ≡ true → Holds r
 unfolding rowTest
@@ -125,11 +127,11 @@ pair-says r e =
 
 -- the tests, computed: rows, swaps and ties apart, since a declaration is checked in fifty million steps at most
 rows-computed : every rowTest rows ≡ true
-unfolding rowTest saysTest stateTest hooksTest carriersTest sameBool sameCarrier runOf runFrom turn stepOf answerOf emptyState completeOf all inactiveCarrier movedTo attachedAt sameNeedle eqZ columnOf entryOf exitOf sameColumn withinFloat decodeOf readOf fieldsOk recordFrom refusedAs rackOk needleOk workOk signedOf needlesOf carriersOf lookOf seeOf twiceNo parkedNo floatNo carrierNo oppositeNo firstAfter secondAfter roomNo decidedNo edit actOf acted moveAttachments numberAt applyOf byKind
+unfolding rowTest saysTest stateTest hooksTest carriersTest sameBool sameCarrier runOf runFrom turn stepOf startNo answerLimit answerOf emptyState completeOf all inactiveCarrier movedTo attachedAt sameNeedle eqZ columnOf entryOf exitOf sameColumn withinFloat decodeOf readOf fieldsOk recordFrom refusedAs rackOk needleOk workOk signedOf needlesOf carriersOf lookOf seeOf twiceNo parkedNo floatNo carrierNo oppositeNo firstAfter secondAfter firstAsked roomNo decidedNo edit actOf acted moveAttachments numberAt applyOf byKind
 rows-computed = refl
 
 swaps-computed : every swapTest swaps ≡ true
-unfolding swapTest saysTest rewriteOf lentNo replayFrom cut startsOf sameBytes halfColumn layerOf extentOf meets member common byKind stateTest hooksTest carriersTest sameBool sameCarrier runOf runFrom turn stepOf answerOf emptyState completeOf all inactiveCarrier movedTo attachedAt sameNeedle eqZ columnOf entryOf exitOf sameColumn withinFloat decodeOf readOf fieldsOk recordFrom refusedAs rackOk needleOk workOk signedOf needlesOf carriersOf lookOf seeOf twiceNo parkedNo floatNo carrierNo oppositeNo firstAfter secondAfter roomNo decidedNo edit actOf acted moveAttachments numberAt applyOf
+unfolding swapTest saysTest rewriteOf lentNo replayFrom cut startsOf sameBytes halfColumn layerOf extentOf meets member common byKind stateTest hooksTest carriersTest sameBool sameCarrier runOf runFrom turn stepOf startNo answerLimit answerOf emptyState completeOf all inactiveCarrier movedTo attachedAt sameNeedle eqZ columnOf entryOf exitOf sameColumn withinFloat decodeOf readOf fieldsOk recordFrom refusedAs rackOk needleOk workOk signedOf needlesOf carriersOf lookOf seeOf twiceNo parkedNo floatNo carrierNo oppositeNo firstAfter secondAfter firstAsked roomNo decidedNo edit actOf acted moveAttachments numberAt applyOf
 swaps-computed = refl
 
 ties-computed : (every pairTest pairs && every pairTest edges) ≡ true

@@ -121,7 +121,7 @@ pub record OrdersHold : Type 0 where
   pub stretches-are : Each (λ (k : ℕ × List (List ℕ)). stretch knitting (k .0) (recordsOf program) ≡ k .1) stretches
   pub ties-are : Each (λ (t : TiePlace). tiedIn knitting rackingZero (recordsOf program) (t .p) (t .q) (t .first) (t .second) ≡ t .tied) tie-places
   pub counts-are : Each (λ (c : List ℕ × (ℕ × ℕ)). Nth sameBytes (recordsOf program) (c .0) (c .1 .0) (c .1 .1)) counted
-  pub loops-are : Each (λ (h : ℕ × ℕ). getD (runOf at-the-ends .state .loops) (h .0) 0 ≡ h .1) stored-loops
-  pub carriers-are : Each (λ (k : ℕ × Carrier). getD (runOf at-the-ends .state .carriers) (k .0) inactive ≡ k .1) stored-carriers
+  pub loops-are : Each (λ (h : ℕ × ℕ). getD (runOf 8 at-the-ends .state .loops) (h .0) 0 ≡ h .1) stored-loops
+  pub carriers-are : Each (λ (k : ℕ × Carrier). getD (runOf 8 at-the-ends .state .carriers) (k .0) inactive ≡ k .1) stored-carriers
   -- which byte is which carrier of a plated stitch: no answer tells, since the two are treated alike
   pub carriers-read : (what (plated-knit right (f 10) 3 4) .carrier ≡ 3) × (what (plated-knit right (f 10) 3 4) .second ≡ 4)

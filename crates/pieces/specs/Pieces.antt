@@ -22,11 +22,12 @@ pub record Says (a : Answer) (e : Expected) : Type 0 where
   pub place : a .place ≡ e .place
   pub complete : a .complete ≡ e .complete
   pub racking : a .state .racking .0 ≡ e .racking
+  pub limit : a .state .limit ≡ e .limit
   pub hooks : Each (λ (h : Needle × ℕ). loopsOn (a .state) (h .0) ≡ h .1) (e .hooks)
   pub carriers : Each (λ (k : ℕ × Carrier). carrierOf (a .state) (k .0) ≡ k .1) (e .carriers)
 
 abbrev pub Holds : Row → Type 0
-Holds r = Says (runOf (r .program)) (r .answer)
+Holds r = Says (runOf (r .limit) (r .program)) (r .answer)
 
 -- an output or a work area of a length; it ends .. 253, 254, 255, so that what is not written is seen to stay in place
 abbrev pub lent : ℕ → List ℕ
@@ -37,7 +38,7 @@ abbrev pub front : List ℕ → ℕ → List ℕ
 front q n = q ++ drop (length q) (lent n)
 
 abbrev pub rewritten : Swap → Rewritten
-rewritten r = rewriteOf (r .program) (r .log) (lent (r .output)) (lent (r .work))
+rewritten r = rewriteOf (r .limit) (r .program) (r .log) (lent (r .output)) (lent (r .work))
 
 pub record Rewrites (r : Swap) : Type 0 where
   pub answer : Says (rewritten r .answer) (r .answer)

@@ -9,17 +9,22 @@ use Rattle.machine.specs.declared.Carrier.{Carrier}
 use Rattle.machine.specs.Machine.{inactive}
 use Rattle.pieces.specs.Spelled.{f, b, left, right, rack, drop, xfer, bring-in, take-out, miss, tuck, knit, split, plated-tuck, plated-knit}
 
--- what an answer says: number, place, complete; of the state its racking, some needles with their loops, some carriers
+-- what an answer says: number, place, complete; of the state its racking, its limit, some needles with their loops, some carriers
 pub record Expected : Type 0 where
   pub number : ℕ
   pub place : ℕ
   pub complete : Bool
   pub racking : ℤ
+  pub limit : ℕ
   pub hooks : List (Needle × ℕ)
   pub carriers : List (ℕ × Carrier)
 
 abbrev expected : ℕ → ℕ → Bool → ℤ → List (Needle × ℕ) → List (ℕ × Carrier) → Expected
-expected n at done r hs cs = record { number = n; place = at; complete = done; racking = r; hooks = hs; carriers = cs }
+expected n at done r hs cs = record { number = n; place = at; complete = done; racking = r; limit = 8; hooks = hs; carriers = cs }
+
+-- the same at another limit
+abbrev having : ℕ → Expected → Expected
+having limit e = record { number = e .number; place = e .place; complete = e .complete; racking = e .racking; limit = limit; hooks = e .hooks; carriers = e .carriers }
 
 -- the empty state, which complete says whole
 abbrev empty : ℕ → ℕ → Expected
@@ -38,20 +43,28 @@ on-right z n = parked (pos z) 2 n
 abbrev unattached : ℕ → Carrier
 unattached z = parked (pos z) 0 (f 0)
 
--- ---- the run: a program and its answer
+-- ---- the run: a limit, a program and its answer
 pub record Row : Type 0 where
+  pub limit : ℕ
   pub program : List ℕ
   pub answer : Expected
 
--- rows that end in the empty state; in another at racking 0; at another racking
+-- rows at limit 8 that end in the empty state; in another at racking 0; at another racking
 abbrev row : List ℕ → ℕ → ℕ → Row
-row p n at = record { program = p; answer = empty n at }
+row p n at = record { limit = 8; program = p; answer = empty n at }
 
 abbrev knitted : List ℕ → ℕ → ℕ → List (Needle × ℕ) → List (ℕ × Carrier) → Row
-knitted p n at hs cs = record { program = p; answer = expected n at false (pos 0) hs cs }
+knitted p n at hs cs = record { limit = 8; program = p; answer = expected n at false (pos 0) hs cs }
 
 abbrev racked : List ℕ → ℕ → ℕ → ℤ → List (Needle × ℕ) → List (ℕ × Carrier) → Row
-racked p n at r hs cs = record { program = p; answer = expected n at false r hs cs }
+racked p n at r hs cs = record { limit = 8; program = p; answer = expected n at false r hs cs }
+
+-- a row at another limit, which its state has too; and 02, W2: 'a run or rewrite started with a bad limit gets 15 too .. with the empty state of limit 8, complete'
+abbrev given : ℕ → Row → Row
+given limit r = record { limit = limit; program = r .program; answer = having limit (r .answer) }
+
+abbrev bad : ℕ → List ℕ → Row
+bad limit p = record { limit = limit; program = p; answer = empty 15 0 }
 
 -- carrier 3 comes in right at f.10, parked at slot 10
 abbrev in-3 : List ℕ
@@ -435,11 +448,146 @@ plated-bytes kind =
     ∷ knitted (in-3 ++ (kind ∷ 1 ∷ 0 ∷ 10 ∷ 3 ∷ 11 ∷ [])) 5 5 [] ((3, unattached 10) ∷ [])
     ∷ (outside kind (4 ∷ []) ++ outside kind (3 ∷ []))
 
-abbrev pub rows : List Row
-rows = pieces ++ steps ++ floats ++ refusals ++ fields ++ plated ++ plated-bytes 10 ++ plated-bytes 11
+-- ---- other limits than 8 (02, W2)
+-- carriers 3 and 4 parked at slot 10, or attached on the right of f.10
+abbrev both-parked : List (ℕ × Carrier)
+both-parked = (3, unattached 10) ∷ (4, unattached 10) ∷ []
 
--- ---- the rewriter: program, log, the lengths of output and work area; its answer, the program at the front of the output and the starts at the front of the work area
+abbrev both-on : List (ℕ × Carrier)
+both-on = (3, on-right 11 (f 10)) ∷ (4, on-right 11 (f 10)) ∷ []
+
+-- a loop by carrier 5 at f.10, and carriers 3 and 4 beside it
+abbrev one-and-both : List ℕ
+one-and-both = bring-in right (f 10) 5 ++ tuck right (f 10) 5 ++ both-in
+
+-- four loops on f.10 or three, one on b.10, and an xfer from f.10 to b.10
+abbrev four-onto-one : List ℕ
+four-onto-one = in-3 ++ tucks (f 10) 3 ++ bring-in right (b 10) 4 ++ knit right (b 10) 4 ++ xfer (f 10) 10
+
+abbrev three-onto-one : List ℕ
+three-onto-one = in-3 ++ tuck right (f 10) 3 ++ tuck left (f 10) 3 ++ tuck right (f 10) 3 ++ bring-in right (b 10) 4 ++ knit right (b 10) 4 ++ xfer (f 10) 10
+
+-- a loop on f.10 and one on b.11, which are not opposite
+abbrev apart : List ℕ
+apart = in-3 ++ bring-in right (b 11) 4 ++ knit right (f 10) 3 ++ knit right (b 11) 4
+
+-- carriers 3 and 4 parked at slot 11, right of b.10
+abbrev both-left : List ℕ
+both-left = bring-in left (b 10) 3 ++ bring-in left (b 10) 4
+
+abbrev limits : List Row
+limits =
+    -- 'so a plated knit at limit 1 gets 11', whatever the hook holds; at 2 it is done, over two loops too; 16, 7, 8 and 9 come first
+    given 1 (knitted (both-in ++ plated-knit right (f 10) 3 4) 11 10 ((f 10, 0) ∷ []) both-parked)
+    ∷ given 1 (knitted (one-and-both ++ plated-knit right (f 10) 3 4) 11 20 ((f 10, 1) ∷ []) both-parked)
+    ∷ given 2 (knitted (both-in ++ plated-knit right (f 10) 3 4) 0 0 ((f 10, 2) ∷ []) both-on)
+    ∷ given 2 (knitted (both-in ++ tuck right (f 10) 3 ++ tuck left (f 10) 3 ++ plated-knit right (f 10) 3 4) 0 0 ((f 10, 2) ∷ []) both-on)
+    ∷ given 1 (row (plated-knit right (f 10) 3 3) 16 0)
+    ∷ given 1 (knitted (in-3 ++ plated-knit right (f 10) 3 4) 7 5 ((f 10, 0) ∷ []) ((3, unattached 10) ∷ (4, inactive) ∷ []))
+    ∷ given 1 (knitted (in-3 ++ bring-in right (f 11) 4 ++ plated-knit right (f 10) 3 4) 8 10 ((f 10, 0) ∷ []) ((3, unattached 10) ∷ (4, unattached 11) ∷ []))
+    ∷ given 1 (knitted (led-21 ++ bring-in right (f 31) 4 ++ plated-knit right (f 31) 4 3) 9 115 ((f 31, 0) ∷ []) ((3, on-right 31 (f 10)) ∷ (4, unattached 31) ∷ []))
+    -- a tuck at limits 1 and 2, and the last tuck that fits at the others; 7 to 9 come first
+    ∷ given 1 (knitted (in-3 ++ tuck right (f 10) 3) 0 0 ((f 10, 1) ∷ []) ((3, on-right 11 (f 10)) ∷ []))
+    ∷ given 1 (knitted (in-3 ++ tuck right (f 10) 3 ++ tuck left (f 10) 3) 11 10 ((f 10, 1) ∷ []) ((3, on-right 11 (f 10)) ∷ []))
+    ∷ given 2 (knitted (in-3 ++ tuck right (f 10) 3 ++ tuck left (f 10) 3) 0 0 ((f 10, 2) ∷ []) ((3, on-left 10 (f 10)) ∷ []))
+    ∷ given 2 (knitted (in-3 ++ tucks (f 10) 3) 11 15 ((f 10, 2) ∷ []) ((3, on-left 10 (f 10)) ∷ []))
+    ∷ given 3 (knitted (in-3 ++ tucks (f 10) 3) 11 20 ((f 10, 3) ∷ []) ((3, on-right 11 (f 10)) ∷ []))
+    ∷ given 4 (knitted (in-3 ++ tucks (f 10) 3) 0 0 ((f 10, 4) ∷ []) ((3, on-left 10 (f 10)) ∷ []))
+    ∷ given 4 (knitted (in-3 ++ tucks (f 10) 3 ++ tucks (f 10) 3) 11 25 ((f 10, 4) ∷ []) ((3, on-left 10 (f 10)) ∷ []))
+    ∷ given 5 (knitted (in-3 ++ tucks (f 10) 3 ++ tucks (f 10) 3) 11 30 ((f 10, 5) ∷ []) ((3, on-right 11 (f 10)) ∷ []))
+    ∷ given 6 (knitted (in-3 ++ tucks (f 10) 3 ++ tucks (f 10) 3) 11 35 ((f 10, 6) ∷ []) ((3, on-left 10 (f 10)) ∷ []))
+    ∷ given 7 (knitted (in-3 ++ tucks (f 10) 3 ++ tucks (f 10) 3) 11 40 ((f 10, 7) ∷ []) ((3, on-right 11 (f 10)) ∷ []))
+    ∷ given 1 (knitted (in-3 ++ tuck right (f 10) 3 ++ tuck right (f 10) 3) 8 10 ((f 10, 1) ∷ []) ((3, on-right 11 (f 10)) ∷ []))
+    ∷ given 1 (knitted (in-3 ++ tuck right (f 10) 3 ++ tuck left (f 10) 4) 7 10 ((f 10, 1) ∷ []) ((3, on-right 11 (f 10)) ∷ (4, inactive) ∷ []))
+    ∷ given 1 (knitted (bring-in right (f 31) 4 ++ knit right (f 31) 4 ++ led-21 ++ tuck right (f 31) 3) 9 120 ((f 31, 1) ∷ []) ((3, on-right 31 (f 10)) ∷ []))
+    -- a plated tuck at limits 1 to 3; 16, 7, 8 and 9 come first
+    ∷ given 1 (knitted (both-in ++ plated-tuck right (f 10) 3 4) 11 10 ((f 10, 0) ∷ []) both-parked)
+    ∷ given 2 (knitted (both-in ++ plated-tuck right (f 10) 3 4) 0 0 ((f 10, 2) ∷ []) both-on)
+    ∷ given 2 (knitted (one-and-both ++ plated-tuck right (f 10) 3 4) 11 20 ((f 10, 1) ∷ []) both-parked)
+    ∷ given 3 (knitted (one-and-both ++ plated-tuck right (f 10) 3 4) 0 0 ((f 10, 3) ∷ []) both-on)
+    ∷ given 1 (row (plated-tuck right (f 10) 3 3) 16 0)
+    ∷ given 1 (knitted (in-3 ++ plated-tuck right (f 10) 3 4) 7 5 ((f 10, 0) ∷ []) ((3, unattached 10) ∷ (4, inactive) ∷ []))
+    ∷ given 1 (knitted (in-3 ++ bring-in right (f 11) 4 ++ plated-tuck right (f 10) 3 4) 8 10 ((f 10, 0) ∷ []) ((3, unattached 10) ∷ (4, unattached 11) ∷ []))
+    ∷ given 1 (knitted (led-21 ++ bring-in right (f 31) 4 ++ plated-tuck right (f 31) 4 3) 9 115 ((f 31, 0) ∷ []) ((3, on-right 31 (f 10)) ∷ (4, unattached 31) ∷ []))
+    -- one loop always fits: a knit over a loop, a split of none, a split of one onto none; of one onto one it is the second hook that is full
+    ∷ given 1 (knitted (in-3 ++ knit right (f 10) 3 ++ knit left (f 10) 3) 0 0 ((f 10, 1) ∷ []) ((3, on-left 10 (f 10)) ∷ []))
+    ∷ given 1 (knitted (in-3 ++ split right (f 10) 3 10) 0 0 ((f 10, 1) ∷ (b 10, 0) ∷ []) ((3, on-right 11 (f 10)) ∷ []))
+    ∷ given 1 (knitted (in-3 ++ knit right (f 10) 3 ++ split left (f 10) 3 10) 0 0 ((f 10, 1) ∷ (b 10, 1) ∷ []) ((3, on-left 10 (f 10)) ∷ []))
+    ∷ given 1 (knitted (in-3 ++ knit right (f 10) 3 ++ split left (f 10) 3 10 ++ split right (f 10) 3 10) 11 16 ((f 10, 1) ∷ (b 10, 1) ∷ []) ((3, on-left 10 (f 10)) ∷ []))
+    ∷ given 2 (knitted (in-3 ++ knit right (f 10) 3 ++ split left (f 10) 3 10 ++ split right (f 10) 3 10) 0 0 ((f 10, 1) ∷ (b 10, 2) ∷ []) ((3, on-right 11 (f 10)) ∷ []))
+    -- an xfer of one onto none and onto one, of four and three onto one; 10 comes first, of a split too
+    ∷ given 1 (knitted (in-3 ++ knit right (f 10) 3 ++ xfer (f 10) 10) 0 0 ((f 10, 0) ∷ (b 10, 1) ∷ []) ((3, on-right 11 (b 10)) ∷ []))
+    ∷ given 1 (knitted (P ++ xfer (f 10) 10) 11 20 ((f 10, 1) ∷ (b 10, 1) ∷ []) ((3, on-right 11 (f 10)) ∷ (4, on-right 11 (b 10)) ∷ []))
+    ∷ given 2 (knitted (P ++ xfer (f 10) 10) 0 0 ((f 10, 0) ∷ (b 10, 2) ∷ []) ((3, on-right 11 (b 10)) ∷ (4, on-right 11 (b 10)) ∷ []))
+    ∷ given 4 (knitted four-onto-one 11 35 ((f 10, 4) ∷ (b 10, 1) ∷ []) ((3, on-left 10 (f 10)) ∷ (4, on-right 11 (b 10)) ∷ []))
+    ∷ given 4 (knitted three-onto-one 0 0 ((f 10, 0) ∷ (b 10, 4) ∷ []) ((3, on-right 11 (b 10)) ∷ (4, on-right 11 (b 10)) ∷ []))
+    ∷ given 5 (knitted four-onto-one 0 0 ((f 10, 0) ∷ (b 10, 5) ∷ []) ((3, on-left 10 (b 10)) ∷ (4, on-right 11 (b 10)) ∷ []))
+    ∷ given 1 (knitted (apart ++ xfer (f 10) 11) 10 20 ((f 10, 1) ∷ (b 11, 1) ∷ []) ((3, on-right 11 (f 10)) ∷ (4, on-right 12 (b 11)) ∷ []))
+    ∷ given 1 (knitted (apart ++ split left (f 10) 3 11) 10 20 ((f 10, 1) ∷ (b 11, 1) ∷ []) ((3, on-right 11 (f 10)) ∷ (4, on-right 12 (b 11)) ∷ []))
+    -- of none onto a full hook: nothing is put there
+    ∷ given 1 (knitted (bring-in right (b 10) 3 ++ knit right (b 10) 3 ++ xfer (f 10) 10) 0 0 ((f 10, 0) ∷ (b 10, 1) ∷ []) ((3, on-right 11 (b 10)) ∷ []))
+    ∷ given 1 (knitted (bring-in right (b 10) 4 ++ knit right (b 10) 4 ++ in-3 ++ split right (f 10) 3 10) 0 0 ((f 10, 1) ∷ (b 10, 1) ∷ [])
+    ((3, on-right 11 (f 10)) ∷ (4, on-right 11 (b 10)) ∷ []))
+    ∷ knitted (bring-in right (b 10) 3 ++ tucks (b 10) 3 ++ tucks (b 10) 3 ++ xfer (f 10) 10) 0 0 ((f 10, 0) ∷ (b 10, 8) ∷ []) ((3, on-left 10 (b 10)) ∷ [])
+    -- a split onto a full hook: 7, 8 and 9 come first
+    ∷ given 1 (knitted (P ++ split left (f 10) 5 10) 7 20 ((f 10, 1) ∷ (b 10, 1) ∷ []) ((5, inactive) ∷ []))
+    ∷ given 1 (knitted (P ++ split right (f 10) 3 10) 8 20 ((f 10, 1) ∷ (b 10, 1) ∷ []) ((3, on-right 11 (f 10)) ∷ []))
+    ∷ given 1 (knitted (bring-in right (f 31) 4 ++ knit right (f 31) 4 ++ bring-in right (b 31) 5 ++ knit right (b 31) 5 ++ led-21 ++ split right (f 31) 3 31) 9 130
+    ((f 31, 1) ∷ (b 31, 1) ∷ []) ((3, on-right 31 (f 10)) ∷ []))
+    -- on the back bed, and to the left
+    ∷ given 2 (knitted (bring-in right (b 10) 3 ++ tucks (b 10) 3) 11 15 ((b 10, 2) ∷ []) ((3, on-left 10 (b 10)) ∷ []))
+    ∷ given 1 (knitted (both-left ++ plated-knit left (b 10) 4 3) 11 10 ((b 10, 0) ∷ []) ((3, unattached 11) ∷ (4, unattached 11) ∷ []))
+    ∷ given 2 (knitted (both-left ++ plated-knit left (b 10) 4 3) 0 0 ((b 10, 2) ∷ []) ((3, on-left 10 (b 10)) ∷ (4, on-left 10 (b 10)) ∷ []))
+    ∷ given 1 (knitted (both-left ++ plated-tuck left (b 10) 4 3) 11 10 ((b 10, 0) ∷ []) ((3, unattached 11) ∷ (4, unattached 11) ∷ []))
+    ∷ given 2 (knitted (both-left ++ plated-tuck left (b 10) 4 3) 0 0 ((b 10, 2) ∷ []) ((3, on-left 10 (b 10)) ∷ (4, on-left 10 (b 10)) ∷ []))
+    ∷ given 1 (knitted (bring-in right (b 10) 3 ++ knit right (b 10) 3 ++ knit left (b 10) 3) 0 0 ((b 10, 1) ∷ []) ((3, on-left 10 (b 10)) ∷ []))
+    ∷ given 1 (knitted (P ++ xfer (b 10) 10) 11 20 ((f 10, 1) ∷ (b 10, 1) ∷ []) ((3, on-right 11 (f 10)) ∷ (4, on-right 11 (b 10)) ∷ []))
+    ∷ given 2 (knitted (P ++ xfer (b 10) 10) 0 0 ((f 10, 2) ∷ (b 10, 0) ∷ []) ((3, on-right 11 (f 10)) ∷ (4, on-right 11 (f 10)) ∷ []))
+    ∷ given 1 (knitted (P ++ split left (b 10) 4 10) 11 20 ((f 10, 1) ∷ (b 10, 1) ∷ []) ((3, on-right 11 (f 10)) ∷ (4, on-right 11 (b 10)) ∷ []))
+    ∷ given 2 (knitted (P ++ split left (b 10) 4 10) 0 0 ((f 10, 2) ∷ (b 10, 1) ∷ []) ((3, on-right 11 (f 10)) ∷ (4, on-left 10 (b 10)) ∷ []))
+    -- a full hook of two: knitted over, moved, split
+    ∷ given 2 (knitted (in-3 ++ tuck right (f 10) 3 ++ tuck left (f 10) 3 ++ knit right (f 10) 3) 0 0 ((f 10, 1) ∷ []) ((3, on-right 11 (f 10)) ∷ []))
+    ∷ given 2 (knitted (in-3 ++ tuck right (f 10) 3 ++ tuck left (f 10) 3 ++ xfer (f 10) 10) 0 0 ((f 10, 0) ∷ (b 10, 2) ∷ []) ((3, on-left 10 (b 10)) ∷ []))
+    ∷ given 2 (knitted (in-3 ++ tuck right (f 10) 3 ++ tuck left (f 10) 3 ++ split right (f 10) 3 10) 0 0 ((f 10, 1) ∷ (b 10, 2) ∷ []) ((3, on-right 11 (f 10)) ∷ []))
+    -- a split of four onto one
+    ∷ given 4 (knitted (in-3 ++ tucks (f 10) 3 ++ bring-in right (b 10) 4 ++ knit right (b 10) 4 ++ split right (f 10) 3 10) 11 35 ((f 10, 4) ∷ (b 10, 1) ∷ []) ((3, on-left 10 (f 10)) ∷ []))
+    ∷ given 5 (knitted (in-3 ++ tucks (f 10) 3 ++ bring-in right (b 10) 4 ++ knit right (b 10) 4 ++ split right (f 10) 3 10) 0 0 ((f 10, 1) ∷ (b 10, 5) ∷ []) ((3, on-right 11 (f 10)) ∷ []))
+    -- a full hook is passed by, left and emptied; racks and all keep the limit, and complete is asked at it
+    ∷ given 1 (knitted (in-3 ++ knit right (f 10) 3 ++ miss left (f 10) 3) 0 0 ((f 10, 1) ∷ []) ((3, on-right 10 (f 10)) ∷ []))
+    ∷ given 1 (row (rack 2 ++ in-3 ++ knit right (f 10) 3 ++ take-out right (f 10) 3 ++ drop (f 10) ++ rack 0) 0 0)
+    -- the empty state has the limit given, and complete compares against that: done, 3, 4, 5 and 1
+    ∷ given 1 (row [] 0 0)
+    ∷ given 7 (row [] 0 0)
+    ∷ given 3 (row (in-3 ++ take-out left (f 10) 3) 0 0)
+    ∷ given 1 (row (0 ∷ []) 3 0)
+    ∷ given 2 (row (8 ∷ 1 ∷ []) 4 0)
+    ∷ given 4 (row (1 ∷ 9 ∷ []) 5 0)
+    ∷ given 1 (row (replicate 32769 0) 1 0)
+    -- 15: limits 0, 9 and 255; before 1 and every number of a record
+    ∷ bad 0 []
+    ∷ bad 9 []
+    ∷ bad 255 []
+    ∷ bad 0 (replicate 32769 0)
+    ∷ bad 9 (replicate 32769 0)
+    ∷ bad 0 (0 ∷ [])
+    ∷ bad 0 (8 ∷ 1 ∷ [])
+    ∷ bad 9 (1 ∷ 9 ∷ [])
+    ∷ bad 9 (plated-knit right (f 10) 3 3)
+    ∷ bad 0 (in-3 ++ in-3)
+    ∷ bad 9 (knit right (f 10) 3)
+    ∷ bad 0 (in-3 ++ knit left (f 10) 3)
+    ∷ bad 9 (led-21 ++ tuck right (f 31) 3)
+    ∷ bad 0 (P ++ xfer (f 10) 11)
+    ∷ bad 0 (in-3 ++ tuck right (f 10) 3)
+    ∷ bad 9 P
+    ∷ []
+
+abbrev pub rows : List Row
+rows = pieces ++ steps ++ floats ++ refusals ++ fields ++ plated ++ plated-bytes 10 ++ plated-bytes 11 ++ limits
+
+-- ---- the rewriter: limit, program, log, the lengths of output and work area; its answer, the program at the front of the output and the starts at the front of the work area
 pub record Swap : Type 0 where
+  pub limit : ℕ
   pub program : List ℕ
   pub log : List ℕ
   pub output : ℕ
@@ -449,7 +597,7 @@ pub record Swap : Type 0 where
   pub starts : List ℕ
 
 abbrev lending : List ℕ → List ℕ → ℕ → ℕ → Expected → List ℕ → List ℕ → Swap
-lending p log output work a q v = record { program = p; log = log; output = output; work = work; answer = a; wrote = q; starts = v }
+lending p log output work a q v = record { limit = 8; program = p; log = log; output = output; work = work; answer = a; wrote = q; starts = v }
 
 -- with room to spare
 abbrev swap : List ℕ → List ℕ → Expected → List ℕ → List ℕ → Swap
@@ -458,6 +606,15 @@ swap p log a q v = lending p log (length p + 2) (length p + 2) a q v
 -- refused in the empty state, nothing written
 abbrev unmade : List ℕ → List ℕ → ℕ → ℕ → ℕ → Swap
 unmade p log output work n = lending p log output work (empty n 0) [] []
+
+-- at another limit, which the state has too; at a bad one
+abbrev swap-given : ℕ → Swap → Swap
+swap-given limit r =
+    record { limit = limit; program = r .program; log = r .log; output = r .output; work = r .work; answer = having limit (r .answer); wrote = r .wrote; starts = r .starts }
+
+abbrev swap-bad : ℕ → List ℕ → List ℕ → ℕ → ℕ → Swap
+swap-bad limit p log output work =
+    record { limit = limit; program = p; log = log; output = output; work = work; answer = empty 15 0; wrote = []; starts = [] }
 
 -- a log record, below position 256
 abbrev at : ℕ → List ℕ
@@ -587,4 +744,27 @@ swaps =
     ∷ lending (drop (f 1)) [] 3 1 (empty 0 0) (drop (f 1)) (0 ∷ [])
     ∷ lending [] [] 0 0 (empty 0 0) [] []
     ∷ unmade (1 ∷ 9 ∷ []) [] 1 1 2
+    -- 02, W2: at limit 1 a swap is made and one refused as at 8, and a program that is full there is not written, before 14
+    ∷ swap-given 1 (swap P (at 2) (of-P 0 0) swapped-P fives)
+    ∷ swap-given 1 (swap P (at 2 ++ at 1) (of-P 13 3) swapped-P fives)
+    ∷ swap-given 1 (swap (in-3 ++ tuck right (f 10) 3 ++ tuck left (f 10) 3) (63 ∷ []) (expected 11 10 false (pos 0) ((f 10, 1) ∷ []) ((3, on-right 11 (f 10)) ∷ [])) [] [])
+    ∷ swap-given 2 (swap (in-3 ++ tuck right (f 10) 3 ++ tuck left (f 10) 3) (63 ∷ []) (expected 14 0 false (pos 0) ((f 10, 2) ∷ []) ((3, on-left 10 (f 10)) ∷ []))
+    (in-3 ++ tuck right (f 10) 3 ++ tuck left (f 10) 3) (0 ∷ 5 ∷ 10 ∷ []))
+    -- 1 and 2 with the empty state of the limit given
+    ∷ swap-given 3 (unmade (replicate 32769 0) [] 0 0 1)
+    ∷ swap-given 3 (unmade P (at 2) 19 10 2)
+    -- by a log that is too long, by the work area, and 12
+    ∷ swap-given 3 (unmade P (replicate 32769 64) 20 10 1)
+    ∷ swap-given 3 (unmade P (at 2) 20 9 2)
+    ∷ swap-given 1 (swap P (at 3) (of-P 12 0) P fives)
+    -- 15 before 1, 2 and a torn log: limits 0, 9 and 255
+    ∷ swap-bad 0 P (at 2) 22 22
+    ∷ swap-bad 9 P (at 2) 22 22
+    ∷ swap-bad 255 P (at 2) 22 22
+    ∷ swap-bad 0 (replicate 32769 0) [] 0 0
+    ∷ swap-bad 9 P (replicate 32769 64) 20 10
+    ∷ swap-bad 9 P (at 2) 19 10
+    ∷ swap-bad 0 P (63 ∷ []) 20 9
+    -- and before 5
+    ∷ swap-bad 0 (1 ∷ 9 ∷ []) (at 0) 4 4
     ∷ []

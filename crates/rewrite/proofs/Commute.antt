@@ -2,7 +2,7 @@
 use borrow.Table.Steps.{cases}
 use Prim.Native.Nat.{ℕ, _-_, _≤_}
 use mathlib.Core.Path.{_≡_, refl, sym, ap, _∙_}
-use mathlib.Core.Bool.{false, true, _&&_, and-false, not, cond, true≢false}
+use mathlib.Core.Bool.{false, true, _&&_, _||_, and-false, not, cond, true≢false}
 use mathlib.Core.List.{List, [], _∷_}
 use mathlib.Core.Option.{Option, none}
 use native.Mathlib.Omega.{arith}
@@ -21,7 +21,7 @@ use Rattle.record.specs.declared.Record.{Record}
 use Rattle.record.specs.Kinds.{IN, OUT, MISS, hooksWorked, carriersNamed, loopsFormed, isPlated, tucks}
 use Rattle.record.specs.Names.{isRack, rackingAfter}
 use Rattle.record.proofs.Ranges.{InRange}
-use Rattle.run.specs.Step.{lookOf, Seen, seeOf, orNumber, twiceNo, carrierNo, oppositeNo, firstAfter, secondAfter, roomNo, decidedNo, edit, stored, Act, actOf, acted, moveAttachments, numberAt, applyOf}
+use Rattle.run.specs.Step.{lookOf, Seen, seeOf, orNumber, twiceNo, carrierNo, oppositeNo, firstAfter, secondAfter, firstAsked, roomNo, decidedNo, edit, stored, Act, actOf, acted, moveAttachments, numberAt, applyOf}
 use Rattle.record.proofs.Shapes.{is, uncarried, formed-works, tuck-works}
 use Rattle.trace.specs.Machine.{andThen}
 use Rattle.rewrite.specs.Extents.{extentOf, meets, shareCarrier}
@@ -60,6 +60,10 @@ module _ (x : Record) (a b : Seen) (g : Agree x a b) where
   same-first =
       cases (tucks (x .kind)) (λ e. let h = g .here (tuck-works (x .kind) e) in rw (e, h)) (λ e. rw e)
 
+  same-asked : firstAsked (x .kind) (a .here) ≡ firstAsked (x .kind) (b .here)
+  unfolding firstAsked
+  same-asked = ap (λ (n : ℕ). cond (tucks (x .kind) || isPlated (x .kind)) n 0) same-first
+
   same-second : secondAfter (x .kind) (a .here) (a .there) ≡ secondAfter (x .kind) (b .here) (b .there)
   unfolding secondAfter
   same-second =
@@ -69,7 +73,7 @@ module _ (x : Record) (a b : Seen) (g : Agree x a b) where
 
   same-number : decidedNo x a ≡ decidedNo x b
   unfolding decidedNo roomNo
-  same-number = cc (same-carrier, same-first, same-second, g .racking, g .limit)
+  same-number = cc (same-carrier, same-asked, same-second, g .racking, g .limit)
 
 -- the state after a record, by what it saw
 abbrev after : State → Record → Seen → State
@@ -236,7 +240,7 @@ module _ (s : State) (x y : Record) (C : Clear (s .racking) x y) (D : Clear (s .
       ∙ ap A (sym (moves-edit s y x D (moveAttachments y (s .carriers))))
 
   both-after : after (after s x xs) y ys ≡ after (after s y ys) x xs
-  both-after = let a = both-racking in let b = both-loops in let c = both-carriers in λ i. record { racking = a i; loops = b i; carriers = c i }
+  both-after = let a = both-racking in let b = both-loops in let c = both-carriers in λ i. record { racking = a i; loops = b i; limit = s .limit; carriers = c i }
 
   first-then : applyOf (applyOf s x) y ≡ after (after s x xs) y ys
   first-then =

@@ -12,10 +12,12 @@ use borrow.Author.Tests.{eqb-true, eqb-false, ne-eqb, leb-true, leb-false, ltb-t
 use Rattle.machine.specs.Limits.{programMost, logMost}
 use Rattle.machine.specs.declared.State.{State}
 use Rattle.machine.specs.Machine.{emptyState}
+use Rattle.machine.specs.Range.{LimitInRange}
+use Rattle.machine.proofs.Ranges.{limit-exactly, limit-cases, limit-out}
 use Rattle.machine.proofs.Laws.{empty-is-complete}
 use Rattle.run.specs.declared.Answer.{Answer}
 use Rattle.run.specs.Relation.{Valid}
-use Rattle.run.specs.Run.{answerOf, runOf}
+use Rattle.run.specs.Run.{answerLimit, answerOf, runOf}
 use Rattle.run.specs.Claims.{Answers, Complete}
 use Rattle.run.proofs.Refusals.{reason-other}
 use Rattle.run.proofs.Demand.{final, complete}
@@ -30,7 +32,7 @@ use Rattle.rewrite.specs.Exact.{TooLong, NoBench, RecordsAre, TiedBehind
 use Rattle.rewrite.proofs.Lawful.{tied-exactly}
 use Rattle.rewrite.proofs.Records.{each-map, records-flat, flat-records, record-form, form-record, steps-records}
 use Rattle.rewrite.proofs.Replays.{made-pair, replay-made, replay-tied}
-use Rattle.rewrite.proofs.Rewriting.{program-long, log-long, output-short, work-short, all-lent, lent-call, refused-call, written-call}
+use Rattle.rewrite.proofs.Rewriting.{limit-bad, program-long, log-long, output-short, work-short, all-lent, lent-call, refused-call, written-call}
 
 -- ---- two neighbours at a position
 record Pair (l : List (List ℕ)) (i : ℕ) : Type 0 where
@@ -155,25 +157,25 @@ unfolding replayFrom
 unpaired-replay high low log at l h = rw (no-pair-iff-short knitting rackingZero (high * 256 + low) l .1 (omega arith)) refl
 
 -- ---- the records of a program
-valid-are : {p : List ℕ} {t : State} → Valid p t → RecordsAre p (recordsOf p)
-valid-are {p} v = record { end-to-end = records-flat p; each = each-map (λ x w. (_, record-form x w)) (recordsOf p) (steps-records (v .steps)) }
+valid-are : {limit : ℕ} {p : List ℕ} {t : State} → Valid limit p t → RecordsAre p (recordsOf p)
+valid-are {p = p} v = record { end-to-end = records-flat p; each = each-map (λ x w. (_, record-form x w)) (recordsOf p) (steps-records (v .steps)) }
 
 pub are-records : {p : List ℕ} {l : List (List ℕ)} → RecordsAre p l → recordsOf p ≡ l
 are-records {l = l} a = ap recordsOf (sym (a .end-to-end)) ∙ flat-records l (each-map (λ x (r, form). form-record form) l (a .each))
 
 -- ---- a call
-module _ (p log output work : List ℕ) where
+module _ (limit : ℕ) (p log output work : List ℕ) where
   abbrev number : ℕ
-  number = lentNo (length p) (length log) (length output) (length work)
+  number = lentNo limit (length p) (length log) (length output) (length work)
 
   abbrev call : Rewritten
-  call = rewriteOf p log output work
+  call = rewriteOf limit p log output work
 
   -- 1 and 2
-  long-number : Long p log output work → number ≡ 1
-  long-number (TooLong.long-program h) = program-long _ _ _ _ h
-  long-number (TooLong.long-log h) =
-      cases (ltb programMost (length p)) (λ t. program-long _ _ _ _ (ltb-true programMost (length p) t)) (λ t. log-long _ _ _ _ (ltb-false programMost (length p) t) h)
+  long-number : LimitInRange limit → Long p log output work → number ≡ 1
+  long-number b (TooLong.long-program h) = program-long _ _ _ _ _ b h
+  long-number b (TooLong.long-log h) =
+      cases (ltb programMost (length p)) (λ t. program-long _ _ _ _ _ b (ltb-true programMost (length p) t)) (λ t. log-long _ _ _ _ _ b (ltb-false programMost (length p) t) h)
 
   -- what is lent is too long, too short, or will do
   by-lengths : {G : Type 0} → (Long p log output work → G) → ((Long p log output work → ⊥) → Short p log output work → G) → (Lent p log output work → G) → G
@@ -190,8 +192,8 @@ module _ (p log output work : List ℕ) where
       not-long h i (TooLong.long-program k) = omega arith
       not-long h i (TooLong.long-log k) = omega arith
 
-  short-number : (Long p log output work → ⊥) → Short p log output work → number ≡ 2
-  short-number d s =
+  short-number : LimitInRange limit → (Long p log output work → ⊥) → Short p log output work → number ≡ 2
+  short-number b d s =
       by-lengths (λ l. absurd (d l)) (λ e k. go (shorter programMost (length p) (λ h. d (TooLong.long-program h))) (shorter logMost (length log) (λ h. d (TooLong.long-log h))) k)
       (λ l. absurd (none l s))
     where
@@ -199,46 +201,55 @@ module _ (p log output work : List ℕ) where
       shorter n m d = cases (ltb n m) (λ t. absurd (d (ltb-true n m t))) (λ t. ltb-false n m t)
 
       go : length p ≤ programMost → length log ≤ logMost → Short p log output work → number ≡ 2
-      go h i (NoBench.short-output k) = output-short _ _ _ _ h i k
+      go h i (NoBench.short-output k) = output-short _ _ _ _ _ b h i k
       go h i (NoBench.few-entries k) =
-          cases (ltb (length output) (length p)) (λ t. output-short _ _ _ _ h i (ltb-true (length output) (length p) t)) (λ t. work-short _ _ _ _ h i (ltb-false (length output) (length p) t) k)
+          cases (ltb (length output) (length p)) (λ t. output-short _ _ _ _ _ b h i (ltb-true (length output) (length p) t)) (λ t. work-short _ _ _ _ _ b h i (ltb-false (length output) (length p) t) k)
 
       none : Lent p log output work → Short p log output work → ⊥
       none l (NoBench.short-output k) = omega (arith, l .room)
       none l (NoBench.few-entries k) = omega (arith, l .entries)
 
-  unlooked-call : (n : ℕ) → number ≡ suc n → call ≡ unlooked p log output work (suc n)
+  unlooked-call : (n l : ℕ) → number ≡ suc n → answerLimit limit ≡ l → call ≡ unlooked p log output work l (suc n)
   unfolding answerOf
-  unlooked-call n e =
-      lent-call p log output work (λ q. omega (arith, e, q))
-      ∙ (λ i. refused (record { number = e i; place = 0; complete = empty-is-complete i; state = emptyState }) output work)
+  unlooked-call n l e f =
+      lent-call limit p log output work (λ q. omega (arith, e, q))
+      ∙ (λ i. refused (record { number = e i; place = 0; complete = empty-is-complete (answerLimit limit) i; state = emptyState (f i) }) output work)
+
+  given : LimitInRange limit → answerLimit limit ≡ limit
+  unfolding answerLimit
+  given b = simp (limit-exactly limit .1 b)
+
+  not-given : (LimitInRange limit → ⊥) → answerLimit limit ≡ 8
+  unfolding answerLimit
+  not-given b = simp (limit-out limit b)
 
   -- 0 and 12 to 14: what a replay that ends so leaves
-  leaving-call : {t : State} {c : Bool} (n at : ℕ) (m : List (List ℕ)) → Lent p log output work → Valid p t → Complete c t → replay log 0 (recordsOf p) ≡ ended n at m
+  leaving-call : {t : State} {c : Bool} (n at : ℕ) (m : List (List ℕ)) → Lent p log output work → Valid limit p t → Complete c t → replay log 0 (recordsOf p) ≡ ended n at m
       → call ≡ leaving p log output work n at t c m
   leaving-call {t} {c} n at m l v h e =
-      let d = final p t v in
-      let f = run-flag p c (d .state) h in
-      written-call p log output work (all-lent _ _ _ _ l) (d .number)
+      let d = final limit p t v in
+      let f = run-flag limit p c (d .state) h in
+      written-call limit p log output work (all-lent _ _ _ _ _ (v .limit-in) l) (d .number)
       ∙ (λ i. record {
         answer = record { number = e i .number; place = e i .place; complete = f i; state = d .state i };
         output = flat (e i .left) ++ drop (length p) output;
         work = startsOf 0 (e i .left) ++ drop (length (e i .left)) work;
       })
 
-  followed-replay : {t : State} {c : Bool} {front rest : List ℕ} {m : List (List ℕ)} → Followed p log output work t c front rest m → replay log 0 (recordsOf p) ≡ replay rest (length front) m
+  followed-replay : {t : State} {c : Bool} {front rest : List ℕ} {m : List (List ℕ)} → Followed limit p log output work t c front rest m → replay log 0 (recordsOf p) ≡ replay rest (length front) m
   followed-replay {front = front} {rest = rest} {m = m} f =
       let e : 0 + length front ≡ length front = omega arith in
       (λ i. replay (f .log-is i) 0 (are-records (f .are) i)) ∙ swapped-replay (f .swaps) rest 0 ∙ ap (λ (n : ℕ). replay rest n m) e
 
   -- whatever ends so is what the call gives and leaves
-  one : {w : Rewritten} → Rewrites p log output work w → call ≡ w
+  one : {w : Rewritten} → Rewrites limit p log output work w → call ≡ w
   unfolding replayFrom
-  one (Rewrites.too-long h) = unlooked-call 0 (long-number h)
-  one (Rewrites.no-bench d h) = unlooked-call 1 (short-number d h)
-  one (Rewrites.not-valid {a = a} l f c) =
-      let e = run-exactly p a .1 (Answers.refused (l .short) f c) in
-      refused-call p log output work (all-lent _ _ _ _ l) (λ z. reason-other (f .first .reason) 0 refl (sym (ap (λ (b : Answer). b .number) e) ∙ z))
+  one (Rewrites.bad-limit b) = unlooked-call 14 8 (limit-bad _ _ _ _ _ b) (not-given b)
+  one (Rewrites.too-long b h) = unlooked-call 0 limit (long-number b h) (given b)
+  one (Rewrites.no-bench b d h) = unlooked-call 1 limit (short-number b d h) (given b)
+  one (Rewrites.not-valid {a = a} b l f c) =
+      let e = run-exactly limit p a .1 (Answers.refused b (l .short) f c) in
+      refused-call limit p log output work (all-lent _ _ _ _ _ b l) (λ z. reason-other (f .first .reason) 0 refl (sym (ap (λ (b : Answer). b .number) e) ∙ z))
       ∙ ap (λ (b : Answer). refused b output work) e
   one (Rewrites.gone-through {front = front} {m = m} f) = leaving-call 0 0 m (f .lent) (f .valid) (f .complete) (followed-replay f)
   one (Rewrites.torn {front = front} {rest = rest} {m = m} f t) =
@@ -250,18 +261,18 @@ module _ (p log output work : List ℕ) where
 
   -- and the call ends so
   abbrev Ends : Rewritten → Type 0
-  Ends w = Rewrites p log output work w
+  Ends w = Rewrites limit p log output work w
 
   ends-as : {w : Rewritten} → Ends w → Ends call
   ends-as {w} h = subst Ends (sym (one h)) h
 
-  module _ (l : Lent p log output work) {t : State} (v : Valid p t) where
-    follows : (front rest : List ℕ) {m : List (List ℕ)} → log ≡ front ++ rest → Swapped front (recordsOf p) m → Followed p log output work t (runOf p .complete) front rest m
+  module _ (l : Lent p log output work) {t : State} (v : Valid limit p t) where
+    follows : (front rest : List ℕ) {m : List (List ℕ)} → log ≡ front ++ rest → Swapped front (recordsOf p) m → Followed limit p log output work t (runOf limit p .complete) front rest m
     follows front rest e s =
         record {
           lent = l;
           valid = v;
-          complete = subst (Complete (runOf p .complete)) (final p t v .state) (complete p);
+          complete = subst (Complete (runOf limit p .complete)) (final limit p t v .state) (complete limit p);
           records = recordsOf p;
           are = valid-are v;
           log-is = e;
@@ -274,13 +285,17 @@ module _ (p log output work : List ℕ) where
     stopped (Stops.unpaired front rest high low e s h) = ends-as (Rewrites.no-pair (follows front (64 ∷ high ∷ low ∷ rest) e s) h)
     stopped (Stops.ties front rest high low e s n t) = ends-as (Rewrites.pair-tied (follows front (64 ∷ high ∷ low ∷ rest) e s) n t)
 
-  looked : Lent p log output work → {a : Answer} → Answers p a → Ends call
-  looked l (Answers.too-long h) = absurd (omega (arith, l .short))
-  looked l (Answers.done v c) = stopped l v (stops log 0 (recordsOf p))
-  looked l (Answers.refused h f c) = ends-as (Rewrites.not-valid l f c)
+  looked : LimitInRange limit → Lent p log output work → {a : Answer} → Answers limit p a → Ends call
+  looked b l (Answers.bad-limit d) = absurd (d b)
+  looked b l (Answers.too-long c h) = absurd (omega (arith, l .short))
+  looked b l (Answers.done v c) = stopped l v (stops log 0 (recordsOf p))
+  looked b l (Answers.refused i h f c) = ends-as (Rewrites.not-valid b l f c)
 
   own : Ends call
-  own = by-lengths (λ h. ends-as (Rewrites.too-long h)) (λ d h. ends-as (Rewrites.no-bench d h)) (λ l. looked l (run-exactly p (runOf p) .0 refl))
+  own =
+      limit-cases limit
+      (λ b. by-lengths (λ h. ends-as (Rewrites.too-long b h)) (λ d h. ends-as (Rewrites.no-bench b d h)) (λ l. looked b l (run-exactly limit p (runOf limit p) .0 refl)))
+      (λ d. ends-as (Rewrites.bad-limit d))
 
 pub rewrite-exactly : RewriteExactly
-rewrite-exactly p log output work w = ((λ e. subst (Rewrites p log output work) e (own p log output work)), one p log output work)
+rewrite-exactly limit p log output work w = ((λ e. subst (Rewrites limit p log output work) e (own limit p log output work)), one limit p log output work)

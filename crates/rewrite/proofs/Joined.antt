@@ -1,4 +1,4 @@
--- A program is valid exactly if it is not too long and the machine runs its records, each by its bytes, to the end. Assumes nothing.
+-- A program is valid at a limit exactly if it is not too long and the machine runs its records, each by its bytes, to the end. Assumes nothing.
 use Prim.Native.Nat.{ℕ, _≤_}
 use mathlib.Core.Path.{_≡_, refl, subst}
 use mathlib.Core.Bool.{true≢false}
@@ -9,6 +9,7 @@ use borrow.Author.Tests.{eq-eqb}
 use Rattle.machine.specs.Limits.{programMost}
 use Rattle.machine.specs.declared.State.{State}
 use Rattle.machine.specs.Machine.{emptyState}
+use Rattle.machine.specs.Range.{LimitInRange}
 use Rattle.record.specs.declared.Record.{Record}
 use Rattle.record.specs.Format.{Encodes}
 use Rattle.record.proofs.Forms.{form-in}
@@ -44,8 +45,9 @@ end-steps (x ∷ l) s t e = go (machine .step s x) refl (end-steps l)
     go (some u) q more = let h = had s u x q in Steps.next (record-form x (h .is-record)) (step-form s u x h) (more u t (cc))
 
 -- ---- a program
-pub valid-ends : {p : List ℕ} {t : State} → Valid p t → Ends machine emptyState (recordsOf p) t
+pub valid-ends : {limit : ℕ} {p : List ℕ} {t : State} → Valid limit p t → Ends machine (emptyState limit) (recordsOf p) t
 valid-ends v = steps-end (v .steps)
 
-pub ends-valid : (p : List ℕ) {t : State} → length p ≤ programMost → Ends machine emptyState (recordsOf p) t → Valid p t
-ends-valid p {t} h e = record { short = h; steps = subst (λ (q : List ℕ). Steps emptyState q t) (records-flat p) (end-steps (recordsOf p) emptyState t e) }
+pub ends-valid : {limit : ℕ} → LimitInRange limit → (p : List ℕ) {t : State} → length p ≤ programMost → Ends machine (emptyState limit) (recordsOf p) t → Valid limit p t
+ends-valid {limit} i p {t} h e =
+    record { limit-in = i; short = h; steps = subst (λ (q : List ℕ). Steps (emptyState limit) q t) (records-flat p) (end-steps (recordsOf p) (emptyState limit) t e) }

@@ -124,5 +124,5 @@ unfolding cut
 steps-records Steps.none = tt
 steps-records (Steps.next {bytes = bytes} {rest = rest} form step more) = rw (records-next bytes rest (form-record form)) (form-record form, steps-records more)
 
-pub accepted-records : (p : List ℕ) → runOf p .number ≡ 0 → Each (λ (x : List ℕ). isRecord x ≡ true) (recordsOf p)
-accepted-records p e = let (t, v) = accepts p .0 e in steps-records (v .steps)
+pub accepted-records : (limit : ℕ) (p : List ℕ) → runOf limit p .number ≡ 0 → Each (λ (x : List ℕ). isRecord x ≡ true) (recordsOf p)
+accepted-records limit p e = let (t, v) = accepts limit p .0 e in steps-records (v .steps)

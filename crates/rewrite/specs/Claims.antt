@@ -10,6 +10,7 @@ use Rattle.machine.specs.declared.Racking.{Racking}
 use Rattle.machine.specs.Limits.{programMost}
 use Rattle.machine.specs.declared.State.{State}
 use Rattle.machine.specs.Machine.{Each}
+use Rattle.machine.specs.Range.{LimitInRange}
 use Rattle.record.specs.declared.Record.{Record}
 use Rattle.record.specs.Kinds.{DROP, XFER, IN, OUT, MISS, TUCK, KNIT, SPLIT, PLATED-TUCK, PLATED-KNIT}
 use Rattle.record.specs.Format.{Encodes}
@@ -19,7 +20,7 @@ use Rattle.trace.specs.Lists.{Nth}
 use Rattle.trace.specs.Order.{SameRecords, tiedIn, SameOrder}
 use Rattle.rewrite.specs.Programs.{flat, recordsOf, logRecordSize, swapKind, positionOf, what, sameBytes, knitting, needle, carrier, names, historyOf}
 use Rattle.rewrite.specs.Rewrite.{rackingZero, ended, replay, written, rewriteOf}
-use Rattle.rewrite.specs.Exact.{Lent, RecordsAre, Tied, TiedBehind, Swapped}
+use Rattle.rewrite.specs.Exact.{Long, Short, Lent, RecordsAre, Tied, TiedBehind, Swapped}
 use Rattle.rewrite.specs.Calls.{Below, Call, callOf, callNumber, after, AllAccepted}
 
 -- ---- the definitions in 01's words
@@ -27,9 +28,9 @@ use Rattle.rewrite.specs.Calls.{Below, Call, callOf, callNumber, after, 
 abbrev pub RecordsEndToEnd : Type 0
 RecordsEndToEnd = (p : List ℕ) → flat (recordsOf p) ≡ p
 
--- those of a valid program are 'whole, of known kinds and with fields in range'
+-- those of a program that is valid at some limit are 'whole, of known kinds and with fields in range'
 abbrev pub RecordsEncode : Type 0
-RecordsEncode = (p : List ℕ) (t : State) → Valid p t → Each (λ (x : List ℕ). Encodes x (what x)) (recordsOf p)
+RecordsEncode = (limit : ℕ) (p : List ℕ) (t : State) → Valid limit p t → Each (λ (x : List ℕ). Encodes x (what x)) (recordsOf p)
 
 -- the test for ties that the swaps of crate trace go by is the words of Exact.antt
 abbrev pub TiedExactly : Type 0
@@ -84,7 +85,7 @@ HistoriesExactly =
 
 -- a place lies within a program or a log, so that number and place go into one word
 abbrev pub RewritePlaceIsSmall : Type 0
-RewritePlaceIsSmall = (program log output work : List ℕ) → rewriteOf program log output work .answer .place < programMost
+RewritePlaceIsSmall = (limit : ℕ) (program log output work : List ℕ) → rewriteOf limit program log output work .answer .place < programMost
 
 -- ---- what is kept
 -- the same records between the same racks, and the same order of every two tied records, each known by its bytes and its count
@@ -92,10 +93,10 @@ pub record SameProgram (p q : List ℕ) : Type 0 where
   pub records : SameRecords knitting (recordsOf p) (recordsOf q)
   pub order : SameOrder knitting rackingZero (recordsOf p) (recordsOf q)
 
--- of a program p with final state t
-pub record Keeps (p : List ℕ) (t : State) (q : List ℕ) : Type 0 where
-  -- valid, with p's final state
-  pub valid : Valid q t
+-- of a program p with final state t at a limit
+pub record Keeps (limit : ℕ) (p : List ℕ) (t : State) (q : List ℕ) : Type 0 where
+  -- valid there, with p's final state
+  pub valid : Valid limit q t
   -- the same history of each needle and carrier
   pub needles : (n : Needle) → historyOf (needle n) q ≡ historyOf (needle n) p
   pub carriers : (k : ℕ) → historyOf (carrier k) q ≡ historyOf (carrier k) p
@@ -108,13 +109,15 @@ OrderByPositions =
     → tiedIn knitting rackingZero (recordsOf p) a b x y ≡ true → Nth sameBytes (recordsOf q) x i a′ → Nth sameBytes (recordsOf q) y j b′ → (a < b) ↔ (a′ < b′)
 
 -- ---- which swaps are made
--- neither 1 nor 2
-abbrev pub LentTo : List ℕ → Call → Type 0
-LentTo p c = Lent p (c .log) (c .output) (c .work)
+-- the call reads its log: neither 15, 1 nor 2, nor a refusal by the run, since the program is valid at the call's own limit
+pub record ReadsLog (p : List ℕ) (c : Call) : Type 0 where
+  pub lent : Lent p (c .log) (c .output) (c .work)
+  pub final : State
+  pub valid : Valid (c .limit) p final
 
 -- a call's log comes to a swap of x and y: what stands before it in the log are swaps that are made, and x and y stand where it points
 pub record ComesTo (p : List ℕ) (c : Call) (front : List ℕ) (u : List (List ℕ)) (x y : List ℕ) (v : List (List ℕ)) (rest : List ℕ) : Type 0 where
-  pub lent : LentTo p c
+  pub reads : ReadsLog p c
   pub before : Swapped front (recordsOf p) (u ++ x ∷ y ∷ v)
   pub high : ℕ
   pub low : ℕ
@@ -125,40 +128,57 @@ pub record ComesTo (p : List ℕ) (c : Call) (front : List ℕ) (u : List (List 
 -- The call answers 13 at this log record's place exactly if they are tied; 13 at a later place is another swap's.
 pub record SwapExactly (p : List ℕ) (c : Call) (place : ℕ) (u : List (List ℕ)) (x y : List ℕ) (v : List (List ℕ)) (rest : List ℕ) : Type 0 where
   pub made : (TiedBehind u x y → ⊥)
-      → callOf p c ≡ written p (replay rest (place + logRecordSize) (u ++ y ∷ x ∷ v)) (c .output) (c .work)
+      → callOf p c ≡ written (c .limit) p (replay rest (place + logRecordSize) (u ++ y ∷ x ∷ v)) (c .output) (c .work)
   pub refused : TiedBehind u x y
-      → callOf p c ≡ written p (ended 13 place (u ++ x ∷ y ∷ v)) (c .output) (c .work)
+      → callOf p c ≡ written (c .limit) p (ended 13 place (u ++ x ∷ y ∷ v)) (c .output) (c .work)
   pub thirteen : ((callNumber p c ≡ 13) × (callOf p c .answer .place ≡ place)) ↔ TiedBehind u x y
 
 -- ---- the program that is handed on: 'the one at the front of the output that the last call wrote'; 'after a number that writes nothing it is the same program again'
 abbrev pub FrontHandedOn : Type 0
 FrontHandedOn =
-    (p : List ℕ) (t : State) (c : Call) → Valid p t
-    → (LentTo p c → after p (c ∷ []) ≡ take (length p) (callOf p c .output)) × ((LentTo p c → ⊥) → after p (c ∷ []) ≡ p)
+    (p : List ℕ) (c : Call)
+    → (ReadsLog p c → after p (c ∷ []) ≡ take (length p) (callOf p c .output)) × ((ReadsLog p c → ⊥) → after p (c ∷ []) ≡ p)
 
 -- each call is given the program as the last one left it, whatever that one answered: 'Numbers 12 to 14 end their log and not the list'
 abbrev pub InTurn : Type 0
 InTurn = (p : List ℕ) (c : Call) (cs : List Call) → (after p [] ≡ p) × (after p (c ∷ cs) ≡ after (after p (c ∷ [])) cs)
 
--- 'each call is lent any log, output and work area': every list of bytes, and of 16-bit offsets
+-- 'each call is lent any log, output and work area': every list of bytes, and of 16-bit offsets; at every limit that is a byte
 abbrev pub AnyLoan : Type 0
 AnyLoan =
-    (log output work : List ℕ) → Below 256 log → Below 256 output → Below 65536 work → (c : Call) × (c .log ≡ log) × (c .output ≡ output) × (c .work ≡ work)
+    (limit : ℕ) (log output work : List ℕ) → limit < 256 → Below 256 log → Below 256 output → Below 65536 work
+    → (c : Call) × (c .limit ≡ limit) × (c .log ≡ log) × (c .output ≡ output) × (c .work ≡ work)
 
--- ---- demand 3 for a valid program and every list of calls from it
-pub record EveryList (p : List ℕ) (t : State) : Type 0 where
+-- ---- a call that does not read its log
+-- 15 by its limit, 1 or 2 by what it is lent, or 11 by its run, which a smaller limit than the program's alone can give
+pub data TurnedAs (limit : ℕ) (p : List ℕ) (c : Call) (n : ℕ) : Type 0 where
+  bad-limit : (LimitInRange (c .limit) → ⊥) → n ≡ 15 → TurnedAs limit p c n
+  too-long : LimitInRange (c .limit) → Long p (c .log) (c .output) (c .work) → n ≡ 1 → TurnedAs limit p c n
+  no-bench : LimitInRange (c .limit) → (Long p (c .log) (c .output) (c .work) → ⊥) → Short p (c .log) (c .output) (c .work) → n ≡ 2 → TurnedAs limit p c n
+  hook-full : LimitInRange (c .limit) → c .limit < limit → n ≡ 11 → TurnedAs limit p c n
+
+-- and it writes nothing
+pub record TurnedAway (limit : ℕ) (p : List ℕ) (c : Call) : Type 0 where
+  pub number : TurnedAs limit p c (callNumber p c)
+  pub output : callOf p c .output ≡ c .output
+  pub work : callOf p c .work ≡ c .work
+
+-- ---- demand 3 for a program that is valid at a limit and every list of calls from it, each at a limit of its own
+pub record EveryList (limit : ℕ) (p : List ℕ) (t : State) : Type 0 where
   -- after every call of every list
-  pub keeps : (cs : List Call) → Keeps p t (after p cs)
+  pub keeps : (cs : List Call) → Keeps limit p t (after p cs)
   -- every swap that the next call's log comes to
   pub exactly : (cs : List Call) (c : Call) (front rest : List ℕ) (u v : List (List ℕ)) (x y : List ℕ)
       → ComesTo (after p cs) c front u x y v rest → SwapExactly (after p cs) c (length front) u x y v rest
   -- a log of swaps that are made is gone through, with 0
-  pub done : (cs : List Call) (c : Call) (m : List (List ℕ)) → LentTo (after p cs) c → Swapped (c .log) (recordsOf (after p cs)) m
-      → callOf (after p cs) c ≡ written (after p cs) (ended 0 0 m) (c .output) (c .work)
+  pub done : (cs : List Call) (c : Call) (m : List (List ℕ)) → ReadsLog (after p cs) c → Swapped (c .log) (recordsOf (after p cs)) m
+      → callOf (after p cs) c ≡ written (c .limit) (after p cs) (ended 0 0 m) (c .output) (c .work)
+  -- a call that does not read its log
+  pub otherwise : (cs : List Call) (c : Call) → (ReadsLog (after p cs) c → ⊥) → TurnedAway limit (after p cs) c
   -- the programs so reached are exactly these
   pub reached : (q : List ℕ) → ((cs : List Call) × (after p cs ≡ q)) ↔ SameProgram p q
-  -- each by calls that answer 0 with logs of accepted swaps alone
-  pub by-swaps : (q : List ℕ) → SameProgram p q → (cs : List Call) × (after p cs ≡ q) × AllAccepted p cs
+  -- each by calls at the program's limit that answer 0 with logs of accepted swaps alone
+  pub by-swaps : (q : List ℕ) → SameProgram p q → (cs : List Call) × (after p cs ≡ q) × AllAccepted limit p cs
 
 abbrev pub Demand3 : Type 0
-Demand3 = (p : List ℕ) (t : State) → Valid p t → EveryList p t
+Demand3 = (limit : ℕ) (p : List ℕ) (t : State) → Valid limit p t → EveryList limit p t

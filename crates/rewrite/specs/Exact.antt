@@ -7,9 +7,10 @@ use mathlib.Core.List.{List, [], _∷_, _++_}
 use mathlib.Core.Logic.{_↔_}
 use lib.ListN.{length, drop}
 use Rattle.machine.specs.declared.Racking.{Racking}
-use Rattle.machine.specs.Limits.{programMost, logMost}
+use Rattle.machine.specs.Limits.{limitMost, programMost, logMost}
 use Rattle.machine.specs.declared.State.{State}
 use Rattle.machine.specs.Machine.{emptyState, Each}
+use Rattle.machine.specs.Range.{LimitInRange}
 use Rattle.record.specs.declared.Record.{Record}
 use Rattle.record.specs.Kinds.{RACK}
 use Rattle.record.specs.Format.{Encodes}
@@ -85,9 +86,9 @@ module _ (program log output work : List ℕ) where
   abbrev pub Lent : Type 0
   Lent = Enough (length program) (length log) (length output) (length work)
 
-  -- what 1 and 2 answer: place 0, the empty state; nothing is written
-  abbrev pub unlooked : ℕ → Rewritten
-  unlooked n = refused (record { number = n; place = 0; complete = true; state = emptyState }) output work
+  -- what 15, 1 and 2 answer: place 0, the empty state at a limit; nothing is written
+  abbrev pub unlooked : ℕ → ℕ → Rewritten
+  unlooked limit n = refused (record { number = n; place = 0; complete = true; state = emptyState limit }) output work
 
   -- what 0 and 12 to 14 answer and leave: the program's final state, the records m at the front of the output, each one's start at the front of work;
   -- 'Output past the program's length and work past the last record's start keep their contents'
@@ -99,10 +100,11 @@ module _ (program log output work : List ℕ) where
         work = startsOf 0 m ++ drop (length m) work;
       }
 
-  -- the program is valid and the log's front makes its swaps, which leave the records m; the rest of the log follows
+module _ (limit : ℕ) (program log output work : List ℕ) where
+  -- the program is valid at the limit and the log's front makes its swaps, which leave the records m; the rest of the log follows
   pub record Followed (t : State) (c : Bool) (front rest : List ℕ) (m : List (List ℕ)) : Type 0 where
-    pub lent : Lent
-    pub valid : Valid program t
+    pub lent : Lent program log output work
+    pub valid : Valid limit program t
     pub complete : Complete c t
     pub records : List (List ℕ)
     pub are : RecordsAre program records
@@ -111,19 +113,21 @@ module _ (program log output work : List ℕ) where
 
   -- a call, by the ways in which it ends; 'Order: 15, 1, 2; then each record 3 to 11 by number; then each log record 14, 12, 13', and 16 behind 5
   pub data Rewrites : Rewritten → Type 0 where
-    too-long : Long → Rewrites (unlooked 1)
-    no-bench : (Long → ⊥) → Short → Rewrites (unlooked 2)
+    -- 02, W2: 'a run or rewrite started with a bad limit gets 15 too, before everything else, with the empty state of limit 8, complete'
+    bad-limit : (LimitInRange limit → ⊥) → Rewrites (unlooked program log output work limitMost 15)
+    too-long : LimitInRange limit → Long program log output work → Rewrites (unlooked program log output work limit 1)
+    no-bench : LimitInRange limit → (Long program log output work → ⊥) → Short program log output work → Rewrites (unlooked program log output work limit 2)
     -- 3 to 11 and 16, as the run answers; nothing is written
-    not-valid : {a : Answer} → Lent → FirstRefusal program a → Complete (a .complete) (a .state) → Rewrites (refused a output work)
-    gone-through : {t : State} {c : Bool} {front : List ℕ} {m : List (List ℕ)} → Followed t c front [] m → Rewrites (leaving 0 0 t c m)
-    torn : {t : State} {c : Bool} {front rest : List ℕ} {m : List (List ℕ)} → Followed t c front rest m → Torn rest → Rewrites (leaving 14 (length front) t c m)
+    not-valid : {a : Answer} → LimitInRange limit → Lent program log output work → FirstRefusal limit program a → Complete (a .complete) (a .state) → Rewrites (refused a output work)
+    gone-through : {t : State} {c : Bool} {front : List ℕ} {m : List (List ℕ)} → Followed t c front [] m → Rewrites (leaving program log output work 0 0 t c m)
+    torn : {t : State} {c : Bool} {front rest : List ℕ} {m : List (List ℕ)} → Followed t c front rest m → Torn rest → Rewrites (leaving program log output work 14 (length front) t c m)
     -- 12, 'position + 1 is not a record'
     no-pair : {t : State} {c : Bool} {front rest : List ℕ} {high low : ℕ} {m : List (List ℕ)} → Followed t c front (swapKind ∷ high ∷ low ∷ rest) m
-        → length m ≤ positionOf high low + 1 → Rewrites (leaving 12 (length front) t c m)
+        → length m ≤ positionOf high low + 1 → Rewrites (leaving program log output work 12 (length front) t c m)
     -- 13, 'the pair is tied'
     pair-tied : {t : State} {c : Bool} {front rest : List ℕ} {high low : ℕ} {m u v : List (List ℕ)} {x y : List ℕ} → Followed t c front (swapKind ∷ high ∷ low ∷ rest) m
-        → Neighbours m (positionOf high low) u x y v → TiedBehind u x y → Rewrites (leaving 13 (length front) t c m)
+        → Neighbours m (positionOf high low) u x y v → TiedBehind u x y → Rewrites (leaving program log output work 13 (length front) t c m)
 
 -- a call gives and leaves this, and nothing else
 abbrev pub RewriteExactly : Type 0
-RewriteExactly = (program log output work : List ℕ) (w : Rewritten) → (rewriteOf program log output work ≡ w) ↔ Rewrites program log output work w
+RewriteExactly = (limit : ℕ) (program log output work : List ℕ) (w : Rewritten) → (rewriteOf limit program log output work ≡ w) ↔ Rewrites limit program log output work w

@@ -1,4 +1,4 @@
--- The rewriter as a definition that computes (document 01, 'Calls'), which its contract cites: answer, output and work area, for every program, log and loan.
+-- The rewriter as a definition that computes (document 01, 'Calls'), which its contract cites: answer, output and work area, for every limit, program, log and loan.
 use Prim.Native.Nat.{ℕ, zero, suc, _+_, _-_, _/_}
 use mathlib.Core.Bool.{Bool, cond, _||_}
 use mathlib.Core.List.{List, [], _∷_, _++_}
@@ -8,8 +8,9 @@ use lib.ListN.{length, drop}
 use Rattle.machine.specs.declared.Racking.{Racking}
 use Rattle.machine.specs.Limits.{programMost, logMost}
 use Rattle.machine.specs.Machine.{emptyState}
+use Rattle.machine.specs.Range.{limitOk}
 use Rattle.run.specs.declared.Answer.{Answer}
-use Rattle.run.specs.Run.{reached, answerOf, runOf}
+use Rattle.run.specs.Run.{reached, answerLimit, answerOf, runOf}
 use Rattle.trace.specs.Swaps.{Outcome, no-pair, is-tied, made, swapAt}
 use Rattle.rewrite.specs.declared.LogRecord.{LogRecord}
 use Rattle.rewrite.specs.declared.LogRecord.the-variants.{Torn, Swap}
@@ -59,11 +60,13 @@ replayFrom (suc skip) (k ∷ log) at l = replayFrom skip log at l
 abbrev pub replay : List ℕ → ℕ → List (List ℕ) → Replay
 replay log at l = replayFrom 0 log at l
 
--- 1 (too long), 2 (01: no bench), or 0, by the lengths of program, log, output and work area
-unfoldable pub lentNo : ℕ → ℕ → ℕ → ℕ → ℕ
-lentNo program log output work =
-    cond (ltb programMost program || ltb logMost log) 1
-    (cond (ltb output program || ltb work (program / 2)) 2 0)
+-- 15 for a bad limit, 'before everything else' (02, W2); then 1 (too long), 2 (01: no bench), or 0, by the lengths of program, log, output and work area
+unfoldable pub lentNo : ℕ → ℕ → ℕ → ℕ → ℕ → ℕ
+lentNo limit program log output work =
+    cond (limitOk limit)
+    (cond (ltb programMost program || ltb logMost log) 1
+    (cond (ltb output program || ltb work (program / 2)) 2 0))
+    15
 
 -- what a call gives and leaves
 pub record Rewritten : Type 0 where
@@ -79,19 +82,19 @@ writes n = eqb n 0 || (eqb n 12 || (eqb n 13 || eqb n 14))
 abbrev pub refused : Answer → List ℕ → List ℕ → Rewritten
 refused a output work = record { answer = a; output = output; work = work }
 
--- 0 and 12 to 14: the program's final state; the records at the front of the output, their starts at the front of the work area, the rest kept
-abbrev pub written : List ℕ → Replay → List ℕ → List ℕ → Rewritten
-written program r output work =
+-- 0 and 12 to 14: the program's final state at the limit; the records at the front of the output, their starts at the front of the work area, the rest kept
+abbrev pub written : ℕ → List ℕ → Replay → List ℕ → List ℕ → Rewritten
+written limit program r output work =
     record {
-      answer = record { number = r .number; place = r .place; complete = runOf program .complete; state = runOf program .state };
+      answer = record { number = r .number; place = r .place; complete = runOf limit program .complete; state = runOf limit program .state };
       output = flat (r .left) ++ drop (length program) output;
       work = startsOf 0 (r .left) ++ drop (length (r .left)) work;
     }
 
-unfoldable pub rewriteOf : List ℕ → List ℕ → List ℕ → List ℕ → Rewritten
-rewriteOf program log output work =
-    cond (eqb (lentNo (length program) (length log) (length output) (length work)) 0)
-    (cond (eqb (runOf program .number) 0)
-    (written program (replay log 0 (recordsOf program)) output work)
-    (refused (runOf program) output work))
-    (refused (answerOf (reached (lentNo (length program) (length log) (length output) (length work)) 0 emptyState)) output work)
+unfoldable pub rewriteOf : ℕ → List ℕ → List ℕ → List ℕ → List ℕ → Rewritten
+rewriteOf limit program log output work =
+    cond (eqb (lentNo limit (length program) (length log) (length output) (length work)) 0)
+    (cond (eqb (runOf limit program .number) 0)
+    (written limit program (replay log 0 (recordsOf program)) output work)
+    (refused (runOf limit program) output work))
+    (refused (answerOf (reached (lentNo limit (length program) (length log) (length output) (length work)) 0 (emptyState (answerLimit limit)))) output work)

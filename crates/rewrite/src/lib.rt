@@ -426,12 +426,13 @@ fn replay(log: &[u8], output: &mut [u8], work: &mut [u16], table: &[u8]) -> Ende
     run::end_at(0, 0)
 }
 
-// Whether the lent areas will do, by their lengths: 0, or 1 or 2.
-fn lent(program: usize, log: usize, output: usize, work: usize) -> u8
-    ensures { λ k. ⌜ k ≡ lentNo program log output work ⌝ }
+// Whether hooks can have the limit and the lent areas will do, by their lengths: 0, or 15, 1 or 2.
+fn lent(limit: u8, program: usize, log: usize, output: usize, work: usize) -> u8
+    ensures { λ k. ⌜ k ≡ lentNo limit program log output work ⌝ }
 {
-    if State::PROGRAM_MOST < program {
-        return TOO_LONG;
+    let number = run::start(limit, program);
+    if number != 0 {
+        return number;
     }
     if LOG_MOST < log {
         return TOO_LONG;
@@ -457,18 +458,18 @@ pub fn writes(number: u8) -> bool
 }
 
 // Runs the program, copies it to the front of the output, writes its records' starts into the front of the work area
-// and makes the log's swaps there. Numbers 1 to 11 and 16 write nothing; 12 to 14 leave what the swaps before made.
-pub fn rewrite(program: &[u8], log: &[u8], output: &mut [u8], work: &mut [u16]) -> Answer
-    ensures answer { λ a. ⌜ a ≡ rewriteOf (now (program .entry)) (now (log .entry)) (now (output .entry)) (now (work .entry)) .answer ⌝ }
-    ensures bytes { λ _. ⌜ now (output .exit) ≡ rewriteOf (now (program .entry)) (now (log .entry)) (now (output .entry)) (now (work .entry)) .output ⌝ }
-    ensures starts { λ _. ⌜ now (work .exit) ≡ rewriteOf (now (program .entry)) (now (log .entry)) (now (output .entry)) (now (work .entry)) .work ⌝ }
+// and makes the log's swaps there. Numbers 1 to 11, 15 and 16 write nothing; 12 to 14 leave what the swaps before made.
+pub fn rewrite(limit: u8, program: &[u8], log: &[u8], output: &mut [u8], work: &mut [u16]) -> Answer
+    ensures answer { λ a. ⌜ a ≡ rewriteOf limit (now (program .entry)) (now (log .entry)) (now (output .entry)) (now (work .entry)) .answer ⌝ }
+    ensures bytes { λ _. ⌜ now (output .exit) ≡ rewriteOf limit (now (program .entry)) (now (log .entry)) (now (output .entry)) (now (work .entry)) .output ⌝ }
+    ensures starts { λ _. ⌜ now (work .exit) ≡ rewriteOf limit (now (program .entry)) (now (log .entry)) (now (output .entry)) (now (work .entry)) .work ⌝ }
 {
     let n = program.len();
-    let number = lent(n, log.len(), output.len(), work.len());
+    let number = lent(limit, n, log.len(), output.len(), work.len());
     if number != 0 {
-        return run::refused(number);
+        return run::refused(number, limit);
     }
-    let a = run::run(program);
+    let a = run::run(limit, program);
     if a.number != 0 {
         return a;
     }

@@ -1,31 +1,28 @@
 -- The arms of the run's loop: from what the small functions promise, the number of a record and the state after it. Assumes nothing.
-use borrow.Table.Steps.{cases}
 use Prim.Native.Nat.{ℕ, _+_, _-_, _≤_}
 use mathlib.Core.Path.{_≡_, refl, sym, ap, _∙_}
 use mathlib.Core.Bool.{false, cond}
 use mathlib.Core.List.{List, map}
-use native.Mathlib.Omega.{arith}
 use lib.ListN.{getD, set}
 use lib.Dec.{eqb}
-use borrow.Author.Tests.{eq-eqb, ne-eqb, eqb-true, eqb-false, not-false}
+use borrow.Author.Tests.{eq-eqb, ne-eqb, not-false}
 use Rattle.machine.specs.declared.Needle.{Needle}
 use Rattle.machine.specs.declared.Racking.{Racking}
 use Rattle.machine.specs.declared.Carrier.{Carrier}
 use Rattle.machine.specs.declared.State.{State}
-use Rattle.machine.specs.Limits.{hookLimit}
 use Rattle.machine.specs.Machine.{inactive, changed, hookOf, loopsOn, carrierOf, movedTo}
 use Rattle.machine.specs.Looks.{anyBeside}
 use Rattle.machine.proofs.Laws.{none-moved}
 use Rattle.record.specs.declared.Record.{Record}
-use Rattle.record.specs.Kinds.{RACK, DROP, XFER, IN, OUT, MISS, TUCK, KNIT, SPLIT, PLATED-TUCK, PLATED-KNIT, byKind, loopsFormed, tucks}
+use Rattle.record.specs.Kinds.{RACK, DROP, XFER, IN, OUT, MISS, TUCK, KNIT, SPLIT, PLATED-TUCK, PLATED-KNIT, byKind}
 use Rattle.run.specs.Relation.{racked, entrySlot, exitSlot, unattached, reparked, attached}
-use Rattle.run.specs.Step.{orNumber, twiceNo, askedNo, firstAfter, numberAt, applyOf}
-use Rattle.run.specs.Loops.{tuckNo, tucked, formNo, formedLoops, transferNo, transferredLoops}
-use Rattle.run.proofs.ByKind.{or-zero, seen, slotNo, readyNo, pairNo, rack-number, rack-state, drop-number, drop-state, xfer-number, xfer-state, in-number, in-state, out-number, out-state, miss-number, miss-state, tuck-number, tuck-state, knit-number, knit-state, split-number, split-state, plated-tuck-number, plated-tuck-state, plated-knit-number, plated-knit-state}
+use Rattle.run.specs.Step.{orNumber, twiceNo, askedNo, firstAfter, firstAsked, numberAt, applyOf}
+use Rattle.run.specs.Loops.{tuckNo, formNo, formedLoops, transferNo, transferredLoops}
+use Rattle.run.proofs.ByKind.{or-zero, none-fits, seen, slotNo, readyNo, pairNo, rack-number, rack-state, drop-number, drop-state, xfer-number, xfer-state, in-number, in-state, out-number, out-state, miss-number, miss-state, tuck-number, tuck-state, knit-number, knit-state, split-number, split-state, plated-tuck-number, plated-tuck-state, plated-knit-number, plated-knit-state}
 use Rattle.run.proofs.Premises.{twice-zero, twice-sixteen}
 use Rattle.record.proofs.Shapes.{one-of-two, two-named}
 
--- the loops after a transfer or a tuck, by its number
+-- the loops after a transfer, by its number
 module _ (limit : ℕ) (l : List ℕ) (a b : Needle) (r : Racking) (v n : ℕ) (is : n ≡ transferNo limit l a b r) where
   pub transfer-kept : (n ≡ 0 → ⊥) → transferredLoops limit l a b r v ≡ l
   unfolding transferredLoops
@@ -34,15 +31,6 @@ module _ (limit : ℕ) (l : List ℕ) (a b : Needle) (r : Racking) (v n : ℕ) (
   transfer-made : n ≡ 0 → transferredLoops limit l a b r v ≡ set (set l (hookOf a) v) (hookOf b) (getD l (hookOf a) 0 + getD l (hookOf b) 0)
   unfolding transferredLoops
   transfer-made h = simp (← is, eq-eqb n 0 h)
-
-module _ (limit : ℕ) (l : List ℕ) (a : Needle) (v n : ℕ) (is : n ≡ tuckNo limit (getD l (hookOf a) 0) v) where
-  tuck-kept : (n ≡ 0 → ⊥) → tucked limit l a v ≡ l
-  unfolding tucked
-  tuck-kept h = simp (← is, ne-eqb n 0 h)
-
-  tuck-made : n ≡ 0 → tucked limit l a v ≡ set l (hookOf a) (getD l (hookOf a) 0 + v)
-  unfolding tucked
-  tuck-made h = simp (← is, eq-eqb n 0 h)
 
 -- the carriers after a move: where none names the needle, as they were
 pub unmoved : (a b : Needle) (l : List Carrier) → anyBeside a l ≡ false → l ≡ map (movedTo a b) l
@@ -60,6 +48,11 @@ module _ (s : State) (x : Record) where
   abbrev pub Made : State → Type 0
   Made u = (numberAt s x ≡ 0) × (applyOf s x ≡ u)
 
+  -- which keeps the limit
+  pub made-limit : {u : State} → applyOf s x ≡ u → s .limit ≡ u .limit
+  unfolding applyOf
+  made-limit e = ap (λ (t : State). t .limit) e
+
   -- the state with other loops and carriers
   abbrev pub parts : List ℕ → List Carrier → State
   parts l cs = changed s (s .racking) l cs
@@ -70,14 +63,14 @@ module _ (s : State) (x : Record) where
   pub drop-made : x .kind ≡ DROP → (l : List ℕ) → l ≡ set (s .loops) (hookOf (x .at)) 0 → Made (parts l (s .carriers))
   drop-made e l p = (drop-number s x e, drop-state s x e ∙ simp p)
 
-  module _ (e : x .kind ≡ XFER) (n : ℕ) (is : n ≡ transferNo (hookLimit s) (s .loops) (x .at) (x .to) (s .racking)) where
+  module _ (e : x .kind ≡ XFER) (n : ℕ) (is : n ≡ transferNo (s .limit) (s .loops) (x .at) (x .to) (s .racking)) where
     pub xfer-stopped : n ≡ numberAt s x
     xfer-stopped = is ∙ sym (xfer-number s x e)
 
-    pub xfer-made : n ≡ 0 → (l : List ℕ) (cs : List Carrier) → l ≡ transferredLoops (hookLimit s) (s .loops) (x .at) (x .to) (s .racking) 0
+    pub xfer-made : n ≡ 0 → (l : List ℕ) (cs : List Carrier) → l ≡ transferredLoops (s .limit) (s .loops) (x .at) (x .to) (s .racking) 0
         → cs ≡ map (movedTo (x .at) (x .to)) (s .carriers) → Made (parts l cs)
     xfer-made h l cs p q =
-        (xfer-number s x e ∙ sym is ∙ h, xfer-state s x e ∙ simp (p ∙ transfer-made (hookLimit s) (s .loops) (x .at) (x .to) (s .racking) 0 n is h, q))
+        (xfer-number s x e ∙ sym is ∙ h, xfer-state s x e ∙ simp (p ∙ transfer-made (s .limit) (s .loops) (x .at) (x .to) (s .racking) 0 n is h, q))
 
   -- what the record asks of its carrier, as `asked` says it
   abbrev asks : ℕ
@@ -133,24 +126,22 @@ module _ (s : State) (x : Record) where
 
   -- the loops that a tuck or a knit forms, plain or plated, by the number
   abbrev formsNo : ℕ
-  formsNo = formNo (hookLimit s) (x .kind) (loopsOn s (x .at))
+  formsNo = formNo (s .limit) (x .kind) (loopsOn s (x .at))
 
   abbrev formed : List ℕ
-  formed = formedLoops (hookLimit s) (x .kind) (s .loops) (x .at)
+  formed = formedLoops (s .limit) (x .kind) (s .loops) (x .at)
 
   abbrev after-forming : List ℕ
   after-forming = set (s .loops) (hookOf (x .at)) (firstAfter (x .kind) (loopsOn s (x .at)))
 
   module _ (m : ℕ) (f : m ≡ formsNo) where
     pub form-kept : (m ≡ 0 → ⊥) → formed ≡ s .loops
-    unfolding formNo formedLoops
-    form-kept g =
-        cases (tucks (x .kind)) (λ t. simp t (tuck-kept (hookLimit s) (s .loops) (x .at) (loopsFormed (x .kind)) m (f ∙ simp t) g)) (λ t. absurd (g (f ∙ simp t)))
+    unfolding formedLoops
+    form-kept g = simp (ne-eqb formsNo 0 (λ e. g (f ∙ e)))
 
     form-made : m ≡ 0 → formed ≡ after-forming
-    unfolding formNo formedLoops firstAfter
-    form-made g =
-        cases (tucks (x .kind)) (λ t. simp t (tuck-made (hookLimit s) (s .loops) (x .at) (loopsFormed (x .kind)) m (f ∙ simp t) g)) (λ t. simp t)
+    unfolding formedLoops
+    form-made g = simp (eq-eqb formsNo 0 (sym f ∙ g))
 
   -- tuck and knit: a tuck asks for room besides
   module _ (low : TUCK ≤ x .kind) (high : x .kind ≤ KNIT) where
@@ -158,8 +149,9 @@ module _ (s : State) (x : Record) where
     either = one-of-two (x .kind) TUCK KNIT refl low high
 
     loop-number : numberAt s x ≡ orNumber (readyNo s x) formsNo
-    unfolding formNo byKind
-    loop-number = either (λ e. tuck-number s x e ∙ sym (simp e)) (λ e. knit-number s x e ∙ sym (simp e (or-zero (readyNo s x))))
+    unfolding formNo firstAsked firstAfter tuckNo byKind
+    loop-number =
+        either (λ e. tuck-number s x e ∙ sym (simp e)) (λ e. knit-number s x e ∙ sym (simp (e, none-fits (s .limit)) (or-zero (readyNo s x))))
 
     loop-state : applyOf s x ≡ with after-forming (attached (exitSlot s x) (x .at) (x .right))
     unfolding firstAfter byKind
@@ -186,9 +178,8 @@ module _ (s : State) (x : Record) where
     with-both l c = parts l (set (set (s .carriers) (x .carrier - 1) c) (x .second - 1) c)
 
     plated-number : numberAt s x ≡ orNumber (twiceNo x) (orNumber (pairNo s x) formsNo)
-    unfolding formNo byKind
-    plated-number =
-        either-plated (λ e. plated-tuck-number s x e ∙ sym (simp e)) (λ e. plated-knit-number s x e ∙ sym (simp e (ap (orNumber (twiceNo x)) (or-zero (pairNo s x)))))
+    unfolding formNo firstAsked firstAfter tuckNo byKind
+    plated-number = either-plated (λ e. plated-tuck-number s x e ∙ sym (simp e)) (λ e. plated-knit-number s x e ∙ sym (simp e))
 
     plated-state : applyOf s x ≡ with-both after-forming (attached (exitSlot s x) (x .at) (x .right))
     unfolding firstAfter byKind
@@ -221,14 +212,14 @@ module _ (s : State) (x : Record) where
     pub split-unready : (n ≡ 0 → ⊥) → n ≡ numberAt s x
     split-unready h = simp (← is) (before n _ h) ∙ sym (split-number s x e)
 
-    module _ (h : n ≡ 0) (m : ℕ) (f : m ≡ transferNo (hookLimit s) (s .loops) (x .at) (x .to) (s .racking)) where
+    module _ (h : n ≡ 0) (m : ℕ) (f : m ≡ transferNo (s .limit) (s .loops) (x .at) (x .to) (s .racking)) where
       pub split-stopped : m ≡ numberAt s x
       split-stopped = after (readyNo s x) _ m (sym is ∙ h) f ∙ sym (split-number s x e)
 
       pub split-made : m ≡ 0 → (c : Carrier) → c ≡ attached (exitSlot s x) (x .at) (x .right) → (l : List ℕ) (cs : List Carrier)
-          → l ≡ transferredLoops (hookLimit s) (s .loops) (x .at) (x .to) (s .racking) 1 → cs ≡ map (movedTo (x .at) (x .to)) (s .carriers)
+          → l ≡ transferredLoops (s .limit) (s .loops) (x .at) (x .to) (s .racking) 1 → cs ≡ map (movedTo (x .at) (x .to)) (s .carriers)
           → Made (parts l (set cs (x .carrier - 1) c))
       split-made g c q l cs p t = (
         sym split-stopped ∙ g,
-        split-state s x e ∙ simp (p ∙ transfer-made (hookLimit s) (s .loops) (x .at) (x .to) (s .racking) 1 m f g, q, t),
+        split-state s x e ∙ simp (p ∙ transfer-made (s .limit) (s .loops) (x .at) (x .to) (s .racking) 1 m f g, q, t),
       )

@@ -8,7 +8,6 @@ use lib.Dec.{eqb}
 use borrow.Author.Tests.{ne-eqb}
 use Rattle.machine.specs.declared.Slot.{Slot}
 use Rattle.machine.specs.declared.State.{State}
-use Rattle.machine.specs.Limits.{hookLimit}
 use Rattle.machine.specs.Machine.{loopsOn, carrierOf}
 use Rattle.machine.specs.Geometry.{columnOf}
 use Rattle.record.specs.declared.Record.{Record}
@@ -110,7 +109,7 @@ module _ (s : State) (x : Record) where
       (λ one. absurd (d (twice-single one)))
 
   -- 10 or 11 where the second hook would be over its loops
-  move-full-early : hookLimit s < sum s x → NoLater 11 (moveNo s x)
+  move-full-early : s .limit < sum s x → NoLater 11 (moveNo s x)
   move-full-early h =
       opposite-cases s x (λ o. itself 11 _ (λ e. omega arith) (move-full s x o h)) (λ o. rw (move-apart s x o) ((λ e. omega arith), columns-hooks))
 
@@ -153,7 +152,7 @@ module _ (s : State) (x : Record) (f : InRange x) where
   module _ (p : Plated (x .kind)) where
     plated-first : Plated (x .kind) → (rest : ℕ) × (numberAt s x ≡ orNumber (twiceNo x) (orNumber (pairNo s x) rest))
     plated-first (Plated.tuck e) = (_, plated-tuck-number s x e)
-    plated-first (Plated.knit e) = (0, plated-knit-number s x e ∙ sym (ap (orNumber (twiceNo x)) (or-zero (pairNo s x))))
+    plated-first (Plated.knit e) = (_, plated-knit-number s x e)
 
     plated-early : (m : ℕ) → rank 7 ≤ rank m → NoLater m (pairNo s x) → NoLater m (numberAt s x)
     plated-early m h k =
@@ -255,9 +254,10 @@ module _ (s : State) (x : Record) (f : InRange x) where
       apart (Moves.xfer k) = itself 10 _ (λ z. omega arith) (xfer-number s x k ∙ move-apart s x (a .differ))
       apart (Moves.split k) = after-ready 10 _ float-columns (split-number s x k) (itself 10 _ (λ z. omega arith) (move-apart s x (a .differ)))
   number-earliest (RecordReason.hook-full e (HookFull.tuck k h)) =
-      rw e (after-ready 11 _ (through float-columns columns-hooks) (tuck-number s x k) (itself 11 _ (λ z. omega arith) (tuck-full (hookLimit s) (loopsOn s (x .at)) 1 h)))
+      rw e (after-ready 11 _ (through float-columns columns-hooks) (tuck-number s x k) (itself 11 _ (λ z. omega arith) (tuck-full (s .limit) (loopsOn s (x .at)) 1 h)))
   number-earliest (RecordReason.hook-full e (HookFull.plated-tuck k h)) =
-      rw e (plated-full (Plated.tuck k) _ (plated-tuck-number s x k) (tuck-full (hookLimit s) (loopsOn s (x .at)) 2 h))
+      rw e (plated-full (Plated.tuck k) _ (plated-tuck-number s x k) (tuck-full (s .limit) (loopsOn s (x .at)) 2 h))
+  number-earliest (RecordReason.hook-full e (HookFull.plated-knit k h)) = rw e (plated-full (Plated.knit k) _ (plated-knit-number s x k) (tuck-full (s .limit) 0 2 h))
   number-earliest (RecordReason.hook-full e (HookFull.second two h)) = rw e (full (two-hooks (f .known) two))
     where
       full : Moves (x .kind) → NoLater 11 (numberAt s x)

@@ -18,7 +18,7 @@ use Rattle.run.specs.Reason.{Whole}
 use Rattle.run.specs.Run.{reached, answerOf, runOf}
 use Rattle.run.specs.Claims.{Complete, Answers, RunExactly, KnownExactly, SizeExactly, FieldExactly}
 use Rattle.run.proofs.Bytes.{reason-no-step}
-use Rattle.run.proofs.Answers.{Answered, answered, long-run, valid-run, complete-empty}
+use Rattle.run.proofs.Answers.{Answered, answered, long-run, bad-run, valid-run, complete-empty}
 use Rattle.run.proofs.Unique.{one-refusal}
 
 -- ---- an answer by its parts
@@ -30,31 +30,33 @@ same-flag false true f g = absurd (true≢false (sym (f .1 (g .0 refl))))
 same-flag false false f g = refl
 
 -- the run's flag, where its state is t
-pub run-flag : (p : List ℕ) {t : State} (c : Bool) → runOf p .state ≡ t → Complete c t → runOf p .complete ≡ c
-run-flag p c e h = same-flag (runOf p .complete) c (subst (Complete (runOf p .complete)) e (complete-empty (answered p))) h
+pub run-flag : (limit : ℕ) (p : List ℕ) {t : State} (c : Bool) → runOf limit p .state ≡ t → Complete c t → runOf limit p .complete ≡ c
+run-flag limit p c e h = same-flag (runOf limit p .complete) c (subst (Complete (runOf limit p .complete)) e (complete-empty (answered limit p))) h
 
 -- number, place and state are the run's: then the answer is
-same-answer : (p : List ℕ) (a : Answer) → runOf p ≡ answerOf (reached (a .number) (a .place) (a .state)) → Complete (a .complete) (a .state) → runOf p ≡ a
+same-answer : (limit : ℕ) (p : List ℕ) (a : Answer) → runOf limit p ≡ answerOf (reached (a .number) (a .place) (a .state)) → Complete (a .complete) (a .state) → runOf limit p ≡ a
 unfolding answerOf
-same-answer p a e h =
-    let c = run-flag p (a .complete) (ap (λ (b : Answer). b .state) e) h in
+same-answer limit p a e h =
+    let c = run-flag limit p (a .complete) (ap (λ (b : Answer). b .state) e) h in
     λ i. record { number = e i .number; place = e i .place; complete = c i; state = e i .state }
 
 -- ---- every run ends in one of these ways, and whatever ends so is the run's answer
-own : {p : List ℕ} {a : Answer} → Answered p a → Answers p a
+own : {limit : ℕ} {p : List ℕ} {a : Answer} → Answered limit p a → Answers limit p a
 unfolding answerOf
-own (Answered.through h steps) = Answers.done (record { short = h; steps = steps }) (complete-empty (Answered.through h steps))
-own (Answered.refused h k before r) =
-    Answers.refused h (record { within = k; before = before; no-step = reason-no-step (r .reason); first = r }) (complete-empty (Answered.refused h k before r))
-own (Answered.too-long h) = Answers.too-long h
+own (Answered.through i h steps) = Answers.done (record { limit-in = i; short = h; steps = steps }) (complete-empty (Answered.through i h steps))
+own (Answered.refused i h k before r) =
+    Answers.refused i h (record { within = k; before = before; no-step = reason-no-step (r .reason); first = r }) (complete-empty (Answered.refused i h k before r))
+own (Answered.too-long i h) = Answers.too-long i h
+own (Answered.bad-limit i) = Answers.bad-limit i
 
-one : {p : List ℕ} {a : Answer} → Answers p a → runOf p ≡ a
-one {p} (Answers.too-long h) = long-run p h
-one {p} {a} (Answers.done {t = t} v c) = same-answer p a (valid-run p t v) c
-one {p} {a} (Answers.refused h f c) = same-answer p a (one-refusal p a h f) c
+one : {limit : ℕ} {p : List ℕ} {a : Answer} → Answers limit p a → runOf limit p ≡ a
+one {limit} {p} (Answers.bad-limit i) = bad-run i p
+one {limit} {p} (Answers.too-long i h) = long-run i p h
+one {limit} {p} {a} (Answers.done {t = t} v c) = same-answer limit p a (valid-run p t v) c
+one {limit} {p} {a} (Answers.refused i h f c) = same-answer limit p a (one-refusal i p a h f) c
 
 pub run-exactly : RunExactly
-run-exactly p a = ((λ e. subst (Answers p) e (own (answered p))), one)
+run-exactly limit p a = ((λ e. subst (Answers limit p) e (own (answered limit p))), one)
 
 -- ---- 3 to 5
 pub size-exactly : SizeExactly

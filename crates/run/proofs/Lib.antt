@@ -15,4 +15,5 @@ pub mod Ranges
 pub mod Stepwise
 pub mod Unique
 pub mod Demand
+pub mod Limits
 pub mod Exact

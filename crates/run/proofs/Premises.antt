@@ -11,7 +11,7 @@ use Rattle.machine.specs.declared.Racking.{Racking}
 use Rattle.machine.specs.declared.Slot.{Slot}
 use Rattle.machine.specs.declared.Carrier.{Carrier}
 use Rattle.machine.specs.declared.State.{State}
-use Rattle.machine.specs.Limits.{floatMost, hookLimit}
+use Rattle.machine.specs.Limits.{floatMost}
 use Rattle.machine.specs.Machine.{loopsOn, carrierOf}
 use Rattle.machine.specs.Geometry.{eqZ, columnOf, sameColumn, withinFloat}
 use Rattle.machine.proofs.Signed.{eqZ-yes, eqZ-no, eqZ-true, eqZ-false}
@@ -116,7 +116,7 @@ module _ (s : State) (x : Record) where
   sum = loopsOn s (x .at) + loopsOn s (x .to)
 
   abbrev pub moveNo : ℕ
-  moveNo = transferNo (hookLimit s) (s .loops) (x .at) (x .to) (s .racking)
+  moveNo = transferNo (s .limit) (s .loops) (x .at) (x .to) (s .racking)
 
   same-yes : Opposite s x → sameColumn (columnOf (x .at) (s .racking)) (columnOf (x .to) (s .racking)) ≡ true
   unfolding sameColumn
@@ -136,11 +136,11 @@ module _ (s : State) (x : Record) where
 
   pub move-zero : Opposite s x → Room s sum → moveNo ≡ 0
   unfolding transferNo
-  move-zero e h = simp (same-yes e, le-leb sum (hookLimit s) h)
+  move-zero e h = simp (same-yes e, le-leb sum (s .limit) h)
 
-  pub move-full : Opposite s x → hookLimit s < sum → moveNo ≡ 11
+  pub move-full : Opposite s x → s .limit < sum → moveNo ≡ 11
   unfolding transferNo
-  move-full e h = simp (same-yes e, lt-leb sum (hookLimit s) h)
+  move-full e h = simp (same-yes e, lt-leb sum (s .limit) h)
 
   pub move-apart : (Opposite s x → ⊥) → moveNo ≡ 10
   unfolding transferNo

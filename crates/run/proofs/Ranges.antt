@@ -12,7 +12,7 @@ use Rattle.machine.specs.declared.State.{State}
 use Rattle.machine.specs.Machine.{OnBed, inactive, hookOf, loopsOn, carrierOf, movedTo}
 use Rattle.machine.specs.Range.{SlotInRange, CarrierInRange, StateInRange}
 use Rattle.machine.proofs.Ranges.{every-set, every-map, entry-in, exit-in, inactive-in, moved-in, empty-in}
-use Rattle.machine.specs.Limits.{rackingMost, hookLimit}
+use Rattle.machine.specs.Limits.{rackingMost}
 use Rattle.record.specs.declared.Record.{Record}
 use Rattle.record.specs.Format.{Encodes}
 use Rattle.record.proofs.Ranges.{InRange}
@@ -29,15 +29,16 @@ use Rattle.run.proofs.Answers.{Answered}
 
 -- ---- a state with one thing changed
 module _ {s : State} (h : StateInRange s) where
-  loops-in : (n : Needle) (v : ℕ) → v ≤ hookLimit s → StateInRange (withLoops s n v)
-  loops-in n v k = record { racking = h .racking; loops = every-set (λ (m : ℕ). m ≤ hookLimit s) 0 (s .loops) (hookOf n) v k (h .loops); carriers = h .carriers }
+  loops-in : (n : Needle) (v : ℕ) → v ≤ s .limit → StateInRange (withLoops s n v)
+  loops-in n v k = record { racking = h .racking; limit = h .limit; loops = every-set (λ (m : ℕ). m ≤ s .limit) 0 (s .loops) (hookOf n) v k (h .loops); carriers = h .carriers }
 
   carrier-in : (k : ℕ) (c : Carrier) → CarrierInRange c → StateInRange (withCarrier s k c)
-  carrier-in k c p = record { racking = h .racking; loops = h .loops; carriers = every-set CarrierInRange inactive (s .carriers) (k - 1) c p (h .carriers) }
+  carrier-in k c p = record { racking = h .racking; limit = h .limit; loops = h .loops; carriers = every-set CarrierInRange inactive (s .carriers) (k - 1) c p (h .carriers) }
 
 transferred-in : {s : State} → StateInRange s → (x : Record) → OnBed (x .to) → Room s (sum s x) → StateInRange (transferred s (x .at) (x .to))
 transferred-in {s} h x b r = record {
   racking = h .racking;
+  limit = h .limit;
   loops = loops-in (loops-in h (x .at) 0 (omega arith)) (x .to) (sum s x) r .loops;
   carriers = every-map CarrierInRange inactive (movedTo (x .at) (x .to)) (moved-in (x .at) (x .to) b) (s .carriers) (h .carriers);
 }
@@ -64,7 +65,7 @@ module _ {s : State} {x : Record} (h : StateInRange s) (f : InRange x) where
   worked = attached-in (exitSlot s x) (x .at) (x .right) exit (f .at-bed)
 
   step-keeps : natAbs (x .racking .0) ≤ rackingMost → {t : State} → Step s x t → StateInRange t
-  step-keeps r (Step.rack e) = record { racking = r; loops = h .loops; carriers = h .carriers }
+  step-keeps r (Step.rack e) = record { racking = r; limit = h .limit; loops = h .loops; carriers = h .carriers }
   step-keeps r (Step.drop e) = loops-in h (x .at) 0 (omega arith)
   step-keeps r (Step.xfer e o k) = transferred-in h x (f .to-bed) k
   step-keeps r (Step.carrier-in e c) = carrier-in h (x .carrier) _ (CarrierInRange.unattached refl entry refl refl)
@@ -72,10 +73,10 @@ module _ {s : State} {x : Record} (h : StateInRange s) (f : InRange x) where
   step-keeps r (Step.miss e p) =
       carrier-in h (x .carrier) _ (reparked-in (carrierOf s (x .carrier)) (exitSlot s x) (p .active) exit (h .carriers (x .carrier - 1)))
   step-keeps r (Step.tuck e p g k) = carrier-in (loops-in h (x .at) (loopsOn s (x .at) + 1) k) (x .carrier) _ worked
-  step-keeps r (Step.knit e p g) = carrier-in (loops-in h (x .at) 1 (omega arith)) (x .carrier) _ worked
-  step-keeps r (Step.split e p g o k) = carrier-in (loops-in (transferred-in h x (f .to-bed) k) (x .at) 1 (omega arith)) (x .carrier) _ worked
+  step-keeps r (Step.knit e p g) = carrier-in (loops-in h (x .at) 1 (h .limit .least)) (x .carrier) _ worked
+  step-keeps r (Step.split e p g o k) = carrier-in (loops-in (transferred-in h x (f .to-bed) k) (x .at) 1 (h .limit .least)) (x .carrier) _ worked
   step-keeps r (Step.plated-tuck e two p q g i k) = carrier-in (carrier-in (loops-in h (x .at) (loopsOn s (x .at) + 2) k) (x .carrier) _ worked) (x .second) _ worked
-  step-keeps r (Step.plated-knit e two p q g i) = carrier-in (carrier-in (loops-in h (x .at) 2 (omega arith)) (x .carrier) _ worked) (x .second) _ worked
+  step-keeps r (Step.plated-knit e two p q g i k) = carrier-in (carrier-in (loops-in h (x .at) 2 k) (x .carrier) _ worked) (x .second) _ worked
 
 racking-in : {bytes : List ℕ} {x : Record} → Encodes bytes x → natAbs (x .racking .0) ≤ rackingMost
 racking-in (Encodes.rack h) = h
@@ -100,8 +101,9 @@ slice-keeps s l h =
     subst StateInRange (sym (ap (λ (a : Stepped). a .state) (ap (stepOf s) e ∙ step-gives s bytes rest x t form step))) (form-keeps h form step))
     (λ d. subst StateInRange (sym (step-refuses s l d .state)) h)
 
-pub answer-in : {p : List ℕ} {a : Answer} → Answered p a → StateInRange (a .state)
+pub answer-in : {limit : ℕ} {p : List ℕ} {a : Answer} → Answered limit p a → StateInRange (a .state)
 unfolding answerOf
-answer-in (Answered.through h steps) = steps-keep empty-in steps
-answer-in (Answered.refused h k before r) = steps-keep empty-in before
-answer-in (Answered.too-long h) = empty-in
+answer-in {limit} (Answered.through i h steps) = steps-keep (empty-in limit i) steps
+answer-in {limit} (Answered.refused i h k before r) = steps-keep (empty-in limit i) before
+answer-in {limit} (Answered.too-long i h) = empty-in limit i
+answer-in (Answered.bad-limit i) = empty-in 8 (record { least = omega arith; most = omega arith })

@@ -83,26 +83,27 @@ runs (suc bound) [] h at s = rw (run-end at s) (Ends.through Steps.none)
 runs zero (b ∷ l) h at s = absurd (omega arith)
 runs (suc bound) (b ∷ l) h at s = next b l at s (λ q w. runs bound q (omega arith))
 
--- ---- a step keeps how many hooks and carriers there are
-pub record SameLengths (s t : State) : Type 0 where
+-- ---- a step keeps how many hooks and carriers there are, and the limit
+pub record SameFrame (s t : State) : Type 0 where
   pub loops : length (t .loops) ≡ length (s .loops)
+  pub limit : t .limit ≡ s .limit
   pub carriers : length (t .carriers) ≡ length (s .carriers)
 
-step-lengths : {s t : State} {x : Record} → Step s x t → SameLengths s t
-step-lengths (Step.rack e) = record { loops = refl; carriers = refl }
-step-lengths (Step.drop e) = record { loops = simp length-set; carriers = refl }
-step-lengths (Step.xfer e o r) = record { loops = simp length-set; carriers = simp length-map }
-step-lengths (Step.carrier-in e c) = record { loops = refl; carriers = simp length-set }
-step-lengths (Step.carrier-out e p) = record { loops = refl; carriers = simp length-set }
-step-lengths (Step.miss e p) = record { loops = refl; carriers = simp length-set }
-step-lengths (Step.tuck e p h r) = record { loops = simp length-set; carriers = simp length-set }
-step-lengths (Step.knit e p h) = record { loops = simp length-set; carriers = simp length-set }
-step-lengths (Step.split e p h o r) = record { loops = simp length-set; carriers = simp (length-set, length-map) }
-step-lengths (Step.plated-tuck e two p q h i r) = record { loops = simp length-set; carriers = simp length-set }
-step-lengths (Step.plated-knit e two p q h i) = record { loops = simp length-set; carriers = simp length-set }
+pub step-frame : {s t : State} {x : Record} → Step s x t → SameFrame s t
+step-frame (Step.rack e) = record { loops = refl; limit = refl; carriers = refl }
+step-frame (Step.drop e) = record { loops = simp length-set; limit = refl; carriers = refl }
+step-frame (Step.xfer e o r) = record { loops = simp length-set; limit = refl; carriers = simp length-map }
+step-frame (Step.carrier-in e c) = record { loops = refl; limit = refl; carriers = simp length-set }
+step-frame (Step.carrier-out e p) = record { loops = refl; limit = refl; carriers = simp length-set }
+step-frame (Step.miss e p) = record { loops = refl; limit = refl; carriers = simp length-set }
+step-frame (Step.tuck e p h r) = record { loops = simp length-set; limit = refl; carriers = simp length-set }
+step-frame (Step.knit e p h) = record { loops = simp length-set; limit = refl; carriers = simp length-set }
+step-frame (Step.split e p h o r) = record { loops = simp length-set; limit = refl; carriers = simp (length-set, length-map) }
+step-frame (Step.plated-tuck e two p q h i r) = record { loops = simp length-set; limit = refl; carriers = simp length-set }
+step-frame (Step.plated-knit e two p q h i r) = record { loops = simp length-set; limit = refl; carriers = simp length-set }
 
-pub steps-lengths : {s t : State} {p : List ℕ} → Steps s p t → SameLengths s t
-steps-lengths Steps.none = record { loops = refl; carriers = refl }
-steps-lengths (Steps.next form step more) =
-    let a = step-lengths step in let b = steps-lengths more in
-    record { loops = b .loops ∙ a .loops; carriers = b .carriers ∙ a .carriers }
+pub steps-frame : {s t : State} {p : List ℕ} → Steps s p t → SameFrame s t
+steps-frame Steps.none = record { loops = refl; limit = refl; carriers = refl }
+steps-frame (Steps.next form step more) =
+    let a = step-frame step in let b = steps-frame more in
+    record { loops = b .loops ∙ a .loops; limit = b .limit ∙ a .limit; carriers = b .carriers ∙ a .carriers }

@@ -9,7 +9,6 @@ use borrow.Author.Tests.{ne-eqb, leb-true, leb-false}
 use Rattle.machine.specs.declared.Column.{Column}
 use Rattle.machine.specs.declared.Slot.{Slot}
 use Rattle.machine.specs.declared.State.{State}
-use Rattle.machine.specs.Limits.{hookLimit}
 use Rattle.machine.specs.Machine.{hookOf, loopsOn, carrierOf}
 use Rattle.machine.specs.Geometry.{columnOf}
 use Rattle.record.specs.declared.Record.{Record}
@@ -55,13 +54,14 @@ module _ (s : State) (x : Record) where
   step-only f (Step.carrier-in e c) = (in-number s x e ∙ in-zero (s .racking) (carrier s x) c, in-state s x e)
   step-only f (Step.carrier-out e p) = (out-number s x e ∙ parked-here (x .carrier) (exitSlot s x) p, out-state s x e)
   step-only f (Step.miss e p) = (miss-number s x e ∙ parked-here (x .carrier) (entrySlot s x) p, miss-state s x e)
-  step-only f (Step.tuck e p h r) = (tuck-number s x e ∙ or-next _ _ (ready-zero p h) ∙ tuck-zero (hookLimit s) (loopsOn s (x .at)) 1 r, tuck-state s x e)
+  step-only f (Step.tuck e p h r) = (tuck-number s x e ∙ or-next _ _ (ready-zero p h) ∙ tuck-zero (s .limit) (loopsOn s (x .at)) 1 r, tuck-state s x e)
   step-only f (Step.knit e p h) = (knit-number s x e ∙ ready-zero p h, knit-state s x e)
   step-only f (Step.split e p h o r) =
       (split-number s x e ∙ or-next _ _ (ready-zero p h) ∙ move-zero s x o r, split-state s x e ∙ split-said s x (split-hooks f e))
   step-only f (Step.plated-tuck e two p q h i r) =
-      (plated-tuck-number s x e ∙ or-next _ _ (twice-zero x two) ∙ or-next _ _ (pair-zero p q h i) ∙ tuck-zero (hookLimit s) (loopsOn s (x .at)) 2 r, plated-tuck-state s x e)
-  step-only f (Step.plated-knit e two p q h i) = (plated-knit-number s x e ∙ or-next _ _ (twice-zero x two) ∙ pair-zero p q h i, plated-knit-state s x e)
+      (plated-tuck-number s x e ∙ or-next _ _ (twice-zero x two) ∙ or-next _ _ (pair-zero p q h i) ∙ tuck-zero (s .limit) (loopsOn s (x .at)) 2 r, plated-tuck-state s x e)
+  step-only f (Step.plated-knit e two p q h i r) =
+      (plated-knit-number s x e ∙ or-next _ _ (twice-zero x two) ∙ or-next _ _ (pair-zero p q h i) ∙ tuck-zero (s .limit) 0 2 r, plated-knit-state s x e)
 
 -- ---- the code's number is 0 where the premises hold, or the number of a reason
 data Judged (s : State) (x : Record) (P : Type 0) (n : ℕ) : Type 0 where
@@ -145,19 +145,17 @@ module _ (s : State) (x : Record) where
       implied (λ (c, (d, (e, (f, (g, h))))). record { parked = e; parked-second = f; near = g; near-second = h })
       (both (not-in-judged k a (l .not-in)) (both (not-in-judged j b (l .not-in)) (both (entered k a l) (both (entered j b l) (both (float-judged k a l) (float-judged j b l))))))
 
-  room-judged : (v : ℕ) → (hookLimit s < loopsOn s (x .at) + v → HookFull s x) → Judged s x (Room s (loopsOn s (x .at) + v)) (tuckNo (hookLimit s) (loopsOn s (x .at)) v)
-  room-judged v full =
-      cases (leb n (hookLimit s)) (λ t. let h = leb-true n (hookLimit s) t in Judged.fine (tuck-zero (hookLimit s) (loopsOn s (x .at)) v h) h)
-      (λ t. let h = leb-false n (hookLimit s) t in Judged.refused (RecordReason.hook-full (tuck-full (hookLimit s) (loopsOn s (x .at)) v h) (full h)))
-    where
-      n : ℕ
-      n = loopsOn s (x .at) + v
+  -- v loops more than n
+  room-judged : (n v : ℕ) → (s .limit < n + v → HookFull s x) → Judged s x (Room s (n + v)) (tuckNo (s .limit) n v)
+  room-judged n v full =
+      cases (leb (n + v) (s .limit)) (λ t. let h = leb-true (n + v) (s .limit) t in Judged.fine (tuck-zero (s .limit) n v h) h)
+      (λ t. let h = leb-false (n + v) (s .limit) t in Judged.refused (RecordReason.hook-full (tuck-full (s .limit) n v h) (full h)))
 
   move-judged : hooksWorked (x .kind) ≡ 2 → Judged s x (Opposite s x × Room s (sum s x)) (moveNo s x)
   move-judged two =
       opposite-cases s x
-      (λ o. cases (leb (sum s x) (hookLimit s)) (λ t. let h = leb-true (sum s x) (hookLimit s) t in Judged.fine (move-zero s x o h) (o, h))
-      (λ t. let h = leb-false (sum s x) (hookLimit s) t in Judged.refused (RecordReason.hook-full (move-full s x o h) (HookFull.second two h))))
+      (λ o. cases (leb (sum s x) (s .limit)) (λ t. let h = leb-true (sum s x) (s .limit) t in Judged.fine (move-zero s x o h) (o, h))
+      (λ t. let h = leb-false (sum s x) (s .limit) t in Judged.refused (RecordReason.hook-full (move-full s x o h) (HookFull.second two h))))
       (λ h. Judged.refused (RecordReason.not-opposite (move-apart s x h) (record { two = two; differ = h })))
 
   judged : InRange x → Judged s x (Step s x (applyOf s x)) (numberAt s x)
@@ -173,17 +171,17 @@ module _ (s : State) (x : Record) where
           stepped (out-number s x e) (out-state s x e) (Step.carrier-out e) (parked-judged (x .carrier) (first (simp e (omega arith))) (exitSlot s x) (λ q. omega arith) (simp e))
       go (Known.miss e) = stepped (miss-number s x e) (miss-state s x e) (Step.miss e) (parked-judged (x .carrier) (first (simp e (omega arith))) (entrySlot s x) (λ q. omega arith) (simp e))
       go (Known.tuck e) =
-          stepped (tuck-number s x e) (tuck-state s x e) (λ ((p, h), r). Step.tuck e p h r) (both (ready-judged (loop (Forms.tuck e))) (room-judged 1 (HookFull.tuck e)))
+          stepped (tuck-number s x e) (tuck-state s x e) (λ ((p, h), r). Step.tuck e p h r) (both (ready-judged (loop (Forms.tuck e))) (room-judged (loopsOn s (x .at)) 1 (HookFull.tuck e)))
       go (Known.knit e) = stepped (knit-number s x e) (knit-state s x e) (λ (p, h). Step.knit e p h) (ready-judged (loop (Forms.knit e)))
       go (Known.split e) =
           stepped (split-number s x e) (split-state s x e ∙ split-said s x (split-hooks s x f e)) (λ ((p, h), (o, r)). Step.split e p h o r)
           (both (ready-judged (loop (Forms.split e))) (move-judged (simp e)))
       go (Known.plated-tuck e) =
           stepped (plated-tuck-number s x e) (plated-tuck-state s x e) (λ (two, (p, r)). Step.plated-tuck e two (p .parked) (p .parked-second) (p .near) (p .near-second) r)
-          (both (twice-judged (simp e)) (both (pair-judged (Plated.tuck e)) (room-judged 2 (HookFull.plated-tuck e))))
+          (both (twice-judged (simp e)) (both (pair-judged (Plated.tuck e)) (room-judged (loopsOn s (x .at)) 2 (HookFull.plated-tuck e))))
       go (Known.plated-knit e) =
-          stepped (plated-knit-number s x e) (plated-knit-state s x e) (λ (two, p). Step.plated-knit e two (p .parked) (p .parked-second) (p .near) (p .near-second))
-          (both (twice-judged (simp e)) (pair-judged (Plated.knit e)))
+          stepped (plated-knit-number s x e) (plated-knit-state s x e) (λ (two, (p, r)). Step.plated-knit e two (p .parked) (p .parked-second) (p .near) (p .near-second) r)
+          (both (twice-judged (simp e)) (both (pair-judged (Plated.knit e)) (room-judged 0 2 (HookFull.plated-knit e))))
 
   pub step-sound : InRange x → numberAt s x ≡ 0 → Step s x (applyOf s x)
   step-sound f z = go (judged f)

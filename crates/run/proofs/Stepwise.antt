@@ -57,7 +57,8 @@ module _ (service : State → List ℕ → Stepped) (agrees : (s : State) (l : L
       (λ d. rw (served k (b ∷ l) at some .stops d) (Stepwise.refused some d))
 
   pub steps-are-the-run : StepsAreTheRun service
-  steps-are-the-run p h = (runFrom 0 p 0 emptyState, steps (length p) p (omega arith) 0 emptyState empty-in, short-run p h)
+  steps-are-the-run limit p i h =
+      (runFrom 0 p 0 (emptyState limit), steps (length p) p (omega arith) 0 (emptyState limit) (empty-in limit i), short-run i p h)
 
   -- ---- and no other
   one : {s : State} {l : List ℕ} {at : ℕ} {r : Reached} → StateInRange s → Stepwise service s l at r → runFrom 0 l at s ≡ r
@@ -66,7 +67,7 @@ module _ (service : State → List ℕ → Stepped) (agrees : (s : State) (l : L
   one {s} {l} {at} k (Stepwise.next h z more) = served k l at h .goes z .1 ∙ one (kept k l) more
 
   pub steps-are-one : StepsAreOne service
-  steps-are-one p r h w = short-run p h ∙ ap answerOf (one empty-in w)
+  steps-are-one limit p r i h w = short-run i p h ∙ ap answerOf (one (empty-in limit i) w)
 
 -- ---- a service that refuses everything stops at the first record
 pub refuser-stops : {s : State} {l : List ℕ} {at : ℕ} {r : Reached} → 0 < length l → Stepwise (λ s l. stay 15 s) s l at r → r .number ≡ 15

@@ -7,6 +7,7 @@ use lib.ListN.{length, take, drop, length-append, length-drop, take-append-drop}
 use lib.Seq.{length-take-le}
 use Rattle.machine.specs.declared.State.{State}
 use Rattle.machine.specs.Machine.{emptyState}
+use Rattle.machine.specs.Range.{LimitInRange}
 use Rattle.record.specs.Format.{decodeOf}
 use Rattle.record.proofs.Forms.{decode-form, decode-in}
 use Rattle.run.specs.declared.Reached.{Reached}
@@ -42,13 +43,14 @@ stops-there (b ∷ l) at n s h r = go (turns b l at s)
         absurd (reason-no-step (r .reason) (take (d .size) (b ∷ l)) (drop (d .size) (b ∷ l)) (d .what) (applyOf s (d .what))
         (sym (take-append-drop (d .size) (b ∷ l))) (decode-form (b ∷ l) e) (step-sound s (d .what) (decode-in (b ∷ l) e) z))
 
-pub one-refusal : (p : List ℕ) (a : Answer) → length p ≤ 32768 → FirstRefusal p a → runOf p ≡ answerOf (reached (a .number) (a .place) (a .state))
-one-refusal p a h f =
+pub one-refusal : {limit : ℕ} → LimitInRange limit → (p : List ℕ) (a : Answer) → length p ≤ 32768 → FirstRefusal limit p a
+    → runOf limit p ≡ answerOf (reached (a .number) (a .place) (a .state))
+one-refusal {limit} i p a h f =
     let k = a .place in
     let e : 0 + length (take k p) ≡ k = omega (arith, length-take-le k p (omega (arith, f .within))) in
-    short-run p h
+    short-run i p h
     ∙ ap answerOf
-    (ap (λ (l : List ℕ). runFrom 0 l 0 emptyState) (sym (take-append-drop k p))
+    (ap (λ (l : List ℕ). runFrom 0 l 0 (emptyState limit)) (sym (take-append-drop k p))
     ∙ run-prefix (f .before) (drop k p) 0
     ∙ ap (λ (n : ℕ). runFrom 0 (drop k p) n (a .state)) e
     ∙ stops-there (drop k p) k (a .number) (a .state) (omega (arith, length-drop k p, f .within)) (f .first))

@@ -1,15 +1,15 @@
--- Demand 2: the run in one statement against the validity relation, what follows from it, and the step. The code's `run` equals runOf
+-- Demand 2 at each hook limit: the run in one statement against the validity relation, what follows from it, and the step. The code's `run` equals runOf
 -- and its `step` equals stepOf by their contracts.
 use Prim.Native.Nat.{ℕ, _+_, _≤_, _<_}
 use mathlib.Core.Path.{_≡_}
 use mathlib.Core.Bool.{Bool, true, false}
 use mathlib.Core.List.{List, [], _∷_, _++_}
-use mathlib.Core.Logic.{_↔_}
+use mathlib.Core.Logic.{_↔_, _⊎_}
 use lib.ListN.{length, take, drop}
 use Rattle.machine.specs.declared.State.{State}
-use Rattle.machine.specs.Limits.{programMost}
+use Rattle.machine.specs.Limits.{limitMost, programMost}
 use Rattle.machine.specs.Machine.{emptyState}
-use Rattle.machine.specs.Range.{StateInRange}
+use Rattle.machine.specs.Range.{LimitInRange, StateInRange}
 use Rattle.record.specs.declared.Record.{Record}
 use Rattle.record.specs.Kinds.{sizeOf}
 use Rattle.record.specs.Format.{Encodes, byte, fieldsOk}
@@ -26,27 +26,29 @@ abbrev pub NoStep : State → List ℕ → Type 0
 NoStep s l = (bytes rest : List ℕ) (x : Record) (t : State) → l ≡ bytes ++ rest → Encodes bytes x → Step s x t → ⊥
 
 -- the first record that has no step, and the first reason that holds
-pub record FirstRefusal (p : List ℕ) (a : Answer) : Type 0 where
+pub record FirstRefusal (limit : ℕ) (p : List ℕ) (a : Answer) : Type 0 where
   -- there is something at the place
   pub within : a .place < length p
   -- the records before it have their steps, and the state is the one they end in
-  pub before : Steps emptyState (take (a .place) p) (a .state)
+  pub before : Steps (emptyState limit) (take (a .place) p) (a .state)
   pub no-step : NoStep (a .state) (drop (a .place) p)
   pub first : First (a .number) (a .state) (drop (a .place) p)
 
--- 'whether that state is the empty one (complete)'
+-- 'whether that state is the empty one (complete)'; 02, W2: 'The empty state has the limit given, and complete compares against that'
 abbrev pub Complete : Bool → State → Type 0
-Complete c t = (c ≡ true) ↔ (t ≡ emptyState)
+Complete c t = (c ≡ true) ↔ (t ≡ emptyState (t .limit))
 
--- what is an answer to a program, by the ways in which a run ends: 1 (too long); 0 (done), with the relation's final state; 3 to 11 and 16
-pub data Answers (p : List ℕ) : Answer → Type 0 where
-  too-long : programMost < length p → Answers p (record { number = 1; place = 0; complete = true; state = emptyState })
-  done : {t : State} {c : Bool} → Valid p t → Complete c t → Answers p (record { number = 0; place = 0; complete = c; state = t })
-  refused : {a : Answer} → length p ≤ programMost → FirstRefusal p a → Complete (a .complete) (a .state) → Answers p a
+-- what is an answer to a limit and a program, by the ways in which a run ends: 15, 'before everything else, with the empty state of limit 8, complete';
+-- 1 (too long); 0 (done), with the relation's final state; 3 to 11 and 16
+pub data Answers (limit : ℕ) (p : List ℕ) : Answer → Type 0 where
+  bad-limit : (LimitInRange limit → ⊥) → Answers limit p (record { number = 15; place = 0; complete = true; state = emptyState limitMost })
+  too-long : LimitInRange limit → programMost < length p → Answers limit p (record { number = 1; place = 0; complete = true; state = emptyState limit })
+  done : {t : State} {c : Bool} → Valid limit p t → Complete c t → Answers limit p (record { number = 0; place = 0; complete = c; state = t })
+  refused : {a : Answer} → LimitInRange limit → length p ≤ programMost → FirstRefusal limit p a → Complete (a .complete) (a .state) → Answers limit p a
 
 -- the run gives such an answer, and no other one is
 abbrev pub RunExactly : Type 0
-RunExactly = (p : List ℕ) (a : Answer) → (runOf p ≡ a) ↔ Answers p a
+RunExactly = (limit : ℕ) (p : List ℕ) (a : Answer) → (runOf limit p ≡ a) ↔ Answers limit p a
 
 -- ---- rows 3 to 5 of the table, which go by lengths and ranges, held against the format
 -- a kind is known exactly if some record begins with it
@@ -62,9 +64,9 @@ abbrev pub FieldExactly : Type 0
 FieldExactly = (l : List ℕ) → Whole l → (fieldsOk l ≡ false) ↔ ((bytes rest : List ℕ) (x : Record) → l ≡ bytes ++ rest → Encodes bytes x → ⊥)
 
 -- ---- what follows of the run, sentence by sentence
--- the run accepts a program exactly if it is valid
+-- the run accepts a program at a limit exactly if it is valid there
 abbrev pub AcceptsExactlyValid : Type 0
-AcceptsExactlyValid = (p : List ℕ) → (runOf p .number ≡ 0) ↔ ((t : State) × Valid p t)
+AcceptsExactlyValid = (limit : ℕ) (p : List ℕ) → (runOf limit p .number ≡ 0) ↔ ((t : State) × Valid limit p t)
 
 -- and then gives the relation's final racking, loops, parking and attachments, at place 0
 pub record Done (t : State) (a : Answer) : Type 0 where
@@ -73,23 +75,30 @@ pub record Done (t : State) (a : Answer) : Type 0 where
   pub state : a .state ≡ t
 
 abbrev pub GivesFinalState : Type 0
-GivesFinalState = (p : List ℕ) (t : State) → Valid p t → Done t (runOf p)
+GivesFinalState = (limit : ℕ) (p : List ℕ) (t : State) → Valid limit p t → Done t (runOf limit p)
 
--- a program that is too long gets 1, and only such a program; place 0, the empty state
+-- a limit out of range gets 15, and only such a limit
+abbrev pub BadLimitExactly : Type 0
+BadLimitExactly = (limit : ℕ) (p : List ℕ) → (runOf limit p .number ≡ 15) ↔ (LimitInRange limit → ⊥)
+
+-- at a limit in range a program that is too long gets 1, and only such a program; place 0, the empty state
 abbrev pub TooLongExactly : Type 0
-TooLongExactly = (p : List ℕ) → (runOf p .number ≡ 1) ↔ (programMost < length p)
+TooLongExactly = (limit : ℕ) (p : List ℕ) → LimitInRange limit → (runOf limit p .number ≡ 1) ↔ (programMost < length p)
 
 abbrev pub TooLongAnswer : Type 0
-TooLongAnswer = (p : List ℕ) → programMost < length p → runOf p ≡ record { number = 1; place = 0; complete = true; state = emptyState }
+TooLongAnswer =
+    (limit : ℕ) (p : List ℕ) → LimitInRange limit → programMost < length p
+    → runOf limit p ≡ record { number = 1; place = 0; complete = true; state = emptyState limit }
 
 -- otherwise it names the first record that has no step, and the first reason that holds
 abbrev pub RefusesFirst : Type 0
-RefusesFirst = (p : List ℕ) → length p ≤ programMost → (runOf p .number ≡ 0 → ⊥) → FirstRefusal p (runOf p)
+RefusesFirst = (limit : ℕ) (p : List ℕ) → LimitInRange limit → length p ≤ programMost → (runOf limit p .number ≡ 0 → ⊥) → FirstRefusal limit p (runOf limit p)
 
 -- nothing is left to choose: number, place and state of a first refusal are the run's
 abbrev pub RefusalIsOne : Type 0
 RefusalIsOne =
-    (p : List ℕ) (a : Answer) → length p ≤ programMost → FirstRefusal p a → (runOf p .number ≡ a .number) × (runOf p .place ≡ a .place) × (runOf p .state ≡ a .state)
+    (limit : ℕ) (p : List ℕ) (a : Answer) → LimitInRange limit → length p ≤ programMost → FirstRefusal limit p a
+    → (runOf limit p .number ≡ a .number) × (runOf limit p .place ≡ a .place) × (runOf limit p .state ≡ a .state)
 
 -- a reason holds exactly where there is no step
 abbrev pub ReasonExactlyNoStep : Type 0
@@ -97,11 +106,33 @@ ReasonExactlyNoStep = (s : State) (l : List ℕ) → ((n : ℕ) × Reason n s l)
 
 -- a place lies within the longest program, so that number and place go into one word
 abbrev pub PlaceIsSmall : Type 0
-PlaceIsSmall = (p : List ℕ) → runOf p .place < programMost
+PlaceIsSmall = (limit : ℕ) (p : List ℕ) → runOf limit p .place < programMost
 
 -- complete, whatever the number
 abbrev pub CompleteIsEmpty : Type 0
-CompleteIsEmpty = (p : List ℕ) → Complete (runOf p .complete) (runOf p .state)
+CompleteIsEmpty = (limit : ℕ) (p : List ℕ) → Complete (runOf limit p .complete) (runOf limit p .state)
+
+-- ---- the limit
+-- 02, W2: 'given when a run starts and kept by every step'
+abbrev pub StepKeepsLimit : Type 0
+StepKeepsLimit = (s t : State) (x : Record) → Step s x t → t .limit ≡ s .limit
+
+-- so every answer's state has the limit given, or 8 after 15
+abbrev pub RunKeepsLimit : Type 0
+RunKeepsLimit =
+    (limit : ℕ) (p : List ℕ) → (LimitInRange limit → runOf limit p .state .limit ≡ limit) × ((LimitInRange limit → ⊥) → runOf limit p .state .limit ≡ limitMost)
+
+-- a state at another limit
+abbrev pub atLimit : ℕ → State → State
+atLimit limit s = record { racking = s .racking; loops = s .loops; limit = limit; carriers = s .carriers }
+
+-- a program that is valid at a limit is valid at every greater one, with the same final state but for the limit
+abbrev pub ValidAtGreater : Type 0
+ValidAtGreater = (m n : ℕ) (p : List ℕ) (t : State) → Valid m p t → m ≤ n → n ≤ limitMost → Valid n p (atLimit n t)
+
+-- and at a smaller one it is valid or stops at a full hook: no other number comes of the limit
+abbrev pub AtAnotherLimit : Type 0
+AtAnotherLimit = (m n : ℕ) (p : List ℕ) (t : State) → Valid m p t → LimitInRange n → (runOf n p .number ≡ 0) ⊎ ((runOf n p .number ≡ 11) × (n < m))
 
 -- ---- the step of one record
 -- the bytes begin with a record that has a step
@@ -130,7 +161,7 @@ StepRefuses = (s : State) (l : List ℕ) → (stepOf s l .number ≡ 0 → ⊥) 
 
 -- every state that the run gives is in range, refused or done, and a step keeps a state in range: none of them gets 15
 abbrev pub RunInRange : Type 0
-RunInRange = (p : List ℕ) → StateInRange (runOf p .state)
+RunInRange = (limit : ℕ) (p : List ℕ) → StateInRange (runOf limit p .state)
 
 abbrev pub StepInRange : Type 0
 StepInRange = (s : State) (l : List ℕ) → StateInRange s → StateInRange (stepOf s l .state)
@@ -145,12 +176,14 @@ module _ (service : State → List ℕ → Stepped) where
     next : {s : State} {l : List ℕ} {at : ℕ} {r : Reached} → 0 < length l → service s l .number ≡ 0
         → Stepwise (service s l .state) (drop (service s l .length) l) (at + service s l .length) r → Stepwise s l at r
 
--- stepped from the empty state, a program that is not too long gives the run's answer, and no other
+-- stepped from the empty state at a limit, a program that is not too long gives the run's answer there, and no other
 abbrev pub StepsAreTheRun : (State → List ℕ → Stepped) → Type 0
-StepsAreTheRun service = (p : List ℕ) → length p ≤ programMost → (r : Reached) × Stepwise service emptyState p 0 r × (runOf p ≡ answerOf r)
+StepsAreTheRun service =
+    (limit : ℕ) (p : List ℕ) → LimitInRange limit → length p ≤ programMost → (r : Reached) × Stepwise service (emptyState limit) p 0 r × (runOf limit p ≡ answerOf r)
 
 abbrev pub StepsAreOne : (State → List ℕ → Stepped) → Type 0
-StepsAreOne service = (p : List ℕ) (r : Reached) → length p ≤ programMost → Stepwise service emptyState p 0 r → runOf p ≡ answerOf r
+StepsAreOne service =
+    (limit : ℕ) (p : List ℕ) (r : Reached) → LimitInRange limit → length p ≤ programMost → Stepwise service (emptyState limit) p 0 r → runOf limit p ≡ answerOf r
 
 -- which a service that refuses everything does not do
 abbrev pub RefuserIsNotTheRun : Type 0

@@ -8,7 +8,7 @@ use Rattle.machine.specs.declared.Needle.{Needle}
 use Rattle.machine.specs.declared.Racking.{Racking}
 use Rattle.machine.specs.Machine.{hookOf}
 use Rattle.machine.specs.Geometry.{columnOf, sameColumn}
-use Rattle.record.specs.Kinds.{loopsFormed, tucks}
+use Rattle.run.specs.Step.{firstAfter, firstAsked}
 
 -- v loops more, and the refusal
 unfoldable pub tuckNo : ℕ → ℕ → ℕ → ℕ
@@ -19,10 +19,11 @@ tucked limit l n v = cond (eqb (tuckNo limit (getD l (hookOf n) 0) v) 0) (set l 
 
 -- the loops that a tuck or a knit forms, plain or plated, and the refusal
 unfoldable pub formNo : ℕ → ℕ → ℕ → ℕ
-formNo limit kind here = cond (tucks kind) (tuckNo limit here (loopsFormed kind)) 0
+formNo limit kind here = cond (leb (firstAsked kind here) limit) 0 11
 
 unfoldable pub formedLoops : ℕ → ℕ → List ℕ → Needle → List ℕ
-formedLoops limit kind l n = cond (tucks kind) (tucked limit l n (loopsFormed kind)) (set l (hookOf n) (loopsFormed kind))
+formedLoops limit kind l n =
+    cond (eqb (formNo limit kind (getD l (hookOf n) 0)) 0) (set l (hookOf n) (firstAfter kind (getD l (hookOf n) 0))) l
 
 -- the loops at a go to b, a then holds v, and its refusal
 unfoldable pub transferNo : ℕ → List ℕ → Needle → Needle → Racking → ℕ

@@ -6,10 +6,10 @@ use mathlib.Core.List.{List, [], _∷_, _++_}
 use lib.Dec.{eqb}
 use lib.ListN.{length}
 use Rattle.machine.specs.declared.State.{State}
-use Rattle.machine.specs.Limits.{floatMost, hookLimit}
+use Rattle.machine.specs.Limits.{floatMost}
 use Rattle.machine.specs.Machine.{loopsOn, carrierOf, Each}
 use Rattle.record.specs.declared.Record.{Record}
-use Rattle.record.specs.Kinds.{IN, OUT, TUCK, PLATED-TUCK, sizeOf, hooksWorked, carriersNamed, loopsFormed}
+use Rattle.record.specs.Kinds.{IN, OUT, TUCK, PLATED-TUCK, PLATED-KNIT, sizeOf, hooksWorked, carriersNamed, loopsFormed}
 use Rattle.record.specs.Format.{Encodes, byte, fieldsOk}
 use Rattle.run.specs.Relation.{Active, Inactive, Attached, Opposite, entrySlot, exitSlot, floatOf}
 
@@ -78,11 +78,13 @@ module _ (s : State) (x : Record) where
     pub two : hooksWorked (x .kind) ≡ 2
     pub differ : Opposite s x → ⊥
 
-  -- 11, hook full: over 8 loops on a hook, the worked one of a tuck, plain or plated, the second of an xfer or split
+  -- 11, hook full: over the limit's loops on a hook, the worked one of a tuck, plain or plated, the second of an xfer or split; 02, W2: 'so a plated knit
+  -- at limit 1 gets 11'
   pub data HookFull : Type 0 where
-    tuck : x .kind ≡ TUCK → hookLimit s < loopsOn s (x .at) + 1 → HookFull
-    plated-tuck : x .kind ≡ PLATED-TUCK → hookLimit s < loopsOn s (x .at) + 2 → HookFull
-    second : hooksWorked (x .kind) ≡ 2 → hookLimit s < loopsOn s (x .at) + loopsOn s (x .to) → HookFull
+    tuck : x .kind ≡ TUCK → s .limit < loopsOn s (x .at) + 1 → HookFull
+    plated-tuck : x .kind ≡ PLATED-TUCK → s .limit < loopsOn s (x .at) + 2 → HookFull
+    plated-knit : x .kind ≡ PLATED-KNIT → s .limit < 2 → HookFull
+    second : hooksWorked (x .kind) ≡ 2 → s .limit < loopsOn s (x .at) + loopsOn s (x .to) → HookFull
 
 -- a reason by its number: of a record
 pub data RecordReason (n : ℕ) (s : State) (x : Record) : Type 0 where

@@ -1,4 +1,4 @@
--- The validity relation, in the shape of 000 (Definition 5.4, Figure 11): one rule for each kind of record, with the premises of document 01, 'Steps', and of 02, W1.
+-- The validity relation, in the shape of 000 (Definition 5.4, Figure 11): one rule for each kind of record, with the premises of document 01, 'Steps', and of 02, W1 and W2.
 use Prim.Native.Nat.{ℕ, _+_, _-_, _≤_}
 use mathlib.Core.Path.{_≡_}
 use mathlib.Core.Bool.{Bool, cond}
@@ -10,9 +10,10 @@ use Rattle.machine.specs.declared.Racking.{Racking}
 use Rattle.machine.specs.declared.Slot.{Slot}
 use Rattle.machine.specs.declared.Carrier.{Carrier}
 use Rattle.machine.specs.declared.State.{State}
-use Rattle.machine.specs.Limits.{floatMost, hookLimit, programMost}
+use Rattle.machine.specs.Limits.{floatMost, programMost}
 use Rattle.machine.specs.Machine.{inactive, emptyState, changed, hookOf, loopsOn, carrierOf, movedTo}
 use Rattle.machine.specs.Geometry.{columnOf, entryOf, exitOf}
+use Rattle.machine.specs.Range.{LimitInRange}
 use Rattle.record.specs.declared.Record.{Record}
 use Rattle.record.specs.Kinds.{RACK, DROP, XFER, IN, OUT, MISS, TUCK, KNIT, SPLIT, PLATED-TUCK, PLATED-KNIT}
 use Rattle.record.specs.Format.{Encodes}
@@ -75,9 +76,9 @@ FloatInReach s x k = Attached (carrierOf s k) → floatOf s x k ≤ floatMost
 abbrev pub Opposite : State → Record → Type 0
 Opposite s x = columnOf (x .at) (s .racking) ≡ columnOf (x .to) (s .racking)
 
--- a hook holds 0 to 8 loops
+-- a hook holds no more loops than the limit; one always fits, so that a knit and a split's own loop ask for no room
 abbrev pub Room : State → ℕ → Type 0
-Room s n = n ≤ hookLimit s
+Room s n = n ≤ s .limit
 
 -- a plated stitch has two yarns
 abbrev pub TwoYarns : Record → Type 0
@@ -110,7 +111,7 @@ pub data Step (s : State) (x : Record) : State → Type 0 where
       → FloatInReach s x (x .carrier) → FloatInReach s x (x .second) → Room s (loopsOn s (x .at) + 2)
       → Step s x (bothAttached s x (withLoops s (x .at) (loopsOn s (x .at) + 2)))
   plated-knit : x .kind ≡ PLATED-KNIT → TwoYarns x → ParkedAt (carrierOf s (x .carrier)) (entrySlot s x) → ParkedAt (carrierOf s (x .second)) (entrySlot s x)
-      → FloatInReach s x (x .carrier) → FloatInReach s x (x .second)
+      → FloatInReach s x (x .carrier) → FloatInReach s x (x .second) → Room s 2
       → Step s x (bothAttached s x (withLoops s (x .at) 2))
 
 -- the records of a list of bytes, each with its step in turn (000: V-seq)
@@ -118,8 +119,9 @@ pub data Steps : State → List ℕ → State → Type 0 where
   none : {s : State} → Steps s [] s
   next : {s t u : State} {bytes rest : List ℕ} {x : Record} → Encodes bytes x → Step s x t → Steps t rest u → Steps s (bytes ++ rest) u
 
--- a valid program and its final state
-pub record Valid (p : List ℕ) (t : State) : Type 0 where
+-- a program that is valid at a hook limit, and its final state (02, W2: 'Valid now means at a limit')
+pub record Valid (limit : ℕ) (p : List ℕ) (t : State) : Type 0 where
+  pub limit-in : LimitInRange limit
   -- 01: a program is at most 32,768 bytes
   pub short : length p ≤ programMost
-  pub steps : Steps emptyState p t
+  pub steps : Steps (emptyState limit) p t

@@ -5,8 +5,9 @@ use mathlib.Core.List.{List, [], _∷_}
 use lib.ListN.{length}
 use lib.Dec.{eqb, leb}
 use Rattle.machine.specs.declared.State.{State}
-use Rattle.machine.specs.Limits.{programMost}
+use Rattle.machine.specs.Limits.{limitMost, programMost}
 use Rattle.machine.specs.Machine.{emptyState, completeOf}
+use Rattle.machine.specs.Range.{limitOk}
 use Rattle.record.specs.Format.{decodeOf}
 use Rattle.run.specs.declared.Reached.{Reached}
 use Rattle.run.specs.declared.Answer.{Answer}
@@ -40,13 +41,22 @@ runFrom (suc k) (b ∷ l) at s = runFrom k l at s
 runFrom zero (b ∷ l) at s =
     turn (stepOf s (b ∷ l)) (runFrom (stepOf s (b ∷ l) .length - 1) l (at + stepOf s (b ∷ l) .length) (stepOf s (b ∷ l) .state)) at
 
--- an answer says besides whether its state is the empty one
+-- an answer says besides whether its state is the empty one at its limit
 unfoldable pub answerOf : Reached → Answer
 answerOf r = record { number = r .number; place = r .place; complete = completeOf (r .state); state = r .state }
 
--- 1 (too long) comes first
-abbrev pub reachedOf : List ℕ → Reached
-reachedOf p = cond (leb (length p) programMost) (runFrom 0 p 0 emptyState) (reached 1 0 emptyState)
+-- 15, 'before everything else', then 1 (too long), or 0: by the limit given and the program's length
+unfoldable pub startNo : ℕ → ℕ → ℕ
+startNo limit long = cond (limitOk limit) (cond (leb long programMost) 0 1) 15
 
-unfoldable pub runOf : List ℕ → Answer
-runOf p = answerOf (reachedOf p)
+-- the limit of the state in which a call starts, or is refused: the one given, and for a bad one 'the empty state of limit 8'
+unfoldable pub answerLimit : ℕ → ℕ
+answerLimit limit = cond (limitOk limit) limit limitMost
+
+abbrev pub reachedOf : ℕ → List ℕ → Reached
+reachedOf limit p =
+    cond (eqb (startNo limit (length p)) 0) (runFrom 0 p 0 (emptyState (answerLimit limit)))
+    (reached (startNo limit (length p)) 0 (emptyState (answerLimit limit)))
+
+unfoldable pub runOf : ℕ → List ℕ → Answer
+runOf limit p = answerOf (reachedOf limit p)

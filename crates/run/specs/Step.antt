@@ -1,7 +1,7 @@
 -- The step as a definition that computes, which the contracts cite: what a record sees of the state, what it decides, what is stored.
 -- One shape for every kind; Claims.antt ties it to the relation.
 use Prim.Native.Nat.{ℕ, _+_, _-_}
-use mathlib.Core.Bool.{Bool, true, false, not, _&&_, cond}
+use mathlib.Core.Bool.{Bool, true, false, not, _&&_, _||_, cond}
 use mathlib.Core.List.{List, [], _∷_, map}
 use lib.IntN.{pos}
 use lib.ListN.{getD, set}
@@ -12,7 +12,6 @@ use Rattle.machine.specs.declared.Racking.{Racking}
 use Rattle.machine.specs.declared.Slot.{Slot}
 use Rattle.machine.specs.declared.Carrier.{Carrier}
 use Rattle.machine.specs.declared.State.{State}
-use Rattle.machine.specs.Limits.{hookLimit}
 use Rattle.machine.specs.Machine.{inactive, changed, hookOf, loopsOn, carrierOf, movedTo}
 use Rattle.machine.specs.Geometry.{eqZ, columnOf, entryOf, exitOf, sameColumn, withinFloat}
 use Rattle.record.specs.declared.Record.{Record}
@@ -41,7 +40,7 @@ lookOf r c = record { active = not (eqb (c .active) 0); slot = c .slot; attached
 
 unfoldable pub seeOf : State → Record → Seen
 seeOf s x =
-    record { racking = s .racking; limit = hookLimit s; here = loopsOn s (x .at); there = loopsOn s (x .to); look = lookOf (s .racking) (carrierOf s (x .carrier)); other = lookOf (s .racking) (carrierOf s (x .second)) }
+    record { racking = s .racking; limit = s .limit; here = loopsOn s (x .at); there = loopsOn s (x .to); look = lookOf (s .racking) (carrierOf s (x .carrier)); other = lookOf (s .racking) (carrierOf s (x .second)) }
 
 -- ---- decide: the number is the first that holds, 0 for none
 abbrev pub orNumber : ℕ → ℕ → ℕ
@@ -93,9 +92,13 @@ firstAfter kind here = cond (tucks kind) (here + loopsFormed kind) (loopsFormed 
 unfoldable pub secondAfter : ℕ → ℕ → ℕ → ℕ
 secondAfter kind here there = cond (moves kind) (here + there) 0
 
+-- the loops for which a record asks room on its first needle: one that a knit or a split leaves always fits
+unfoldable pub firstAsked : ℕ → ℕ → ℕ
+firstAsked kind here = cond (tucks kind || isPlated kind) (firstAfter kind here) 0
+
 -- 11: either is over the limit
 unfoldable pub roomNo : ℕ → ℕ → ℕ → ℕ → ℕ
-roomNo limit kind here there = cond (leb (firstAfter kind here) limit) (cond (leb (secondAfter kind here there) limit) 0 11) 11
+roomNo limit kind here there = cond (leb (firstAsked kind here) limit) (cond (leb (secondAfter kind here there) limit) 0 11) 11
 
 unfoldable pub decidedNo : Record → Seen → ℕ
 decidedNo x s =

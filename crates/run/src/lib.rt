@@ -1,23 +1,23 @@
-// The step of a record and the run of a program, with the refusals 1, 3 to 11 and 16.
+// The step of a record and the run of a program, with the refusals 1, 3 to 11, 15 of a limit, and 16.
 ghost use mathlib.Core.Path.{_≡_};
 ghost use Prim.Native.Nat.{_≤_, _<_};
 ghost use lib.ListN.{getD, set};
 ghost use lib.Dec.{eqb};
 ghost use mathlib.Core.Bool.{not, cond};
-ghost use Rattle.machine.specs.Limits.{hookMost};
 ghost use Rattle.machine.specs.Machine.{OnBed, hookOf, inactive, emptyState};
 ghost use Rattle.machine.specs.Geometry.{columnOf, entryOf, exitOf};
 ghost use Rattle.record.specs.Kinds.{IN, OUT, TUCK, SPLIT, PLATED-KNIT};
 ghost use Rattle.run.specs.Relation.{unattached, reparked, attached};
 ghost use Rattle.run.specs.Step.{lookOf, parkedNo, floatNo, orNumber, askedNo, bothNo};
 ghost use Rattle.run.specs.Loops.{tuckNo, tucked, formNo, formedLoops, transferNo, transferredLoops};
-ghost use Rattle.run.specs.Run.{reached, runFrom, reachedOf, answerOf, runOf, stay, stepOf};
+ghost use Rattle.run.specs.Run.{reached, runFrom, answerLimit, startNo, reachedOf, answerOf, runOf, stay, stepOf};
 use machine::Carrier;
 use machine::Needle;
 use machine::Racking;
 use machine::Slot;
 use machine::State;
 use machine::numbers::ALREADY_IN;
+use machine::numbers::BAD_STATE;
 use machine::numbers::CUT_SHORT;
 use machine::numbers::FLOAT_TOO_LONG;
 use machine::numbers::HOOK_FULL;
@@ -203,32 +203,36 @@ fn put(loops: &mut [u8; State::HOOKS], n: Needle, v: u8)
 }
 
 // Loops more on the needle's hook, v of them: 0, or 11 and no store.
-fn tuck(loops: &mut [u8; State::HOOKS], n: Needle, v: u8) -> u8
+fn tuck(loops: &mut [u8; State::HOOKS], n: Needle, v: u8, limit: u8) -> u8
     requires { ⌜ OnBed n ⌝ }
-    ensures { λ k. ⌜ (k ≡ tuckNo hookMost (getD (now (loops .entry)) (hookOf n) 0) v) × (now (loops .exit) ≡ tucked hookMost (now (loops .entry)) n v) ⌝ }
+    ensures { λ k. ⌜ (k ≡ tuckNo limit (getD (now (loops .entry)) (hookOf n) 0) v) × (now (loops .exit) ≡ tucked limit (now (loops .entry)) n v) ⌝ }
 {
     let i = n.hook();
     let here = loops[i];
-    if (State::LOOPS_MOST as u16) < wide(here) + wide(v) {
+    if wide(limit) < wide(here) + wide(v) {
         return HOOK_FULL;
     }
     loops[i] = here + v;
     0
 }
 
-// The loops that a tuck or a knit forms on the needle's hook, plain or plated: 0, or 11 and no store.
-fn form(kind: u8, loops: &mut [u8; State::HOOKS], n: Needle) -> u8
+// The loops that a tuck or a knit forms on the needle's hook, plain or plated: 0, or 11 and no store. (One loop always
+// fits.)
+fn form(kind: u8, loops: &mut [u8; State::HOOKS], n: Needle, limit: u8) -> u8
     requires { ⌜ (TUCK ≤ kind) × (kind ≤ PLATED-KNIT) × (kind ≡ SPLIT → ⊥) × (OnBed n) ⌝ }
-    ensures { λ k. ⌜ (k ≡ formNo hookMost kind (getD (now (loops .entry)) (hookOf n) 0)) × (now (loops .exit) ≡ formedLoops hookMost kind (now (loops .entry)) n) ⌝ }
+    ensures { λ k. ⌜ (k ≡ formNo limit kind (getD (now (loops .entry)) (hookOf n) 0)) × (now (loops .exit) ≡ formedLoops limit kind (now (loops .entry)) n) ⌝ }
 {
     match kind {
-        TUCK => tuck(loops, n, 1),
+        TUCK => tuck(loops, n, 1, limit),
         KNIT => {
             put(loops, n, 1);
             0
         }
-        PLATED_TUCK => tuck(loops, n, 2),
+        PLATED_TUCK => tuck(loops, n, 2, limit),
         PLATED_KNIT => {
+            if limit < 2 {
+                return HOOK_FULL;
+            }
             put(loops, n, 2);
             0
         }
@@ -237,9 +241,16 @@ fn form(kind: u8, loops: &mut [u8; State::HOOKS], n: Needle) -> u8
 }
 
 // The loops at a go to b, and a then holds v: 0, or 10 or 11 and no store.
-fn transfer(loops: &mut [u8; State::HOOKS], a: Needle, b: Needle, r: Racking, v: u8) -> u8
+fn transfer(
+    loops: &mut [u8; State::HOOKS],
+    a: Needle,
+    b: Needle,
+    r: Racking,
+    v: u8,
+    limit: u8,
+) -> u8
     requires { ⌜ (OnBed a) × (OnBed b) ⌝ }
-    ensures { λ k. ⌜ (k ≡ transferNo hookMost (now (loops .entry)) a b r) × (now (loops .exit) ≡ transferredLoops hookMost (now (loops .entry)) a b r v) ⌝ }
+    ensures { λ k. ⌜ (k ≡ transferNo limit (now (loops .entry)) a b r) × (now (loops .exit) ≡ transferredLoops limit (now (loops .entry)) a b r v) ⌝ }
 {
     let z = a.column(r);
     if !z.equals(b.column(r)) {
@@ -249,7 +260,7 @@ fn transfer(loops: &mut [u8; State::HOOKS], a: Needle, b: Needle, r: Racking, v:
     let j = b.hook();
     let here = loops[i];
     let there = loops[j];
-    if (State::LOOPS_MOST as u16) < wide(here) + wide(there) {
+    if wide(limit) < wide(here) + wide(there) {
         return HOOK_FULL;
     }
     loops[i] = v;
@@ -275,10 +286,12 @@ fn stop(number: u8, place: usize, state: State) -> Reached
     }
 }
 
-// The run from a state over bytes of any length. Stores are made in its own state, by the kind.
+// The run from a state over bytes of any length. Stores are made in its own state, by the kind. (The limit, which no record
+// changes, is read once.)
 fn run_from(state: State, program: &[u8]) -> Reached
     ensures { λ a. ⌜ a ≡ runFrom 0 (now (program .entry)) 0 state ⌝ }
 {
+    let limit = state.limit;
     let mut st = state;
     let mut at: usize = 0;
     while at < program.len() {
@@ -299,7 +312,7 @@ fn run_from(state: State, program: &[u8]) -> Reached
             DROP => put(&mut st.loops, n, 0),
             XFER => {
                 let m = x.to;
-                let number = transfer(&mut st.loops, n, m, r, 0);
+                let number = transfer(&mut st.loops, n, m, r, 0, limit);
                 if number != 0 {
                     return stop(number, at, st);
                 }
@@ -337,7 +350,7 @@ fn run_from(state: State, program: &[u8]) -> Reached
                 if number != 0 {
                     return stop(number, at, st);
                 }
-                let number = form(kind, &mut st.loops, n);
+                let number = form(kind, &mut st.loops, n, limit);
                 if number != 0 {
                     return stop(number, at, st);
                 }
@@ -352,7 +365,7 @@ fn run_from(state: State, program: &[u8]) -> Reached
                 if number != 0 {
                     return stop(number, at, st);
                 }
-                let number = transfer(&mut st.loops, n, m, r, 1);
+                let number = transfer(&mut st.loops, n, m, r, 1, limit);
                 if number != 0 {
                     return stop(number, at, st);
                 }
@@ -376,7 +389,7 @@ fn run_from(state: State, program: &[u8]) -> Reached
                 if number != 0 {
                     return stop(number, at, st);
                 }
-                let number = form(kind, &mut st.loops, n);
+                let number = form(kind, &mut st.loops, n, limit);
                 if number != 0 {
                     return stop(number, at, st);
                 }
@@ -406,30 +419,56 @@ fn answered(r: Reached) -> Answer
     }
 }
 
-// The answer to a call that is refused before its program is looked at.
-pub fn refused(number: u8) -> Answer
-    ensures { λ a. ⌜ a ≡ answerOf (reached number 0 emptyState) ⌝ }
+// The answer to a call that is refused before its program is looked at: the empty state at the call's limit, or at 8 where
+// no hook has that limit.
+pub fn refused(number: u8, limit: u8) -> Answer
+    ensures { λ a. ⌜ a ≡ answerOf (reached number 0 (emptyState (answerLimit limit))) ⌝ }
 {
-    let state = State::empty();
+    let state = State::empty(answer_limit(limit));
     answered(stop(number, 0, state))
 }
 
-// Where the run of a program from the empty state stops.
-fn from_empty(program: &[u8]) -> Reached
-    ensures { λ a. ⌜ a ≡ reachedOf (now (program .entry)) ⌝ }
+// The limit, or 8 where no hook has it.
+fn answer_limit(limit: u8) -> u8
+    ensures { λ n. ⌜ n ≡ answerLimit limit ⌝ }
 {
-    let state = State::empty();
-    if State::PROGRAM_MOST < program.len() {
-        return stop(TOO_LONG, 0, state);
+    if State::has_limit(limit) {
+        limit
+    } else {
+        State::LIMIT_MOST
+    }
+}
+
+// Whether a run can start: 0, or 15 or 1.
+pub fn start(limit: u8, length: usize) -> u8
+    ensures { λ n. ⌜ n ≡ startNo limit length ⌝ }
+{
+    if !State::has_limit(limit) {
+        return BAD_STATE;
+    }
+    if State::PROGRAM_MOST < length {
+        return TOO_LONG;
+    }
+    0
+}
+
+// Where the run of a program from the empty state stops.
+fn from_empty(limit: u8, program: &[u8]) -> Reached
+    ensures { λ a. ⌜ a ≡ reachedOf limit (now (program .entry)) ⌝ }
+{
+    let state = State::empty(answer_limit(limit));
+    let number = start(limit, program.len());
+    if number != 0 {
+        return stop(number, 0, state);
     }
     run_from(state, program)
 }
 
-// The run of a program.
-pub fn run(program: &[u8]) -> Answer
-    ensures { λ a. ⌜ a ≡ runOf (now (program .entry)) ⌝ }
+// The run of a program at a hook limit.
+pub fn run(limit: u8, program: &[u8]) -> Answer
+    ensures { λ a. ⌜ a ≡ runOf limit (now (program .entry)) ⌝ }
 {
-    answered(from_empty(program))
+    answered(from_empty(limit, program))
 }
 
 // A number and a place.
@@ -440,10 +479,10 @@ pub fn end_at(number: u8, place: usize) -> Ended
 }
 
 // Number and place of a run: its state is not looked at.
-pub fn outcome(program: &[u8]) -> Ended
-    ensures { λ e. ⌜ (e .number ≡ runOf (now (program .entry)) .number) × (e .place ≡ runOf (now (program .entry)) .place) ⌝ }
+pub fn outcome(limit: u8, program: &[u8]) -> Ended
+    ensures { λ e. ⌜ (e .number ≡ runOf limit (now (program .entry)) .number) × (e .place ≡ runOf limit (now (program .entry)) .place) ⌝ }
 {
-    let a = from_empty(program);
+    let a = from_empty(limit, program);
     end_at(a.number, a.place)
 }
 

@@ -1,19 +1,10 @@
--- The rewriter's number and place, and what it leaves in the lent areas. Assumes nothing.
+-- The rewriter at limit 8. Assumes nothing.
 use borrow.Author.Needs.{needs}
-use native.Mathlib.Omega.{arith}
-use mathlib.Core.Path.{ap, _∙_}
-use Rattle.run.specs.declared.Answer.{Answer}
-use Rattle.rewrite.proofs.Demand.{place-bound}
-use Rattle.banthewig.specs.Entries.{packed}
 use Rattle.banthewig.proofs.knitout_rewrite.Statement.{statement}
 use Rattle.banthewig.proofs.knitout_rewrite.Tie as tie
 
-rewrite-requires : tie.Need-rewrite-requires
-rewrite-requires c κs = search needs
-
-word-requires : tie.Need-word-requires
-word-requires c κs = let k = c .before .before .before .before .before .before .before .before .before .before .before .args in
-    omega (arith, ap (λ (a : Answer). a .place) (c .before .before .before .before .rewrite .ensures .0), place-bound (k .program .now) (k .log .now) (k .output .now) (k .work .now))
+knitout-rewrite-at-requires : tie.Need-knitout-rewrite-at-requires
+knitout-rewrite-at-requires c κs = search needs
 
 same-length : tie.Need-same-length
 same-length c = search needs
@@ -22,8 +13,7 @@ same-length-2 : tie.Need-same-length-2
 same-length-2 c = search needs
 
 returns : tie.Need-returns
-unfolding packed
-returns c = let r = c .before .before .before .before .before .rewrite .ensures in (c .word .ensures ∙ ap packed (r .0), r .1)
+returns c = c .before .before .before .before .knitout-rewrite-at .ensures
 
 pub knitout-rewrite-spec : {M : Type 1} → statement M
-knitout-rewrite-spec = tie.close (tie.spec rewrite-requires word-requires same-length same-length-2 returns)
+knitout-rewrite-spec = tie.close (tie.spec knitout-rewrite-at-requires same-length same-length-2 returns)

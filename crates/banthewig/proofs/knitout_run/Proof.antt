@@ -1,21 +1,13 @@
--- The run's number and place, which lies in a program. Assumes nothing.
+-- The run at limit 8. Assumes nothing.
 use borrow.Author.Needs.{needs}
-use native.Mathlib.Omega.{arith}
-use mathlib.Core.Path.{_∙_}
-use Rattle.run.proofs.Demand.{place-bound}
-use Rattle.banthewig.specs.Entries.{packed}
 use Rattle.banthewig.proofs.knitout_run.Statement.{statement}
 use Rattle.banthewig.proofs.knitout_run.Tie as tie
 
-outcome-requires : tie.Need-outcome-requires
-outcome-requires c κs = search needs
-
-word-requires : tie.Need-word-requires
-word-requires c κs = omega (arith, c .outcome .ensures .1, place-bound (c .before .before .args .program .now))
+knitout-run-at-requires : tie.Need-knitout-run-at-requires
+knitout-run-at-requires c κs = search needs
 
 returns : tie.Need-returns
-unfolding packed
-returns c = c .word .ensures ∙ simp (c .before .outcome .ensures .0, c .before .outcome .ensures .1)
+returns c = c .knitout-run-at .ensures
 
 pub knitout-run-spec : {M : Type 1} → statement M
-knitout-run-spec = tie.close (tie.spec outcome-requires word-requires returns)
+knitout-run-spec = tie.close (tie.spec knitout-run-at-requires returns)

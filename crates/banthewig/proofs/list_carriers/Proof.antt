@@ -211,7 +211,7 @@ module _ {M : Type 1} (𝓤 : URA M) (H : Heap 𝓤) (A : Atoms 𝓤) (W : Given
       module _ (known : Triple 𝓤 (C #panel·carrier-at) (CarrierAt 𝓤 H A at-mem run)) (good : Holds (eqb (r .number) 0)) where
         -- a state has ten carriers
         ten : length (h .carriers) ≡ 10
-        ten = sym (length-map (h .carriers) (E.the-type .to)) ∙ LL.owed T.the-type T′.the-laws h _ was .1 .1 .0 .1 .0 .1
+        ten = sym (length-map (h .carriers) (E.the-type .to)) ∙ LL.owed T.the-type T′.the-laws h _ was .1 .1 .1 .0 .1 .0 .1
 
         done-call : listAnswer h n .number ≡ 0
         done-call = sym (ap (λ (t : Served). t .number) e) ∙ eqb-true (r .number) 0 (holds (eqb (r .number) 0) good)

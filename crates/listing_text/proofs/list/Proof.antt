@@ -42,7 +42,7 @@ slice-reshare-prefix-listing : tie.Need-slice-reshare-prefix-listing
 slice-reshare-prefix-listing c = search needs
 
 slice-aggregate-listing : tie.Need-slice-aggregate-listing
-slice-aggregate-listing c = sym (length-take-le _ (c .before .before .before .before .before .before .rewrite .last .1 .1 .0) (within _ _ (c .before .shown .ensures)))
+slice-aggregate-listing c = sym (length-take-le _ (c .before .before .before .before .before .before .rewrite .last .1 .1 .1 .0) (within _ _ (c .before .shown .ensures)))
 
 listing-requires : tie.Need-listing-requires
 listing-requires c κs = search needs
@@ -59,7 +59,7 @@ same-length-3 c = search needs
 returns : tie.Need-returns
 unfolding listedOf
 returns c = let a = c .before .before .before .before .before .before .before .before .before .before .before .before .before .before .before .before .before .before .args in let r = c .before .before .before .before .before .before .before .before .before .before .rewrite .ensures in
-    (like (listed _ (rewriteOf (a .program .now) (a .log .now) (a .output .now) (a .work .now)) _ _ (r .0) (r .1 .0) (c .before .before .before .before .before .shown .ensures)) (c .before .before .listing .ensures), (r .1 .0, r .1 .1))
+    (like (listed _ (rewriteOf (a .limit) (a .program .now) (a .log .now) (a .output .now) (a .work .now)) _ _ (r .0) (r .1 .0) (c .before .before .before .before .before .shown .ensures)) (c .before .before .listing .ensures), (r .1 .0, r .1 .1))
 
 pub list-spec : {M : Type 1} → statement M
 list-spec =

@@ -1,4 +1,4 @@
--- Refused by its lengths or by its run, or laid and replayed. Assumes nothing.
+-- Refused by its limit, its lengths or its run, or laid and replayed. Assumes nothing.
 use Prim.Native.Nat.{ℕ, _≤_}
 use mathlib.Core.Path.{_≡_, refl, sym, ap, _∙_}
 use mathlib.Core.List.{List}
@@ -16,18 +16,18 @@ use Rattle.rewrite.proofs.rewrite.Statement.{statement}
 use Rattle.rewrite.proofs.rewrite.Tie as tie
 
 -- what is lent will do
-will-do : (c : tie.Else1) → lentNo (length (c .before .before .before .before .before .before .args .program .now)) (length (c .before .before .before .before .before .before .args .log .now)) (length (c .before .before .before .before .before .before .args .output .now)) (length (c .before .before .before .before .before .before .args .work .now)) ≡ 0
+will-do : (c : tie.Else1) → lentNo (c .before .before .before .before .before .before .args .limit) (length (c .before .before .before .before .before .before .args .program .now)) (length (c .before .before .before .before .before .before .args .log .now)) (length (c .before .before .before .before .before .before .args .output .now)) (length (c .before .before .before .before .before .before .args .work .now)) ≡ 0
 will-do c = sym (c .before .lent .ensures) ∙ c .if1 .left
 
 lends : (c : tie.Else1) → Enough (length (c .before .before .before .before .before .before .args .program .now)) (length (c .before .before .before .before .before .before .args .log .now)) (length (c .before .before .before .before .before .before .args .output .now)) (length (c .before .before .before .before .before .before .args .work .now))
-lends c = enough _ _ _ _ (will-do c)
+lends c = enough _ _ _ _ _ (will-do c)
 
 -- the run has accepted the program
-accepts : (c : tie.Else2) → runOf (c .before .before .before .before .before .before .before .before .before .args .program .now) .number ≡ 0
+accepts : (c : tie.Else2) → runOf (c .before .before .before .before .before .before .before .before .before .args .limit) (c .before .before .before .before .before .before .before .before .before .args .program .now) .number ≡ 0
 accepts c = sym (ap (λ (a : Answer). a .number) (c .before .before .run .ensures)) ∙ c .if2 .left
 
 sound : (c : tie.Else2) → Sound (c .before .before .before .before .before .before .before .before .before .args .program .now)
-sound c = sound-run _ (lends (c .before .before .before) .short) (accepts c)
+sound c = sound-run _ _ (lends (c .before .before .before) .short) (accepts c)
 
 -- the program is at the front of the output
 front : (c : tie.After-copy) → take (length (c .before .before .before .before .before .before .before .before .before .before .before .args .program .now)) (c .copy .last .1 .0) ≡ c .before .before .before .before .before .before .before .before .before .before .before .args .program .now
@@ -49,7 +49,7 @@ refused-requires c κs = search needs
 returns : tie.Need-returns
 unfolding Gives
 returns c = let k = c .before .before .before .before .before .before .before in
-    gives-lent (k .args .program .now) (k .args .log .now) (k .args .output .now) (k .args .work .now) (c .before .before .lent .result) (c .refused .result) (c .before .before .lent .ensures) (c .before .if1 .taken) (c .refused .ensures)
+    gives-lent (k .args .limit) (k .args .program .now) (k .args .log .now) (k .args .output .now) (k .args .work .now) (c .before .before .lent .result) (c .refused .result) (c .before .before .lent .ensures) (c .before .if1 .taken) (c .refused .ensures)
 
 run-requires : tie.Need-run-requires
 run-requires c κs = search needs
@@ -57,7 +57,7 @@ run-requires c κs = search needs
 returns-2 : tie.Need-returns-2
 unfolding Gives
 returns-2 c = let k = c .before .before .before .before .before .before .before .before .before in
-    gives-refused (k .args .program .now) (k .args .log .now) (k .args .output .now) (k .args .work .now) (will-do (c .before .before .before)) (c .before .before .run .result) (c .before .before .run .ensures) (c .if2 .taken)
+    gives-refused (k .args .limit) (k .args .program .now) (k .args .log .now) (k .args .output .now) (k .args .work .now) (will-do (c .before .before .before)) (c .before .before .run .result) (c .before .before .run .ensures) (c .if2 .taken)
 
 copy-requires : tie.Need-copy-requires
 copy-requires c κs = lends (c .before .before .before .before) .room
@@ -106,7 +106,7 @@ unfolding Gives
 returns-3 c = let k = c .before .before .before .before .before .before .before .before .before .before .before .before .before .before .before .before .before .before .before .before .before .before .before .before .before .before .before .before .before .before in let p = k .args .program .now in let out = k .args .output .now in let w = k .args .work .now in let log = k .args .log .now in
     let s = c .before .before .before .before .before .before .before .before .before .before .before .before .before .before .before .starts in let d = c .before .before .before .before .before .replay in let e = c .before .before .before .before .before .before .before .before .before .before .before .before .before .before .before .before .before .before .before .before .before .before .before .before in
     let same : replay log 0 (recordsOf (take (length p) (c .before .before .before .before .before .before .before .before .before .before .before .before .before .before .before .before .before .before .before .copy .last .1 .0))) ≡ replay log 0 (recordsOf p) = ap (λ (q : List ℕ). replay log 0 (recordsOf q)) (front (c .before .before .before .before .before .before .before .before .before .before .before .before .before .before .before .before .before .before .before)) in
-    gives-written p log out w (will-do e) (c .before .before .before .before .before .before .before .before .before .before .before .before .before .before .before .before .before .before .before .before .before .before .before .run .result) (c .before .before .before .before .before .before .before .before .before .before .before .before .before .before .before .before .before .before .before .before .before .before .before .run .ensures) (c .before .before .before .before .before .before .before .before .before .before .before .before .before .before .before .before .before .before .before .before .before .if2 .left)
+    gives-written (k .args .limit) p log out w (will-do e) (c .before .before .before .before .before .before .before .before .before .before .before .before .before .before .before .before .before .before .before .before .before .before .before .run .result) (c .before .before .before .before .before .before .before .before .before .before .before .before .before .before .before .before .before .before .before .before .before .before .before .run .ensures) (c .before .before .before .before .before .before .before .before .before .before .before .before .before .before .before .before .before .before .before .before .before .if2 .left)
     (d .result) _ _ _ _ (s .result) (s .ensures .0) (copy-past p out _ (lends e .room) (c .before .before .before .before .before .before .before .before .before .before .before .before .before .before .before .before .before .before .before .copy .ensures .1)) (starts-past p w _ (s .result) (s .ensures .0) (s .ensures .1))
     (d .ensures .0 .0 ∙ ap (λ (r : Replay). r .number) same, d .ensures .0 .1 ∙ ap (λ (r : Replay). r .place) same)
     (d .ensures .1 .0 ∙ ap (λ (r : Replay). flat (r .left)) same) (d .ensures .1 .1 ∙ ap (λ (r : Replay). startsOf 0 (r .left)) same)

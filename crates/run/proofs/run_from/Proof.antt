@@ -5,7 +5,7 @@ use mathlib.Core.List.{List}
 use native.Mathlib.Omega.{arith}
 use borrow.Author.Needs.{needs}
 use lib.ListN.{length, drop}
-use Rattle.machine.specs.Limits.{carrierCount, hookLimit}
+use Rattle.machine.specs.Limits.{carrierCount}
 use Rattle.machine.specs.declared.State.{State}
 use Rattle.record.specs.declared.Record.{Record}
 use Rattle.record.specs.declared.Decoded.{Decoded}
@@ -15,16 +15,16 @@ use Rattle.record.proofs.Ranges.{InRange}
 use Rattle.run.specs.Step.{numberAt}
 use Rattle.run.specs.Run.{reached, runFrom}
 use Rattle.run.proofs.Turns.{Turn, ended, turned, refused, in-range, sized, stopped, goes}
-use Rattle.run.proofs.Arms.{Made, transfer-kept, unmoved, rack-made, drop-made, xfer-stopped, xfer-made, in-out-stopped, in-out-made, miss-stopped, miss-made}
+use Rattle.run.proofs.Arms.{Made, made-limit, transfer-kept, unmoved, rack-made, drop-made, xfer-stopped, xfer-made, in-out-stopped, in-out-made, miss-stopped, miss-made}
 use Rattle.run.proofs.Arms.{form-kept, loop-unready, loop-stopped, loop-made, split-unready, split-stopped, split-made, plated-twice, plated-unready, plated-stopped, plated-made}
 use Rattle.run.proofs.run_from.Statement.{statement}
 use Rattle.run.proofs.run_from.Tie as tie
 
 abbrev Inv-loop : tie.InvT-loop
-Inv-loop program st₀ at₀ st at = (at ≤ length program) × (runFrom 0 program 0 st₀ ≡ runFrom 0 (drop at program) at st)
+Inv-loop program limit st₀ at₀ st at = (at ≤ length program) × (runFrom 0 program 0 st₀ ≡ runFrom 0 (drop at program) at st) × (limit ≡ st .limit)
 
 abbrev μ-loop : tie.MeasureT-loop
-μ-loop program st₀ at₀ st at = length program - at
+μ-loop program limit st₀ at₀ st at = length program - at
 
 -- what is known once a record is decoded: the program, the place, the state, the record
 module _ (b : tie.Else1 Inv-loop μ-loop) where
@@ -55,12 +55,16 @@ module _ (b : tie.Else1 Inv-loop μ-loop) where
   size : (0 < d .size) × (d .size ≤ length p - place)
   size = sized here (b .if1 .left)
 
+  -- the limit is the one that the run started with
+  limit-kept : s₀ .limit ≡ s .limit
+  limit-kept = b .before .before .before .before .before .loop .inv .2
+
   -- a record that is refused, and one that has its step
   halt : {n : ℕ} → n ≡ numberAt s x → (n ≡ 0 → ⊥) → reached n place s ≡ runFrom 0 p 0 s₀
   halt e h = stopped here (b .if1 .left) _ e h
 
-  on : {u : State} → Made s x u → (place + d .size ≤ length p) × (runFrom 0 p 0 s₀ ≡ runFrom 0 (drop (place + d .size) p) (place + d .size) u)
-  on m = (omega (arith, size .1, b .before .before .before .before .loop-test .taken), goes here (b .if1 .left) _ (m .0) (m .1))
+  on : {u : State} → Made s x u → (place + d .size ≤ length p) × (runFrom 0 p 0 s₀ ≡ runFrom 0 (drop (place + d .size) p) (place + d .size) u) × (s₀ .limit ≡ u .limit)
+  on m = (omega (arith, size .1, b .before .before .before .before .loop-test .taken), goes here (b .if1 .left) _ (m .0) (m .1), limit-kept ∙ made-limit s x (m .1))
 
   -- what is left gets shorter
   less : length p - (place + d .size) < length p - place
@@ -127,7 +131,7 @@ module _ (t : tie.Then14 Inv-loop μ-loop) where
 
 -- below, m or t is where an arm begins and b where its record has been decoded
 loop-holds : tie.Need-loop-holds Inv-loop μ-loop
-loop-holds c = (search needs, refl)
+loop-holds c = (search needs, refl, refl)
 
 sub-decode : tie.Need-sub-decode Inv-loop μ-loop
 sub-decode c = search needs
@@ -160,8 +164,8 @@ stop-requires-2 : tie.Need-stop-requires-2 Inv-loop μ-loop
 stop-requires-2 c κs = search needs
 
 returns-2 : tie.Need-returns-2 Inv-loop μ-loop
-returns-2 c = let m = c .before .before .before .before .before in let b = m .before .before .before .before .before in let e = m .match .keys3 in let told = c .before .before .transfer .ensures in
-    c .stop2 .ensures ∙ simp (told .1, transfer-kept (hookLimit (s b)) (s b .loops) (x b .at) (x b .to) (s b .racking) 0 _ (told .0) (c .before .if2 .taken)) (halt b (xfer-stopped (s b) (x b) e _ (told .0)) (c .before .if2 .taken))
+returns-2 c = let m = c .before .before .before .before .before in let b = m .before .before .before .before .before in let e = m .match .keys3 in let told = simp (limit-kept b) at (c .before .before .transfer .ensures) in
+    c .stop2 .ensures ∙ simp (told .1, transfer-kept (s b .limit) (s b .loops) (x b .at) (x b .to) (s b .racking) 0 _ (told .0) (c .before .if2 .taken)) (halt b (xfer-stopped (s b) (x b) e _ (told .0)) (c .before .if2 .taken))
 
 any-beside-requires : tie.Need-any-beside-requires Inv-loop μ-loop
 any-beside-requires c κs = search needs
@@ -229,8 +233,8 @@ stop-requires-5 : tie.Need-stop-requires-5 Inv-loop μ-loop
 stop-requires-5 c κs = search needs
 
 returns-5 : tie.Need-returns-5 Inv-loop μ-loop
-returns-5 c = let m = c .before .before .before .before .before .before .before .before .before in let b = m .before .before .before .before .before in let told = c .before .before .transfer2 .ensures in
-    c .stop5 .ensures ∙ simp (told .1, transfer-kept (hookLimit (s b)) (s b .loops) (x b .at) (x b .to) (s b .racking) 1 _ (told .0) (c .before .if6 .taken)) (halt b (split-stopped (s b) (x b) (m .match .keys5) _ (c .before .before .before .before .before .asked2 .ensures) (c .before .before .before .before .if5 .left) _ (told .0)) (c .before .if6 .taken))
+returns-5 c = let m = c .before .before .before .before .before .before .before .before .before in let b = m .before .before .before .before .before in let told = simp (limit-kept b) at (c .before .before .transfer2 .ensures) in
+    c .stop5 .ensures ∙ simp (told .1, transfer-kept (s b .limit) (s b .loops) (x b .at) (x b .to) (s b .racking) 1 _ (told .0) (c .before .if6 .taken)) (halt b (split-stopped (s b) (x b) (m .match .keys5) _ (c .before .before .before .before .before .asked2 .ensures) (c .before .before .before .before .if5 .left) _ (told .0)) (c .before .if6 .taken))
 
 attach-requires : tie.Need-attach-requires Inv-loop μ-loop
 attach-requires c κs = known (c .before .before .before .before .before .before .before .before .before .before .before .before .before) .at-bed
@@ -313,7 +317,7 @@ stop-requires-8 : tie.Need-stop-requires-8 Inv-loop μ-loop
 stop-requires-8 c κs = search needs
 
 returns-8 : tie.Need-returns-8 Inv-loop μ-loop
-returns-8 c = let t = c .before .before .before .before .before .before .before .before in let b = loop t in let told = c .before .before .form .ensures in let ready = c .before .before .before .before .before .ready .ensures in let h = c .before .before .before .before .if12 .left in
+returns-8 c = let t = c .before .before .before .before .before .before .before .before in let b = loop t in let told = simp (limit-kept b) at (c .before .before .form .ensures) in let ready = c .before .before .before .before .before .ready .ensures in let h = c .before .before .before .before .if12 .left in
     c .stop8 .ensures ∙ simp (told .1, form-kept (s b) (x b) _ (told .0) (c .before .if13 .taken)) (halt b (loop-stopped (s b) (x b) (loop-low t) (loop-high t) _ ready h _ (told .0)) (c .before .if13 .taken))
 
 attach-requires-2 : tie.Need-attach-requires-2 Inv-loop μ-loop
@@ -381,7 +385,7 @@ stop-requires-11 : tie.Need-stop-requires-11 Inv-loop μ-loop
 stop-requires-11 c κs = search needs
 
 returns-11 : tie.Need-returns-11 Inv-loop μ-loop
-returns-11 c = let r = c .before .before .before .before .before in let t = arm r in let b = plate t in let told = c .before .before .form2 .ensures in let h = c .before .before .before .before .if16 .left in
+returns-11 c = let r = c .before .before .before .before .before in let t = arm r in let b = plate t in let told = simp (limit-kept b) at (c .before .before .form2 .ensures) in let h = c .before .before .before .before .if16 .left in
     c .stop11 .ensures ∙ simp (told .1, form-kept (s b) (x b) _ (told .0) (c .before .if17 .taken)) (halt b (plated-stopped (s b) (x b) (plate-low t) (plate-high t) (yarns r) _ (r .both-ready .ensures) h _ (told .0)) (c .before .if17 .taken))
 
 attach-requires-3 : tie.Need-attach-requires-3 Inv-loop μ-loop
@@ -417,14 +421,14 @@ loop-less-3 : tie.Need-loop-less-3 Inv-loop μ-loop
 loop-less-3 c = less (c .before .before .before .before .before .before .before .before .before .before .before .before .before)
 
 loop-again-3 : tie.Need-loop-again-3 Inv-loop μ-loop
-loop-again-3 c = let m = c .before .before .before .before .before .before .before .before in let b = m .before .before .before .before .before in let e = m .match .keys3 in let told = c .before .before .before .before .before .transfer .ensures in
+loop-again-3 c = let m = c .before .before .before .before .before .before .before .before in let b = m .before .before .before .before .before in let e = m .match .keys3 in let told = simp (limit-kept b) at (c .before .before .before .before .before .transfer .ensures) in
     on b (xfer-made (s b) (x b) e _ (told .0) (c .before .before .before .before .if2 .left) _ _ (told .1) (c .attachments-moved .ensures))
 
 loop-less-4 : tie.Need-loop-less-4 Inv-loop μ-loop
 loop-less-4 c = less (c .before .before .before .before .before .before .before .before .before .before .before .before)
 
 loop-again-4 : tie.Need-loop-again-4 Inv-loop μ-loop
-loop-again-4 c = let m = c .before .before .before .before .before .before .before in let b = m .before .before .before .before .before in let e = m .match .keys3 in let told = c .before .before .before .before .transfer .ensures in
+loop-again-4 c = let m = c .before .before .before .before .before .before .before in let b = m .before .before .before .before .before in let e = m .match .keys3 in let told = simp (limit-kept b) at (c .before .before .before .before .transfer .ensures) in
     on b (xfer-made (s b) (x b) e _ (told .0) (c .before .before .before .if2 .left) _ _ (told .1) (unmoved (x b .at) (x b .to) (s b .carriers) (sym (c .before .any-beside .ensures) ∙ c .if3 .left)))
 
 loop-less-5 : tie.Need-loop-less-5 Inv-loop μ-loop
@@ -438,14 +442,14 @@ loop-less-6 : tie.Need-loop-less-6 Inv-loop μ-loop
 loop-less-6 c = less (c .before .before .before .before .before .before .before .before .before .before .before .before .before .before .before .before .before .before)
 
 loop-again-6 : tie.Need-loop-again-6 Inv-loop μ-loop
-loop-again-6 c = let m = c .before .before .before .before .before .before .before .before .before .before .before .before .before in let b = m .before .before .before .before .before in let told = c .before .before .before .before .before .before .transfer2 .ensures in
+loop-again-6 c = let m = c .before .before .before .before .before .before .before .before .before .before .before .before .before in let b = m .before .before .before .before .before in let told = simp (limit-kept b) at (c .before .before .before .before .before .before .transfer2 .ensures) in
     on b (split-made (s b) (x b) (m .match .keys5) _ (c .before .before .before .before .before .before .before .before .before .asked2 .ensures) (c .before .before .before .before .before .before .before .before .if5 .left) _ (told .0) (c .before .before .before .before .before .if6 .left) _ (c .before .before .before .before .attach .ensures) _ _ (told .1) (c .attachments-moved2 .ensures))
 
 loop-less-7 : tie.Need-loop-less-7 Inv-loop μ-loop
 loop-less-7 c = less (c .before .before .before .before .before .before .before .before .before .before .before .before .before .before .before .before .before)
 
 loop-again-7 : tie.Need-loop-again-7 Inv-loop μ-loop
-loop-again-7 c = let m = c .before .before .before .before .before .before .before .before .before .before .before .before in let b = m .before .before .before .before .before in let told = c .before .before .before .before .before .transfer2 .ensures in
+loop-again-7 c = let m = c .before .before .before .before .before .before .before .before .before .before .before .before in let b = m .before .before .before .before .before in let told = simp (limit-kept b) at (c .before .before .before .before .before .transfer2 .ensures) in
     on b (split-made (s b) (x b) (m .match .keys5) _ (c .before .before .before .before .before .before .before .before .asked2 .ensures) (c .before .before .before .before .before .before .before .if5 .left) _ (told .0) (c .before .before .before .before .if6 .left) _ (c .before .before .before .attach .ensures) _ _ (told .1) (unmoved (x b .at) (x b .to) (s b .carriers) (sym (c .before .any-beside2 .ensures) ∙ c .if7 .left)))
 
 -- decode gives no kind below 1
@@ -466,14 +470,14 @@ loop-less-10 : tie.Need-loop-less-10 Inv-loop μ-loop
 loop-less-10 c = less (c .before .before .before .before .before .before .before .before .before .before .before .before .before .before .before .before)
 
 loop-again-10 : tie.Need-loop-again-10 Inv-loop μ-loop
-loop-again-10 c = let t = c .before .before .before .before .before .before .before .before in let b = loop t in let told = c .before .before .form .ensures in
+loop-again-10 c = let t = c .before .before .before .before .before .before .before .before in let b = loop t in let told = simp (limit-kept b) at (c .before .before .form .ensures) in
     on b (loop-made (s b) (x b) (loop-low t) (loop-high t) _ (c .before .before .before .before .before .ready .ensures) (c .before .before .before .before .if12 .left) _ (told .0) (c .before .if13 .left) _ (c .attach2 .ensures) _ (told .1))
 
 loop-less-11 : tie.Need-loop-less-11 Inv-loop μ-loop
 loop-less-11 c = less (plate (arm (c .before .before .before .before .before)))
 
 loop-again-11 : tie.Need-loop-again-11 Inv-loop μ-loop
-loop-again-11 c = let r = c .before .before .before .before .before in let t = arm r in let b = plate t in let told = c .before .before .form2 .ensures in
+loop-again-11 c = let r = c .before .before .before .before .before in let t = arm r in let b = plate t in let told = simp (limit-kept b) at (c .before .before .form2 .ensures) in
     on b (plated-made (s b) (x b) (plate-low t) (plate-high t) (yarns r) _ (r .both-ready .ensures) (c .before .before .before .before .if16 .left) _ (told .0) (c .before .if17 .left) _ (c .attach3 .ensures) _ (told .1))
 
 -- and none above plated knit

@@ -10,27 +10,26 @@ use lib.ListN.{getD, set}
 use Rattle.machine.specs.declared.Needle.{Needle}
 use Rattle.machine.specs.declared.Column.{Column}
 use Rattle.machine.specs.declared.Racking.{Racking}
-use Rattle.machine.specs.Limits.{hookMost}
 use Rattle.machine.specs.Machine.{hookOf}
 use Rattle.machine.specs.Geometry.{columnOf, sameColumn}
 use Rattle.run.specs.Loops.{transferNo, transferredLoops}
 use Rattle.run.proofs.transfer.Statement.{statement}
 use Rattle.run.proofs.transfer.Tie as tie
 
-module _ (l : List ℕ) (a b : Needle) (r : Racking) (v : ℕ) where
-  not-opposite : sameColumn (columnOf a r) (columnOf b r) ≡ false → (10 ≡ transferNo hookMost l a b r) × (l ≡ transferredLoops hookMost l a b r v)
+module _ (l : List ℕ) (a b : Needle) (r : Racking) (v limit : ℕ) where
+  not-opposite : sameColumn (columnOf a r) (columnOf b r) ≡ false → (10 ≡ transferNo limit l a b r) × (l ≡ transferredLoops limit l a b r v)
   unfolding transferNo transferredLoops
   not-opposite e = (simp e, simp e)
 
   module _ (e : sameColumn (columnOf a r) (columnOf b r) ≡ true) where
-    full : hookMost < getD l (hookOf a) 0 + getD l (hookOf b) 0 → (11 ≡ transferNo hookMost l a b r) × (l ≡ transferredLoops hookMost l a b r v)
+    full : limit < getD l (hookOf a) 0 + getD l (hookOf b) 0 → (11 ≡ transferNo limit l a b r) × (l ≡ transferredLoops limit l a b r v)
     unfolding transferNo transferredLoops
-    full h = let f = lt-leb (getD l (hookOf a) 0 + getD l (hookOf b) 0) hookMost h in (simp (e, f), simp (e, f))
+    full h = let f = lt-leb (getD l (hookOf a) 0 + getD l (hookOf b) 0) limit h in (simp (e, f), simp (e, f))
 
-    room : getD l (hookOf a) 0 + getD l (hookOf b) 0 ≤ hookMost
-        → (0 ≡ transferNo hookMost l a b r) × (set (set l (hookOf a) v) (hookOf b) (getD l (hookOf a) 0 + getD l (hookOf b) 0) ≡ transferredLoops hookMost l a b r v)
+    room : getD l (hookOf a) 0 + getD l (hookOf b) 0 ≤ limit
+        → (0 ≡ transferNo limit l a b r) × (set (set l (hookOf a) v) (hookOf b) (getD l (hookOf a) 0 + getD l (hookOf b) 0) ≡ transferredLoops limit l a b r v)
     unfolding transferNo transferredLoops
-    room h = let f = le-leb (getD l (hookOf a) 0 + getD l (hookOf b) 0) hookMost h in (simp (e, f), simp (e, f))
+    room h = let f = le-leb (getD l (hookOf a) 0 + getD l (hookOf b) 0) limit h in (simp (e, f), simp (e, f))
 
 -- whether the columns are the same, as the code found it
 same : (b : tie.After-equals) → let a = b .before .before .before .args in sameColumn (columnOf (a .a) (a .r)) (columnOf (a .b) (a .r)) ≡ b .equals .result
@@ -48,7 +47,7 @@ equals-requires c κs = search needs
 
 returns : tie.Need-returns
 returns c = let b = c .before in let a = b .before .before .before .args in
-    not-opposite (a .loops .now) (a .a) (a .b) (a .r) (a .v) (same b ∙ not-true (b .equals .result) (c .if1 .taken))
+    not-opposite (a .loops .now) (a .a) (a .b) (a .r) (a .v) (a .limit) (same b ∙ not-true (b .equals .result) (c .if1 .taken))
 
 hook-requires : tie.Need-hook-requires
 hook-requires c κs = search needs
@@ -62,40 +61,41 @@ element-copy-out-here c = search needs
 element-copy-out-there : tie.Need-element-copy-out-there
 element-copy-out-there c = search needs
 
-cast-if2 : tie.Need-cast-if2
-cast-if2 c = search needs
-
 wide-requires : tie.Need-wide-requires
 wide-requires c κs = search needs
 
 wide-requires-2 : tie.Need-wide-requires-2
 wide-requires-2 c κs = search needs
 
+wide-requires-3 : tie.Need-wide-requires-3
+wide-requires-3 c κs = search needs
+
 add-if2 : tie.Need-add-if2
-add-if2 c = omega (arith, c .before .wide .ensures .1, c .wide2 .ensures .1)
+add-if2 c = omega (arith, c .before .wide2 .ensures .1, c .wide3 .ensures .1)
 
 returns-2 : tie.Need-returns-2
-returns-2 c = let w = c .before .before .before .before .before .before in let b = w .before .before in let a = b .before .before .before .args in
-    full (a .loops .now) (a .a) (a .b) (a .r) (a .v) (same b ∙ not-false (b .equals .result) (w .before .if1 .left))
-    (simp (c .before .before .wide .ensures .0, c .before .wide2 .ensures .0, w .hook .ensures, c .before .before .before .before .before .hook2 .ensures) at (c .if2 .taken))
+returns-2 c = let d = c .before .before .before in let w = d .before .before .before .before in let b = w .before .before in let a = b .before .before .before .args in
+    full (a .loops .now) (a .a) (a .b) (a .r) (a .v) (a .limit) (same b ∙ not-false (b .equals .result) (w .before .if1 .left))
+    (simp (d .wide .ensures .0, c .before .before .wide2 .ensures .0, c .before .wide3 .ensures .0, w .hook .ensures, d .before .before .before .hook2 .ensures) at (c .if2 .taken))
 
 element-write-loops : tie.Need-element-write-loops
 element-write-loops c = search needs
 
 add-loops : tie.Need-add-loops
-add-loops c = omega (arith, c .before .before .wide .ensures .0, c .before .wide2 .ensures .0, c .if2 .left)
+add-loops c = let w = c .before .before .before .wide .ensures in
+    omega (arith, w .0, w .1, c .before .before .wide2 .ensures .0, c .before .wide3 .ensures .0, c .if2 .left)
 
 element-write-loops-2 : tie.Need-element-write-loops-2
 element-write-loops-2 c = search needs
 
 returns-3 : tie.Need-returns-3
-returns-3 c = let w = c .before .before .before .before .before .before in let b = w .before .before in let a = b .before .before .before .args in
-    simp (w .hook .ensures, c .before .before .before .before .before .hook2 .ensures)
-    (room (a .loops .now) (a .a) (a .b) (a .r) (a .v) (same b ∙ not-false (b .equals .result) (w .before .if1 .left))
-    (simp (c .before .before .wide .ensures .0, c .before .wide2 .ensures .0, w .hook .ensures, c .before .before .before .before .before .hook2 .ensures) at (c .if2 .left)))
+returns-3 c = let d = c .before .before .before in let w = d .before .before .before .before in let b = w .before .before in let a = b .before .before .before .args in
+    simp (w .hook .ensures, d .before .before .before .hook2 .ensures)
+    (room (a .loops .now) (a .a) (a .b) (a .r) (a .v) (a .limit) (same b ∙ not-false (b .equals .result) (w .before .if1 .left))
+    (simp (d .wide .ensures .0, c .before .before .wide2 .ensures .0, c .before .wide3 .ensures .0, w .hook .ensures, d .before .before .before .hook2 .ensures) at (c .if2 .left)))
 
 pub transfer-spec : {M : Type 1} → statement M
 transfer-spec =
     tie.close (tie.spec
-    column-requires column-requires-2 equals-requires returns hook-requires hook-requires-2 element-copy-out-here element-copy-out-there cast-if2
-    wide-requires wide-requires-2 add-if2 returns-2 element-write-loops add-loops element-write-loops-2 returns-3)
+    column-requires column-requires-2 equals-requires returns hook-requires hook-requires-2 element-copy-out-here element-copy-out-there
+    wide-requires wide-requires-2 wide-requires-3 add-if2 returns-2 element-write-loops add-loops element-write-loops-2 returns-3)
