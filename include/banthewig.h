@@ -1,5 +1,6 @@
-/* The C interface of Banthewig: the run of a knitout program on the machine model, the swaps of its records, and the
-   panel's services on one machine state. Nothing here needs an allocator, a file or a thread; no call keeps a pointer.
+/* The C interface of Banthewig: the run of a knitout program on the machine model, the swaps of its records, their house
+   order, and the panel's services on one machine state. Nothing here needs an allocator, a file or a thread; no call keeps
+   a pointer.
    A pointer whose length or count is 0 is not read and may be null; a state's is never null. States, lists and work areas
    lie at even addresses, bytes anywhere.
    During a call nothing else (thread, interrupt, DMA) writes to anything that is lent, what is only read included: program,
@@ -137,11 +138,28 @@ uint64_t knitout_rewrite_at(uint8_t limit, const uint8_t *program, size_t progra
 uint64_t knitout_rewrite(const uint8_t *program, size_t program_length, const uint8_t *log, size_t log_length,
                          uint8_t *output, size_t output_length, uint16_t *work, size_t work_count);
 
-/* The parts of an answer of a run or a rewriter. */
+/* Runs a program at a hook limit and writes its house order (between racks, always next the record whose bytes come first,
+   unsigned, byte by byte, a shorter prefix first, among those not tied to an earlier remaining one): number times 65,536
+   plus place. A limit out of 1 to 8 gets 15, before all else. The place is the refused record's start (3 to 11 and 16),
+   else 0; 12 to 14 do not occur.
+   Lengths are in bytes, work_count in entries; the output needs program_length bytes, work program_length / 2 entries.
+   Output and work overlap nothing else that is lent.
+   0 writes the ordered program to the front of the output, and the start of each of its records to the front of work; every
+   other number writes nothing. Output past the program's length and work past the last record's start keep their contents.
+   Two programs that are done get equal bytes exactly if swaps that the rewriter accepts lead from one to the other.
+   Stack 2,344 bytes; worst time 88 s, which grows with the square of the length (docs/PERFORMANCE.md). */
+uint64_t knitout_order_at(uint8_t limit, const uint8_t *program, size_t program_length, uint8_t *output,
+                          size_t output_length, uint16_t *work, size_t work_count);
+
+/* The same at limit 8. Stack 2,344 bytes; worst time 88 s. */
+uint64_t knitout_order(const uint8_t *program, size_t program_length, uint8_t *output, size_t output_length, uint16_t *work,
+                       size_t work_count);
+
+/* The parts of an answer of a run, a rewriter or an order. */
 #define KNITOUT_NUMBER(answer) ((unsigned)((answer) >> 16))
 #define KNITOUT_PLACE(answer) ((unsigned)((answer) & 0xFFFFu))
 
-/* Whether a rewriter wrote output and work: 0 and 12 to 14. Evaluates its argument up to four times. */
+/* Whether a rewriter or an order wrote output and work: 0 and 12 to 14. Evaluates its argument up to four times. */
 #define KNITOUT_WRITTEN(number)                                          \
     ((number) == KNITOUT_DONE || (number) == KNITOUT_NO_PAIR ||          \
      (number) == KNITOUT_TIED || (number) == KNITOUT_TORN_LOG)

@@ -1,4 +1,5 @@
 /* Plays the firmware: runs a program, swaps by a log, steps the result on a panel and lists it: host PROGRAM LOG [LIMIT].
+   And plays the mill's library: says whether two programs are one piece: host order PROGRAM PROGRAM [LIMIT].
    LIMIT is the loops that a hook of the machine can hold, a byte; 8 if it is not given. */
 #include "banthewig.h"
 
@@ -18,7 +19,7 @@ static uint8_t limit = KNITOUT_LIMIT_MOST;
 
 /* Room for the longest file and one byte more, by which the library sees that a longer one is too long. */
 static uint8_t program[KNITOUT_PROGRAM_MOST + 1], log_bytes[KNITOUT_LOG_MOST + 1];
-/* Lent to the rewriter: enough for every program. The second ones are for the call without a limit. */
+/* Lent to rewriter and order: enough for every program. The second ones are for the call without a limit. */
 static uint8_t output[KNITOUT_PROGRAM_MOST], output_again[KNITOUT_PROGRAM_MOST];
 static uint16_t work[KNITOUT_PROGRAM_MOST / 2], work_again[KNITOUT_PROGRAM_MOST / 2];
 enum { ENTRIES = sizeof work / sizeof *work };
@@ -26,6 +27,12 @@ enum { ENTRIES = sizeof work / sizeof *work };
 static struct knitout_state panel, before;
 /* Lent to the list: the ten carriers and one entry more, which no call may change; and what it held before. */
 static struct knitout_carrier list[KNITOUT_CARRIERS + 1], kept[KNITOUT_CARRIERS + 1];
+/* The house orders of two programs, and their answers. */
+static struct ordered {
+    uint64_t answer;
+    size_t length;
+    uint8_t bytes[KNITOUT_PROGRAM_MOST];
+} orders[2];
 /* Whether a promise of the library was seen not to hold. */
 static bool broken;
 
@@ -317,24 +324,35 @@ static void try_refusals(void)
     check(is_refused_list(&panel, KNITOUT_CARRIERS - 1, KNITOUT_NO_ROOM), "list of nine: 2, nothing written");
 }
 
+/* Paints what is lent to rewriter and order. */
+static void paint(void)
+{
+    memset(output, PAINT, sizeof output);
+    memset(work, PAINT, sizeof work);
+    memset(output_again, PAINT, sizeof output_again);
+    memset(work_again, PAINT, sizeof work_again);
+}
+
+/* Whether a second call did the same as the first. */
+static bool is_again(uint64_t answer, uint64_t answer_again)
+{
+    return answer_again == answer && memcmp(output_again, output, sizeof output) == 0 &&
+           memcmp(work_again, work, sizeof work) == 0;
+}
+
 /* Limit 8 is that of the calls without one. */
 static void try_without_limit(size_t length, size_t log_length, uint64_t run, uint64_t rewrite)
 {
-    memset(output_again, PAINT, sizeof output_again);
-    memset(work_again, PAINT, sizeof work_again);
     uint64_t run_again = knitout_run(program, length);
     uint64_t rewrite_again = knitout_rewrite(program, length, log_bytes, log_length, output_again, sizeof output_again,
                                              work_again, ENTRIES);
-    check(run_again == run && rewrite_again == rewrite && memcmp(output_again, output, sizeof output) == 0 &&
-              memcmp(work_again, work, sizeof work) == 0,
-          "the calls without a limit do the same");
+    check(run_again == run && is_again(rewrite, rewrite_again), "the calls without a limit do the same");
 }
 
 /* Runs, rewrites and walks the loaded program; gives the exit status. */
 static int serve(size_t length, size_t log_length)
 {
-    memset(output, PAINT, sizeof output);
-    memset(work, PAINT, sizeof work);
+    paint();
     uint64_t run = knitout_run_at(limit, program, length);
     uint64_t rewrite = knitout_rewrite_at(limit, program, length, log_bytes, log_length, output, sizeof output,
                                           work, ENTRIES);
@@ -362,6 +380,53 @@ static int serve(size_t length, size_t log_length)
     return KNITOUT_NUMBER(run) == KNITOUT_DONE && KNITOUT_NUMBER(rewrite) == KNITOUT_DONE ? KNITTABLE : REFUSED;
 }
 
+/* Orders the loaded program, and looks whether the call kept its promises. */
+static void order(const char *name, size_t length, struct ordered *to)
+{
+    paint();
+    to->answer = knitout_order_at(limit, program, length, output, sizeof output, work, ENTRIES);
+    to->length = length;
+    printf("%s, ", name);
+    show_answer("order", to->answer);
+    check(to->answer == knitout_run_at(limit, program, length), "it answers as the run does");
+    if (limit == KNITOUT_LIMIT_MOST)
+        check(is_again(to->answer, knitout_order(program, length, output_again, sizeof output_again, work_again, ENTRIES)),
+              "the call without a limit does the same");
+    if (to->answer != KNITOUT_DONE) {
+        check(is_painted(0, 0), "the refused order wrote nothing");
+        return;
+    }
+    memcpy(to->bytes, output, length);
+    memset(output_again, PAINT, sizeof output_again);
+    memset(work_again, PAINT, sizeof work_again);
+    check(is_again(KNITOUT_DONE, knitout_order_at(limit, to->bytes, length, output_again, sizeof output_again, work_again,
+                                                  ENTRIES)),
+          "ordered twice it is the same");
+}
+
+/* Orders two programs and compares; if the orders are equal, shows it by its steps. Gives the exit status. */
+static int compare(char **names)
+{
+    for (int i = 0; i < 2; i++) {
+        size_t length;
+
+        if (!load(names[i], program, sizeof program, &length))
+            return UNREADABLE;
+        order(names[i], length, &orders[i]);
+    }
+    if (orders[0].answer != KNITOUT_DONE || orders[1].answer != KNITOUT_DONE) {
+        puts("not compared");
+        return REFUSED;
+    }
+    if (orders[0].length != orders[1].length || memcmp(orders[0].bytes, orders[1].bytes, orders[0].length) != 0) {
+        puts("other bytes: no accepted swaps lead from one to the other");
+        return REFUSED;
+    }
+    puts("equal bytes: accepted swaps lead from one to the other, and one is enough to keep");
+    check(walk(output, orders[1].length) == KNITOUT_DONE, "the order runs to its end");
+    return KNITTABLE;
+}
+
 /* Takes the limit from a text; false if that is not a byte's value. */
 static bool take_limit(const char *text)
 {
@@ -375,12 +440,20 @@ static bool take_limit(const char *text)
 int main(int count, char **names)
 {
     size_t length, log_length;
+    bool ordering = count > 1 && strcmp(names[1], "order") == 0;
 
+    count -= ordering;
+    names += ordering;
     if (count < 3 || count > 4 || (count == 4 && !take_limit(names[3]))) {
-        fputs("usage: host PROGRAM LOG [LIMIT]\n", stderr);
+        fputs("usage: host PROGRAM LOG [LIMIT]\n       host order PROGRAM PROGRAM [LIMIT]\n", stderr);
         return UNREADABLE;
     }
-    printf("%s by %s at limit %u\n", names[1], names[2], limit);
+    printf("%s %s %s at limit %u\n", names[1], ordering ? "and" : "by", names[2], limit);
+    if (ordering) {
+        int status = compare(names + 1);
+
+        return broken ? BROKEN : status;
+    }
     if (!load(names[1], program, sizeof program, &length) ||
         !load(names[2], log_bytes, sizeof log_bytes, &log_length))
         return UNREADABLE;

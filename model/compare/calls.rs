@@ -1,7 +1,7 @@
 //! One rewriter call through the C entry, compared with the model in every byte and entry.
 
 use crate::draft::Random;
-use crate::lend::{behind, place_in, Lent};
+use crate::lend::{lend, place_in, Lent};
 use crate::limit_coverage::OtherLimits;
 use crate::machine::HOOK_LIMIT;
 use crate::rewrite::is_written;
@@ -53,10 +53,10 @@ enum Entry {
 }
 
 /// What a call leaves behind.
-struct Left {
-    answer: u64,
-    output: Vec<u8>,
-    work: Vec<u16>,
+pub struct Left {
+    pub answer: u64,
+    pub output: Vec<u8>,
+    pub work: Vec<u16>,
 }
 
 pub struct Rewriter {
@@ -70,7 +70,7 @@ pub struct Rewriter {
     lent: [Lent; 4],
 }
 
-fn entries(bytes: &[u8]) -> Vec<u16> {
+pub fn entries(bytes: &[u8]) -> Vec<u16> {
     let pairs = bytes.chunks_exact(2);
     pairs.map(|b| u16::from_ne_bytes([b[0], b[1]])).collect()
 }
@@ -78,6 +78,31 @@ fn entries(bytes: &[u8]) -> Vec<u16> {
 /// Where two lists of equal length first differ.
 fn first_difference<T: PartialEq>(expected: &[T], given: &[T]) -> Option<usize> {
     (0..expected.len()).find(|&at| expected[at] != given[at])
+}
+
+/// An output and a work area before a call; no start has a work entry's value.
+pub fn patterns(random: &mut Random, output: usize, work: usize) -> (Vec<u8>, Vec<u16>) {
+    let (salt, odd) = (random.byte(), random.byte() | 1);
+    let output = (0..output).map(|at| (at as u8).wrapping_mul(odd) ^ salt);
+    let work = (0..work).map(|at| (at as u16).wrapping_mul(odd.into()) | 0x8000);
+    (output.collect(), work.collect())
+}
+
+impl Left {
+    /// What another call left otherwise, if anything.
+    pub fn difference(&self, given: &Left) -> Option<String> {
+        if given.answer != self.answer {
+            return Some("number and place".to_string());
+        }
+        if let Some(at) = first_difference(&self.output, &given.output) {
+            return Some(format!("output byte {at}"));
+        }
+        let at = first_difference(&self.work, &given.work)?;
+        let (wanted, found) = (self.work[at], given.work[at]);
+        Some(format!(
+            "work entry {at}, {wanted} in the model and {found}"
+        ))
+    }
 }
 
 impl Rewriter {
@@ -94,27 +119,11 @@ impl Rewriter {
         }
     }
 
-    /// Lends bytes before a guard page or before marks; none are often lent as a null pointer.
+    /// Lends bytes; the last loan is of entries, which are aligned.
     fn lend(&mut self, loan: usize, bytes: &[u8]) -> *mut u8 {
-        let behind = behind(&mut self.random);
-        let behind = behind - usize::from(behind > 0 && loan < 3 && self.random.percent(50));
-        let null = bytes.is_empty() && self.random.percent(50);
-        let guarded = behind == 0 && !bytes.is_empty();
-        self.coverage.loan(loan, guarded, null);
-        let start = self.lent[loan].lend(bytes, behind);
-        if null {
-            std::ptr::null_mut()
-        } else {
-            start
-        }
-    }
-
-    /// The output and work before a call; no start has a work entry's value.
-    fn patterns(&mut self, call: &Call) -> (Vec<u8>, Vec<u16>) {
-        let (salt, odd) = (self.random.byte(), self.random.byte() | 1);
-        let output = (0..call.output).map(|at| (at as u8).wrapping_mul(odd) ^ salt);
-        let work = (0..call.work).map(|at| (at as u16).wrapping_mul(odd.into()) | 0x8000);
-        (output.collect(), work.collect())
+        let lent = lend(&mut self.random, &mut self.lent[loan], bytes, loan < 3);
+        self.coverage.loan(loan, lent.guarded, lent.null);
+        lent.start
     }
 
     /// Makes the call; if it may write nothing, output and work can only be read.
@@ -163,7 +172,7 @@ impl Rewriter {
 
     /// Makes a call and gives its number and the program that the next one in a chain starts from.
     pub fn call(&mut self, call: &Call, from: &str) -> (u8, Vec<u8>) {
-        let (mut output, mut work) = self.patterns(call);
+        let (mut output, mut work) = patterns(&mut self.random, call.output, call.work);
         let (lent_output, lent_work) = (output.clone(), work.clone());
         let answer = self.coverage.rewrite(call, &mut output, &mut work);
         let locked = !is_written(answer.number) && self.random.percent(25);
@@ -192,15 +201,7 @@ impl Rewriter {
     }
 
     fn compare(&self, call: &Call, expected: &Left, given: &Left, from: &str) {
-        if given.answer != expected.answer {
-            differ(call, expected, given, from, "number and place");
-        }
-        if let Some(at) = first_difference(&expected.output, &given.output) {
-            differ(call, expected, given, from, &format!("output byte {at}"));
-        }
-        if let Some(at) = first_difference(&expected.work, &given.work) {
-            let (wanted, found) = (expected.work[at], given.work[at]);
-            let what = format!("work entry {at}, {wanted} in the model and {found}");
+        if let Some(what) = expected.difference(given) {
             differ(call, expected, given, from, &what);
         }
         for (loan, bytes) in [call.program, call.log].into_iter().enumerate() {

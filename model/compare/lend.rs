@@ -38,6 +38,29 @@ pub fn behind(random: &mut Random) -> usize {
     }
 }
 
+/// What was lent: where it begins, whether the guard page follows at once, and whether it is a null pointer.
+pub struct Loan {
+    pub start: *mut u8,
+    pub guarded: bool,
+    pub null: bool,
+}
+
+/// Lends bytes before a guard page or before marks, of which bytes that need no alignment may have an odd number; none are
+/// often lent as a null pointer.
+pub fn lend(random: &mut Random, lent: &mut Lent, bytes: &[u8], unaligned: bool) -> Loan {
+    let behind = behind(random);
+    let behind = behind - usize::from(behind > 0 && unaligned && random.percent(50));
+    let null = bytes.is_empty() && random.percent(50);
+    let guarded = behind == 0 && !bytes.is_empty();
+    let start = lent.lend(bytes, behind);
+    let start = if null { std::ptr::null_mut() } else { start };
+    Loan {
+        start,
+        guarded,
+        null,
+    }
+}
+
 /// Where some bytes lie within others, if they are part of them in memory.
 pub fn place_in(whole: &[u8], part: &[u8]) -> Option<usize> {
     let place = (part.as_ptr() as usize).checked_sub(whole.as_ptr() as usize)?;

@@ -18,7 +18,7 @@ pub fn is_bad(limit: u8) -> bool {
 /// A kind of call, with the numbers that it can give at a limit in range.
 pub struct Calls {
     name: &'static str,
-    numbers: &'static [u8],
+    pub numbers: &'static [u8],
 }
 
 pub const RUN: Calls = Calls {
@@ -28,6 +28,10 @@ pub const RUN: Calls = Calls {
 pub const REWRITER: Calls = Calls {
     name: "rewriter",
     numbers: &[0, 1, 2, 3, 4, 5, 16, 6, 7, 8, 9, 10, 11, 14, 12, 13],
+};
+pub const ORDER: Calls = Calls {
+    name: "order",
+    numbers: &[0, 1, 2, 3, 4, 5, 16, 6, 7, 8, 9, 10, 11],
 };
 pub const STEP: Calls = Calls {
     name: "step",

@@ -1,4 +1,4 @@
-//! Compares the linked library's run, rewriter and panel services with the model, by a seed.
+//! Compares the linked library with the model, by a seed: run, rewriter, house order, panel.
 
 mod calls;
 mod coverage;
@@ -8,6 +8,11 @@ mod layout;
 mod lend;
 mod limit_coverage;
 mod logs;
+mod order_calls;
+mod order_coverage;
+mod order_groups;
+mod order_moves;
+mod order_reach;
 mod panel_calls;
 mod panel_coverage;
 mod panel_groups;
@@ -27,7 +32,8 @@ use generate::GROUPS;
 use lend::Lent;
 use limit_coverage::{is_bad, Raised, CALL_LIMITS};
 use machine::{Answer, DONE, HOOK_LIMIT, LIMITS};
-use model::{history, machine, panel, pieces, raw_state, rewrite};
+use model::{history, machine, order, order_pieces, panel, pieces, raw_state, rewrite};
+use order_calls::Orderer;
 use panel_calls::Panel;
 use std::process::exit;
 
@@ -250,9 +256,11 @@ fn main() {
     println!("model: seed {seed}");
     let comparison = runs(seed);
     let rewriter = rewriter_calls(seed);
+    let orderer = order_calls(seed);
     let panel = panel_services(seed);
-    let covered = covered(&comparison, &rewriter, &panel);
-    let few = comparison.programs < LEAST_PROGRAMS || rewriter.calls < LEAST_CALLS;
+    let covered = covered(&comparison, &rewriter, &orderer, &panel);
+    let few_calls = rewriter.calls.min(orderer.calls) < LEAST_CALLS;
+    let few = comparison.programs < LEAST_PROGRAMS || few_calls;
     if !covered || few || rewriter.changed_chains == 0 {
         fail("the programs do not cover what they should");
     }
@@ -263,14 +271,16 @@ fn main() {
 }
 
 /// Whether all counts are what they should be; tells those that are not.
-fn covered(comparison: &Comparison, rewriter: &Rewriter, panel: &Panel) -> bool {
+fn covered(comparison: &Comparison, rewriter: &Rewriter, orderer: &Orderer, panel: &Panel) -> bool {
     let mut missing = comparison.coverage.missing();
     missing.extend(comparison.raised.missing());
     missing.extend(rewriter.coverage.missing());
     missing.extend(rewriter.other_limits.missing());
+    missing.extend(orderer.coverage.missing());
     missing.extend(panel.coverage.missing());
     let mut impossible = comparison.coverage.limits.impossible();
     impossible.extend(rewriter.coverage.limits.impossible());
+    impossible.extend(orderer.coverage.impossible());
     impossible.extend(panel.coverage.impossible());
     for name in &missing {
         println!("never came: {name}");
@@ -343,6 +353,28 @@ fn rewriter_calls(seed: u64) -> Rewriter {
     rewriter.coverage.limits.print();
     rewriter.other_limits.print();
     rewriter
+}
+
+/// Compares the house order and tells the counts.
+fn order_calls(seed: u64) -> Orderer {
+    let mut orderer = Orderer::new(seed);
+    order_groups::compare(&mut orderer, seed);
+    println!(
+        "order: {} programs agree; {}",
+        orderer.calls,
+        by_number(&orderer.coverage.numbers)
+    );
+    println!(
+        "order: {} of these at limit 8 by the entry that takes none too",
+        orderer.plain_calls
+    );
+    println!(
+        "order: {} refused calls store nothing in read-only memory; {}",
+        orderer.coverage.locked.iter().sum::<u64>(),
+        by_number(&orderer.coverage.locked)
+    );
+    orderer.coverage.print();
+    orderer
 }
 
 /// Compares the panel's services and tells the counts.

@@ -48,7 +48,7 @@ pub fn compare(rewriter: &mut Rewriter, seed: u64) {
 
 // Areas.
 
-fn length_about(random: &mut Random, needed: usize) -> usize {
+pub fn length_about(random: &mut Random, needed: usize) -> usize {
     match random.below(20) {
         0..=9 => needed,
         10..=13 => needed + 1,
@@ -69,7 +69,7 @@ fn about<'a>(random: &mut Random, limit: u8, program: &'a [u8], log: &'a [u8]) -
     }
 }
 
-fn just_enough<'a>(limit: u8, program: &'a [u8], log: &'a [u8]) -> Call<'a> {
+pub fn just_enough<'a>(limit: u8, program: &'a [u8], log: &'a [u8]) -> Call<'a> {
     Call {
         limit,
         program,
@@ -155,7 +155,7 @@ fn small_areas(rewriter: &mut Rewriter, program: &[u8], log: &[u8]) {
 // Pairs.
 
 /// A racking and a column from which two columns each way are on both beds.
-fn middle_place(random: &mut Random) -> (i32, i32) {
+pub fn middle_place(random: &mut Random) -> (i32, i32) {
     let racking = random.racking();
     let (low, high) = (racking.max(0), racking.min(0) + NEEDLES as i32 - 1);
     (racking, random.between(low + 2, high - 2))
@@ -293,7 +293,7 @@ fn near_racks(random: &mut Random, limit: u8, rewriter: &mut Rewriter) {
 
 // Programs with a number from 3 to 11 or with 16.
 
-fn refused_program(random: &mut Random, limit: u8) -> Vec<u8> {
+pub fn refused_program(random: &mut Random, limit: u8) -> Vec<u8> {
     let mut program = if random.percent(25) {
         plated_program(random, limit)
     } else {

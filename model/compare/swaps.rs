@@ -54,7 +54,7 @@ pub fn any_actor(random: &mut Random) -> Actor {
     }
 }
 
-fn placed(state: &State, actor: Actor, column: i32, direction: Direction) -> Option<Record> {
+pub fn placed(state: &State, actor: Actor, column: i32, direction: Direction) -> Option<Record> {
     let needle = needle_at(state, actor.bed, column)?;
     let m = carrier_move(direction, needle, actor.carriers[0]);
     let p = PlatedMove {
@@ -82,7 +82,7 @@ pub fn lone_record(actor: Actor, column: i32) -> Record {
 }
 
 /// Brings a carrier of the record in where the record wants it.
-fn bring(draft: &mut Draft, record: &Record, m: CarrierMove) -> Option<()> {
+pub fn bring(draft: &mut Draft, record: &Record, m: CarrierMove) -> Option<()> {
     match record {
         Record::In(_) => Some(()),
         Record::Out(_) => draft.add(&Record::In(CarrierMove {

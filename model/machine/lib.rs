@@ -2,6 +2,8 @@
 
 pub mod history;
 pub mod machine;
+pub mod order;
+pub mod order_pieces;
 pub mod panel;
 pub mod pieces;
 pub mod raw_state;

@@ -195,7 +195,7 @@ impl<'a> Order<'a> {
         (DONE, 0)
     }
 
-    fn write(&self, output: &mut [u8], work: &mut [u16]) {
+    pub(crate) fn write(&self, output: &mut [u8], work: &mut [u16]) {
         let mut start = 0;
         for (index, part) in self.parts.iter().enumerate() {
             let end = start + part.bytes.len();

@@ -1,6 +1,8 @@
 -- The word of a C entry: number and place are read back from it, and it is that of an answer in 01's words. Assumes nothing.
-use Prim.Native.Nat.{_<_}
-use mathlib.Core.Path.{refl, ap, _∙_}
+use Prim.Native.Nat.{ℕ, _+_, _*_, _<_}
+use mathlib.Core.Path.{_≡_, refl, ap, _∙_}
+use mathlib.Core.List.{List}
+use mathlib.Core.Logic.{_↔_}
 use native.Mathlib.Omega.{arith}
 use Rattle.run.specs.declared.Answer.{Answer}
 use Rattle.run.specs.Run.{runOf}
@@ -8,8 +10,13 @@ use Rattle.run.proofs.Demand.{place-bound}
 use Rattle.run.proofs.Exact.{run-exactly}
 use Rattle.rewrite.specs.Rewrite.{Rewritten, rewriteOf}
 use Rattle.rewrite.proofs.Demand.{place-bound as rewrite-bound}
+use Rattle.rewrite.specs.Exact.{Rewrites}
 use Rattle.rewrite.proofs.Exact.{rewrite-exactly}
-use Rattle.banthewig.specs.Entries.{packed, Reads, ReadBack, RewriteReadBack, RunEntry, RewriteEntry}
+use Rattle.house.specs.Order.{orderOf}
+use Rattle.house.specs.Exact.{Orders}
+use Rattle.house.proofs.Theorems.{order-place}
+use Rattle.house.proofs.Exact.{order-exactly}
+use Rattle.banthewig.specs.Entries.{packed, Reads, ReadBack, RewriteReadBack, OrderReadBack, RunEntry, Leaves, RewriteEntry, OrderEntry}
 
 word-read : (a : Answer) → a .place < 65536 → Reads a
 unfolding packed
@@ -21,6 +28,9 @@ read-back limit p = word-read (runOf limit p) (omega (arith, place-bound limit p
 pub rewrite-read-back : RewriteReadBack
 rewrite-read-back limit p log output work = word-read (rewriteOf limit p log output work .answer) (omega (arith, rewrite-bound limit p log output work))
 
+pub order-read-back : OrderReadBack
+order-read-back limit p output work = word-read (orderOf limit p output work .answer) (omega (arith, order-place limit p output work))
+
 -- the word of an answer, and the answer in 01's words
 pub run-entry : RunEntry
 unfolding packed
@@ -29,10 +39,18 @@ run-entry limit p n = (
   (λ (a, h, e). ap packed (run-exactly limit p a .1 h) ∙ e),
 )
 
-pub rewrite-entry : RewriteEntry
+-- what a call leaves is what a relation says that is exact for it
+leaves : (P : Rewritten → Type 0) (call : Rewritten) → ((w : Rewritten) → (call ≡ w) ↔ P w) → (n : ℕ) (bytes starts : List ℕ)
+    → Leaves call n bytes starts ↔ ((a : Answer) × P (record { answer = a; output = bytes; work = starts }) × (a .number * 65536 + a .place ≡ n))
 unfolding packed
-rewrite-entry limit p log output work n bytes starts = (
-  (λ l. (rewriteOf limit p log output work .answer, rewrite-exactly limit p log output work _ .0 (λ i. record { answer = rewriteOf limit p log output work .answer; output = l .bytes-are i; work = l .starts-are i }), l .word)),
-  (λ (a, h, e). let f = rewrite-exactly limit p log output work _ .1 h in
+leaves P call exactly n bytes starts = (
+  (λ l. (call .answer, exactly _ .0 (λ i. record { answer = call .answer; output = l .bytes-are i; work = l .starts-are i }), l .word)),
+  (λ (a, h, e). let f = exactly _ .1 h in
       record { word = ap (λ (w : Rewritten). packed (w .answer)) f ∙ e; bytes-are = ap (λ (w : Rewritten). w .output) f; starts-are = ap (λ (w : Rewritten). w .work) f }),
 )
+
+pub rewrite-entry : RewriteEntry
+rewrite-entry limit p log output work n bytes starts = leaves (Rewrites limit p log output work) (rewriteOf limit p log output work) (rewrite-exactly limit p log output work) n bytes starts
+
+pub order-entry : OrderEntry
+order-entry limit p output work n bytes starts = leaves (Orders limit p output work) (orderOf limit p output work) (order-exactly limit p output work) n bytes starts

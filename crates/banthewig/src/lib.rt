@@ -5,6 +5,7 @@ ghost use lib.ListN.{length};
 ghost use Rattle.machine.specs.Limits.{limitMost};
 ghost use Rattle.run.specs.Run.{runOf};
 ghost use Rattle.rewrite.specs.Rewrite.{rewriteOf};
+ghost use Rattle.house.specs.Order.{orderOf};
 ghost use Rattle.panel.specs.Panel.{panelStep, listAnswer, carrierList};
 ghost use Rattle.banthewig.specs.Entries.{packed};
 
@@ -64,6 +65,33 @@ pub extern "C" fn knitout_rewrite(
     ensures starts { λ _. ⌜ now (work .exit) ≡ rewriteOf limitMost (now (program .entry)) (now (log .entry)) (now (output .entry)) (now (work .entry)) .work ⌝ }
 {
     knitout_rewrite_at(machine::State::LIMIT_MOST, program, log, output, work)
+}
+
+// Writes a program's house order at a hook limit: number times 65,536 plus place. The output begins with the ordered
+// program, the work area with its records' starts; a refused call writes nothing.
+#[no_mangle]
+pub extern "C" fn knitout_order_at(
+    limit: u8,
+    program: &[u8],
+    output: &mut [u8],
+    work: &mut [u16],
+) -> u64
+    ensures answer { λ n. ⌜ n ≡ packed (orderOf limit (now (program .entry)) (now (output .entry)) (now (work .entry)) .answer) ⌝ }
+    ensures bytes { λ _. ⌜ now (output .exit) ≡ orderOf limit (now (program .entry)) (now (output .entry)) (now (work .entry)) .output ⌝ }
+    ensures starts { λ _. ⌜ now (work .exit) ≡ orderOf limit (now (program .entry)) (now (output .entry)) (now (work .entry)) .work ⌝ }
+{
+    let e = house::outcome(limit, program, output, work);
+    word(e.number, e.place)
+}
+
+// The same at limit 8.
+#[no_mangle]
+pub extern "C" fn knitout_order(program: &[u8], output: &mut [u8], work: &mut [u16]) -> u64
+    ensures answer { λ n. ⌜ n ≡ packed (orderOf limitMost (now (program .entry)) (now (output .entry)) (now (work .entry)) .answer) ⌝ }
+    ensures bytes { λ _. ⌜ now (output .exit) ≡ orderOf limitMost (now (program .entry)) (now (output .entry)) (now (work .entry)) .output ⌝ }
+    ensures starts { λ _. ⌜ now (work .exit) ≡ orderOf limitMost (now (program .entry)) (now (output .entry)) (now (work .entry)) .work ⌝ }
+{
+    knitout_order_at(machine::State::LIMIT_MOST, program, output, work)
 }
 
 // Makes the step of the first record of a slice on a lent state: number, and the record's length. A refused call stores

@@ -1,4 +1,4 @@
--- The pieces hold: a test of every row, computed in three parts, and that the test says so. Assumes nothing.
+-- The pieces hold: a test of every row, computed in five parts, and that the test says so. Assumes nothing.
 use Prim.Native.Nat.{ℕ}
 use mathlib.Core.Path.{_≡_, refl, sym}
 use mathlib.Core.Bool.{Bool, true, false, _&&_, not}
@@ -22,11 +22,14 @@ use Rattle.run.specs.Run.{stepOf, turn, runFrom, startNo, answerLimit, answerOf
 use Rattle.trace.specs.Records.{tied}
 use Rattle.rewrite.specs.Extents.{halfColumn, layerOf, extentOf, meets, member, common}
 use Rattle.rewrite.specs.Programs.{cut, startsOf, sameBytes, knitting}
-use Rattle.rewrite.specs.Rewrite.{replayFrom, lentNo, rewriteOf}
+use Rattle.rewrite.specs.Rewrite.{replayFrom, lentNo, Rewritten, rewriteOf}
+use Rattle.trace.specs.House.{freeOf, leastOf, without, taken}
+use Rattle.house.specs.Order.{bytesFirst, orderOf}
 use Rattle.rewrite.proofs.Lawful.{lawful}
 use Rattle.pieces.specs.Rows.{Expected, Row, rows, Swap, swaps}
 use Rattle.pieces.specs.Edges.{Pair, pairs, edges}
-use Rattle.pieces.specs.Pieces.{Says, Holds, front, rewritten, Rewrites, inForce, Ties, PiecesHold}
+use Rattle.pieces.specs.Houses.{houses, firsts}
+use Rattle.pieces.specs.Pieces.{Says, Holds, front, rewritten, ordered, Leaves, Rewrites, Orders, Firsts, inForce, Ties, PiecesHold}
 use Rattle.pieces.proofs.Orders.{orders}
 
 -- the test that is computed, and that it says so
@@ -104,17 +107,38 @@ row-says : (r : Row) → rowTest r ≡ true → Holds r
 unfolding rowTest
 row-says r e = test-says _ _ e
 
+leavesTest : Rewritten → Swap → Bool
+leavesTest w r =
+    saysTest (w .answer) (r .answer)
+    && (sameBytes (w .output) (front (r .wrote) (r .output)) && sameBytes (w .work) (front (r .starts) (r .work)))
+
+test-leaves : (w : Rewritten) (r : Swap) → leavesTest w r ≡ true → Leaves w r
+unfolding leavesTest
+test-leaves w r e =
+    let (p, e1) = and-two (saysTest (w .answer) (r .answer)) _ e in
+    let (t, u) = and-two (sameBytes (w .output) (front (r .wrote) (r .output))) _ e1 in
+    record { answer = test-says _ _ p; output = lawful .same-eq _ _ t; work = lawful .same-eq _ _ u }
+
 swapTest : Swap → Bool
-swapTest r =
-    saysTest (rewritten r .answer) (r .answer)
-    && (sameBytes (rewritten r .output) (front (r .wrote) (r .output)) && sameBytes (rewritten r .work) (front (r .starts) (r .work)))
+swapTest r = leavesTest (rewritten r) r
 
 swap-says : (r : Swap) → swapTest r ≡ true → Rewrites r
 unfolding swapTest
-swap-says r e =
-    let (p, e1) = and-two (saysTest (rewritten r .answer) (r .answer)) _ e in
-    let (t, u) = and-two (sameBytes (rewritten r .output) (front (r .wrote) (r .output))) _ e1 in
-    record { answer = test-says _ _ p; output = lawful .same-eq _ _ t; work = lawful .same-eq _ _ u }
+swap-says r e = test-leaves _ _ e
+
+orderTest : Swap → Bool
+orderTest r = leavesTest (ordered r) r
+
+order-says : (r : Swap) → orderTest r ≡ true → Orders r
+unfolding orderTest
+order-says r e = test-leaves _ _ e
+
+firstTest : List ℕ × List ℕ × Bool → Bool
+firstTest r = sameBool (bytesFirst (r .0) (r .1)) (r .2)
+
+first-says : (r : List ℕ × List ℕ × Bool) → firstTest r ≡ true → Firsts r
+unfolding firstTest
+first-says r e = same-bool _ _ e
 
 pairTest : Pair → Bool
 pairTest r = sameBool (tied knitting (inForce r) (r .first) (r .second)) (r .tied) && sameBool (tied knitting (inForce r) (r .second) (r .first)) (r .tied)
@@ -125,14 +149,22 @@ pair-says r e =
     let (p, q) = and-two (sameBool (tied knitting (inForce r) (r .first) (r .second)) (r .tied)) _ e in
     record { forth = same-bool _ _ p; back = same-bool _ _ q }
 
--- the tests, computed: rows, swaps and ties apart, since a declaration is checked in fifty million steps at most
+-- the tests, computed: rows, swaps, orders, bytes and ties apart, since a declaration is checked in fifty million steps at most
 rows-computed : every rowTest rows ≡ true
 unfolding rowTest saysTest stateTest hooksTest carriersTest sameBool sameCarrier runOf runFrom turn stepOf startNo answerLimit answerOf emptyState completeOf all inactiveCarrier movedTo attachedAt sameNeedle eqZ columnOf entryOf exitOf sameColumn withinFloat decodeOf readOf fieldsOk recordFrom refusedAs rackOk needleOk workOk signedOf needlesOf carriersOf lookOf seeOf twiceNo parkedNo floatNo carrierNo oppositeNo firstAfter secondAfter firstAsked roomNo decidedNo edit actOf acted moveAttachments numberAt applyOf byKind
 rows-computed = refl
 
 swaps-computed : every swapTest swaps ≡ true
-unfolding swapTest saysTest rewriteOf lentNo replayFrom cut startsOf sameBytes halfColumn layerOf extentOf meets member common byKind stateTest hooksTest carriersTest sameBool sameCarrier runOf runFrom turn stepOf startNo answerLimit answerOf emptyState completeOf all inactiveCarrier movedTo attachedAt sameNeedle eqZ columnOf entryOf exitOf sameColumn withinFloat decodeOf readOf fieldsOk recordFrom refusedAs rackOk needleOk workOk signedOf needlesOf carriersOf lookOf seeOf twiceNo parkedNo floatNo carrierNo oppositeNo firstAfter secondAfter firstAsked roomNo decidedNo edit actOf acted moveAttachments numberAt applyOf
+unfolding swapTest leavesTest saysTest rewriteOf lentNo replayFrom cut startsOf sameBytes halfColumn layerOf extentOf meets member common byKind stateTest hooksTest carriersTest sameBool sameCarrier runOf runFrom turn stepOf startNo answerLimit answerOf emptyState completeOf all inactiveCarrier movedTo attachedAt sameNeedle eqZ columnOf entryOf exitOf sameColumn withinFloat decodeOf readOf fieldsOk recordFrom refusedAs rackOk needleOk workOk signedOf needlesOf carriersOf lookOf seeOf twiceNo parkedNo floatNo carrierNo oppositeNo firstAfter secondAfter firstAsked roomNo decidedNo edit actOf acted moveAttachments numberAt applyOf
 swaps-computed = refl
+
+orders-computed : every orderTest houses ≡ true
+unfolding orderTest leavesTest orderOf taken leastOf freeOf without bytesFirst saysTest rewriteOf lentNo replayFrom cut startsOf sameBytes halfColumn layerOf extentOf meets member common byKind stateTest hooksTest carriersTest sameBool sameCarrier runOf runFrom turn stepOf startNo answerLimit answerOf emptyState completeOf all inactiveCarrier movedTo attachedAt sameNeedle eqZ columnOf entryOf exitOf sameColumn withinFloat decodeOf readOf fieldsOk recordFrom refusedAs rackOk needleOk workOk signedOf needlesOf carriersOf lookOf seeOf twiceNo parkedNo floatNo carrierNo oppositeNo firstAfter secondAfter firstAsked roomNo decidedNo edit actOf acted moveAttachments numberAt applyOf
+orders-computed = refl
+
+firsts-computed : every firstTest firsts ≡ true
+unfolding firstTest sameBool bytesFirst
+firsts-computed = refl
 
 ties-computed : (every pairTest pairs && every pairTest edges) ≡ true
 unfolding pairTest sameBool halfColumn layerOf extentOf meets member common columnOf decodeOf readOf fieldsOk recordFrom refusedAs rackOk needleOk workOk signedOf carriersOf byKind
@@ -148,4 +180,6 @@ pieces =
       each Ties pairTest pair-says edges e,
       refl,
       orders,
+      each Orders orderTest order-says houses orders-computed,
+      each Firsts firstTest first-says firsts firsts-computed,
     )

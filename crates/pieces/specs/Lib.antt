@@ -3,4 +3,5 @@ pub mod Spelled
 pub mod Rows
 pub mod Edges
 pub mod Orders
+pub mod Houses
 pub mod Pieces

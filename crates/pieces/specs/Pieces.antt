@@ -1,6 +1,7 @@
--- What the rows claim: the definitions of the run, the rewriter and ties, which the code equals, answer each as it says.
+-- What the rows claim: the definitions of the run, the rewriter, ties and the house order, which the code equals, answer each as it says.
 use Prim.Native.Nat.{ℕ, zero, suc, _-_}
 use mathlib.Core.Path.{_≡_}
+use mathlib.Core.Bool.{Bool}
 use mathlib.Core.List.{List, [], _∷_, _++_}
 use lib.ListN.{length, drop}
 use Rattle.machine.specs.declared.Needle.{Needle}
@@ -14,7 +15,9 @@ use Rattle.rewrite.specs.Programs.{knitting}
 use Rattle.rewrite.specs.Rewrite.{Rewritten, rewriteOf}
 use Rattle.pieces.specs.Rows.{Expected, Row, rows, Swap, swaps}
 use Rattle.pieces.specs.Edges.{Pair, pairs, edges}
+use Rattle.house.specs.Order.{bytesFirst, orderOf}
 use Rattle.pieces.specs.Orders.{OrdersHold}
+use Rattle.pieces.specs.Houses.{houses, firsts}
 
 -- an answer is as expected
 pub record Says (a : Answer) (e : Expected) : Type 0 where
@@ -40,10 +43,24 @@ front q n = q ++ drop (length q) (lent n)
 abbrev pub rewritten : Swap → Rewritten
 rewritten r = rewriteOf (r .limit) (r .program) (r .log) (lent (r .output)) (lent (r .work))
 
-pub record Rewrites (r : Swap) : Type 0 where
-  pub answer : Says (rewritten r .answer) (r .answer)
-  pub output : rewritten r .output ≡ front (r .wrote) (r .output)
-  pub work : rewritten r .work ≡ front (r .starts) (r .work)
+abbrev pub ordered : Swap → Rewritten
+ordered r = orderOf (r .limit) (r .program) (lent (r .output)) (lent (r .work))
+
+-- what a call answers and leaves is the row's
+pub record Leaves (w : Rewritten) (r : Swap) : Type 0 where
+  pub answer : Says (w .answer) (r .answer)
+  pub output : w .output ≡ front (r .wrote) (r .output)
+  pub work : w .work ≡ front (r .starts) (r .work)
+
+abbrev pub Rewrites : Swap → Type 0
+Rewrites r = Leaves (rewritten r) r
+
+abbrev pub Orders : Swap → Type 0
+Orders r = Leaves (ordered r) r
+
+-- bytes come first, or not
+abbrev pub Firsts : List ℕ × List ℕ × Bool → Type 0
+Firsts r = bytesFirst (r .0) (r .1) ≡ r .2
 
 -- two records are tied, or not, in either order
 abbrev pub inForce : Pair → Racking
@@ -55,4 +72,4 @@ pub record Ties (r : Pair) : Type 0 where
 
 -- the one theorem; the edges are listed by a function: that many
 abbrev pub PiecesHold : Type 0
-PiecesHold = Each Holds rows × Each Rewrites swaps × Each Ties pairs × Each Ties edges × (length edges ≡ 6308) × OrdersHold
+PiecesHold = Each Holds rows × Each Rewrites swaps × Each Ties pairs × Each Ties edges × (length edges ≡ 6308) × OrdersHold × Each Orders houses × Each Firsts firsts

@@ -19,7 +19,7 @@ pub record Expected : Type 0 where
   pub hooks : List (Needle × ℕ)
   pub carriers : List (ℕ × Carrier)
 
-abbrev expected : ℕ → ℕ → Bool → ℤ → List (Needle × ℕ) → List (ℕ × Carrier) → Expected
+abbrev pub expected : ℕ → ℕ → Bool → ℤ → List (Needle × ℕ) → List (ℕ × Carrier) → Expected
 expected n at done r hs cs = record { number = n; place = at; complete = done; racking = r; limit = 8; hooks = hs; carriers = cs }
 
 -- the same at another limit
@@ -27,7 +27,7 @@ abbrev having : ℕ → Expected → Expected
 having limit e = record { number = e .number; place = e .place; complete = e .complete; racking = e .racking; limit = limit; hooks = e .hooks; carriers = e .carriers }
 
 -- the empty state, which complete says whole
-abbrev empty : ℕ → ℕ → Expected
+abbrev pub empty : ℕ → ℕ → Expected
 empty n at = expected n at true (pos 0) [] []
 
 -- a carrier parked at slot z, attached to a needle on a side, or to none
@@ -596,23 +596,23 @@ pub record Swap : Type 0 where
   pub wrote : List ℕ
   pub starts : List ℕ
 
-abbrev lending : List ℕ → List ℕ → ℕ → ℕ → Expected → List ℕ → List ℕ → Swap
+abbrev pub lending : List ℕ → List ℕ → ℕ → ℕ → Expected → List ℕ → List ℕ → Swap
 lending p log output work a q v = record { limit = 8; program = p; log = log; output = output; work = work; answer = a; wrote = q; starts = v }
 
 -- with room to spare
-abbrev swap : List ℕ → List ℕ → Expected → List ℕ → List ℕ → Swap
+abbrev pub swap : List ℕ → List ℕ → Expected → List ℕ → List ℕ → Swap
 swap p log a q v = lending p log (length p + 2) (length p + 2) a q v
 
 -- refused in the empty state, nothing written
-abbrev unmade : List ℕ → List ℕ → ℕ → ℕ → ℕ → Swap
+abbrev pub unmade : List ℕ → List ℕ → ℕ → ℕ → ℕ → Swap
 unmade p log output work n = lending p log output work (empty n 0) [] []
 
 -- at another limit, which the state has too; at a bad one
-abbrev swap-given : ℕ → Swap → Swap
+abbrev pub swap-given : ℕ → Swap → Swap
 swap-given limit r =
     record { limit = limit; program = r .program; log = r .log; output = r .output; work = r .work; answer = having limit (r .answer); wrote = r .wrote; starts = r .starts }
 
-abbrev swap-bad : ℕ → List ℕ → List ℕ → ℕ → ℕ → Swap
+abbrev pub swap-bad : ℕ → List ℕ → List ℕ → ℕ → ℕ → Swap
 swap-bad limit p log output work =
     record { limit = limit; program = p; log = log; output = output; work = work; answer = empty 15 0; wrote = []; starts = [] }
 

@@ -157,7 +157,7 @@ unfolding replayFrom
 unpaired-replay high low log at l h = rw (no-pair-iff-short knitting rackingZero (high * 256 + low) l .1 (omega arith)) refl
 
 -- ---- the records of a program
-valid-are : {limit : ℕ} {p : List ℕ} {t : State} → Valid limit p t → RecordsAre p (recordsOf p)
+pub valid-are : {limit : ℕ} {p : List ℕ} {t : State} → Valid limit p t → RecordsAre p (recordsOf p)
 valid-are {p = p} v = record { end-to-end = records-flat p; each = each-map (λ x w. (_, record-form x w)) (recordsOf p) (steps-records (v .steps)) }
 
 pub are-records : {p : List ℕ} {l : List (List ℕ)} → RecordsAre p l → recordsOf p ≡ l

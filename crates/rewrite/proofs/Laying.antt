@@ -34,7 +34,7 @@ starts-append at (x ∷ u) v =
 
 -- ---- a record x between others
 module _ (u : List (List ℕ)) (x : List ℕ) (v : List (List ℕ)) where
-  start-between : getD (startsOf 0 (u ++ x ∷ v)) (length u) 0 ≡ length (flat u)
+  pub start-between : getD (startsOf 0 (u ++ x ∷ v)) (length u) 0 ≡ length (flat u)
   unfolding startsOf
   start-between =
       ap (λ (l : List ℕ). getD l (length u) 0) (starts-append 0 u (x ∷ v))

@@ -174,7 +174,7 @@ fn names(x: Record, k: u8) -> bool
 }
 
 // Whether the two name one carrier.
-fn share_carrier(x: Record, y: Record) -> bool
+pub fn share_carrier(x: Record, y: Record) -> bool
     ensures { λ b. ⌜ b ≡ shareCarrier x y ⌝ }
 {
     match record::carriers_named(x.kind) {
@@ -185,7 +185,7 @@ fn share_carrier(x: Record, y: Record) -> bool
 }
 
 // Whether the two are two columns apart or more.
-fn apart(a: Column, b: Column) -> bool
+pub fn apart(a: Column, b: Column) -> bool
     ensures { λ f. ⌜ f ≡ farApart a b ⌝ }
 {
     let d = (a.0 as i64) - (b.0 as i64);
@@ -275,7 +275,7 @@ fn exchange(output: &mut [u8], a: usize, b: usize, e: usize)
 }
 
 // Writes each record's start into the front of the work area and answers how many there are.
-fn starts(program: &[u8], work: &mut [u16]) -> usize
+pub fn starts(program: &[u8], work: &mut [u16]) -> usize
     requires { ⌜ (Sound (now program)) × (length (now program) / 2 ≤ length (now work)) ⌝ }
     ensures { λ n. ⌜ (n ≡ length (recordsOf (now (program .entry)))) × (now (work .exit) ≡ startsOf 0 (recordsOf (now (program .entry))) ++ drop n (now (work .entry))) ⌝ }
 {
@@ -427,7 +427,7 @@ fn replay(log: &[u8], output: &mut [u8], work: &mut [u16], table: &[u8]) -> Ende
 }
 
 // Whether hooks can have the limit and the lent areas will do, by their lengths: 0, or 15, 1 or 2.
-fn lent(limit: u8, program: usize, log: usize, output: usize, work: usize) -> u8
+pub fn lent(limit: u8, program: usize, log: usize, output: usize, work: usize) -> u8
     ensures { λ k. ⌜ k ≡ lentNo limit program log output work ⌝ }
 {
     let number = run::start(limit, program);

@@ -12,4 +12,6 @@ pub mod Stretches
 pub mod Places
 pub mod Reach
 pub mod Runs
+pub mod Houses
+pub mod Insertions
 pub mod Theorems

@@ -87,7 +87,7 @@ module _ {A R : Type 0} (K : Records A R) where
       let (n, f, g) = behind-made x (swapAt K (after r x) i l) m e in
       rw g (there (made-is l n (after r x) i f))
 
-  is-made : {r : R} {i : ℕ} {l m : List A} → Made r i l m → swapAt K r i l ≡ made m
+  pub is-made : {r : R} {i : ℕ} {l m : List A} → Made r i l m → swapAt K r i l ≡ made m
   is-made (here t) = rw t
   is-made (there s) = rw (is-made s)
 
@@ -104,7 +104,7 @@ module _ {A R : Type 0} (K : Records A R) where
   module _ (L : Lawful K) where
     open Lawful L using (same-eq, share-sym, meet-sym, meet-refl)
 
-    tied-sym : (r : R) (x y : A) → tied K r x y ≡ tied K r y x
+    pub tied-sym : (r : R) (x y : A) → tied K r x y ≡ tied K r y x
     tied-sym r x y = tie-sym (isRack x) (isRack y) (share-sym x y) (meet-sym r x y)
 
     -- equal records are tied
@@ -115,7 +115,7 @@ module _ {A R : Type 0} (K : Records A R) where
     equals-are-tied r x y e = rw (← same-eq x y e) (tied-refl r x)
 
     -- a swap undoes itself
-    made-back : {r : R} {i : ℕ} {l m : List A} → Made r i l m → Made r i m l
+    pub made-back : {r : R} {i : ℕ} {l m : List A} → Made r i l m → Made r i m l
     made-back (here {r} {x} {y} t) = here (tied-sym r y x ∙ t)
     made-back (there s) = there (made-back s)
 

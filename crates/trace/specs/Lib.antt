@@ -4,4 +4,5 @@ pub mod Records
 pub mod Swaps
 pub mod Order
 pub mod Machine
+pub mod House
 pub mod Claims
