@@ -12,13 +12,15 @@ struct moved {
     const uint8_t *bytes;
     size_t size;
     int column;
+    int low, high;         /* numbers of needles that may lie in neighbouring columns, whatever their beds */
     uint8_t first, second; /* its carriers; 0, which no record names, where there is none */
 };
 
 static inline struct moved moved_at(const uint8_t *p, int racking)
 {
-    return (struct moved){ p, record_size[p[0]], column_of(p, racking), has_carrier(p) ? p[4] : 0,
-                           is_plated(p) ? p[5] : 0 };
+    int number = p[2 + has_carrier(p)], reach = 1 + (racking < 0 ? -racking : racking);
+    return (struct moved){ p, record_size[p[0]], column_of(p, racking), number - reach, number + reach,
+                           has_carrier(p) ? p[4] : 0, is_plated(p) ? p[5] : 0 };
 }
 
 /* Is the record y tied to x? Most are not, by their carriers and columns alone. */
@@ -27,6 +29,7 @@ static inline int tied_to(const struct moved *x, const uint8_t *y, int racking)
     if (has_carrier(y)) {
         if (y[4] == x->first || y[4] == x->second) return 1;
         if (is_plated(y) && (y[5] == x->first || y[5] == x->second)) return 1;
+        if (y[3] < x->low || x->high < y[3]) return 0;
     } else if (y[0] == RACK) {
         return 1;
     }
