@@ -6,6 +6,9 @@
 #include <stdlib.h>
 #include <string.h>
 
+/* The inputs for complete alone. */
+enum { LOOKED = 7 };
+
 /* A program before its last record of a kind. */
 struct moment {
     const struct program *program;
@@ -22,15 +25,22 @@ int states_agree(const struct knitout_state *a, const struct knitout_state *b)
     return memcmp(a, b, sizeof *a) == 0;
 }
 
+int is_empty(const struct knitout_state *state)
+{
+    struct knitout_state none = empty;
+    none.limit = state->limit;
+    return states_agree(state, &none);
+}
+
 /* Steps through a program and keeps, for each kind from the first one given, the moment before its last record. */
 static void keep_moments(struct moment *moments, const struct program *p, int first)
 {
     struct knitout_state state = empty;
     for (size_t at = 0; at < p->length;) {
         if (p->bytes[at] >= first) moments[p->bytes[at]] = (struct moment){ p, state, at };
-        struct knitout_served served = plain_step(&state, p->bytes + at, p->length - at);
-        if (served.number) abort();
-        at += served.length;
+        struct knitout_stepped stepped = plain_step(&state, p->bytes + at, p->length - at);
+        if (stepped.number) abort();
+        at += stepped.length;
     }
 }
 
@@ -107,6 +117,33 @@ static void build_refused(int i, const struct moment *moments)
     }
 }
 
+/* A drop of one of two loops, or of the only one: complete is decided by the first hook that is left with a loop. */
+static void build_looked(int i)
+{
+    enum { DROPPED = KNITOUT_NEEDLES - 2 };
+    static const uint8_t drop[] = { DROP, KNITOUT_FRONT, DROPPED };
+    static const struct { const char *name; unsigned looked; int loops; } left[LOOKED] = {
+        { "first-hook", 1, 1 }, { "last-hook", KNITOUT_HOOKS, 1 }, { "empty", KNITOUT_HOOKS, 0 },
+        { "hook-31", 31, 1 }, { "hook-62", 62, 1 }, { "hook-125", 125, 1 }, { "hook-250", 250, 1 },
+    };
+    step = (struct step_input){ .name = left[i].name, .state = empty, .bytes = drop, .length = sizeof drop, .steps = 1,
+                                .served = sizeof drop, .looked = left[i].looked };
+    step.state.loops[DROPPED] = 1;
+    step.state.loops[left[i].looked - 1] = (uint8_t)left[i].loops;
+}
+
+/* How many of the steps leave the empty state, by its bytes; a state that is not in range is never complete. */
+static unsigned count_complete(void)
+{
+    struct knitout_state state = step.state;
+    unsigned complete = 0;
+    for (unsigned i = 0; i < step.steps; i++) {
+        plain_step(&state, step.bytes + step.places[i], step.length - step.places[i]);
+        complete += step.number != KNITOUT_BAD_STATE && is_empty(&state);
+    }
+    return complete;
+}
+
 const struct step_input *build_step(int i)
 {
     const struct moment *moments = find_moments();
@@ -114,7 +151,9 @@ const struct step_input *build_step(int i)
     if (i < PLATED_KNIT) one_step(kind_name(i + 1), &moments[i + 1], KNITOUT_DONE);
     else if (i == PLATED_KNIT) step_through(find_program("mixed"));
     else if (i == PLATED_KNIT + 1) step_through(find_program("plated-mix"));
-    else build_refused(i - (PLATED_KNIT + 2), moments);
+    else if (i < PLATED_KNIT + 2 + LOOKED) build_looked(i - (PLATED_KNIT + 2));
+    else build_refused(i - (PLATED_KNIT + 2 + LOOKED), moments);
+    step.complete = count_complete();
     return &step;
 }
 

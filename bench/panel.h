@@ -4,7 +4,7 @@
 
 #include "programs.h"
 
-enum { STEP_INPUTS = 18, LIST_INPUTS = 4 };
+enum { STEP_INPUTS = 25, LIST_INPUTS = 4 };
 
 /* A program of 32,768 bytes has no more records. */
 enum { PLACES_LIMIT = KNITOUT_PROGRAM_MOST / 2 };
@@ -18,7 +18,9 @@ struct step_input {
     unsigned steps;
     uint16_t places[PLACES_LIMIT]; /* of each step's record */
     unsigned number;
+    unsigned complete;             /* how many answers say it */
     size_t served;                 /* the lengths of all answers together */
+    unsigned looked;               /* hooks that decide complete, where that is what the input is for; else 0 */
 };
 
 struct list_input {
@@ -35,6 +37,9 @@ const struct list_input *build_list(int i);
 
 /* Are all bytes the same? Each is a value: a state has no padding. */
 int states_agree(const struct knitout_state *a, const struct knitout_state *b);
+
+/* Are a state's bytes those of the empty one at its limit? */
+int is_empty(const struct knitout_state *state);
 
 /* Both versions on generated inputs (bench/panel_checks.c): 1 if they differ, with a message. */
 int generated_steps_differ(void);

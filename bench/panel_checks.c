@@ -13,13 +13,13 @@ static const uint8_t byte_values[] = { 0, 1, 2, 3, 4, 5, 6, 7, 8, 9, 127, 128, 2
 static const uint16_t word_values[] = { 0, 1, 2, 249, 250, 256, 257, 258, 259, 512, 65527, 65528, 65535 };
 enum { BYTES = sizeof byte_values, WORDS = sizeof word_values / sizeof word_values[0] };
 
-/* How often each number was given, by the state's limit. */
-static unsigned seen[UINT8_MAX + 1][KNITOUT_YARN_TWICE + 1];
+/* How often each number was given, by the state's limit; and with complete. */
+static unsigned seen[UINT8_MAX + 1][KNITOUT_YARN_TWICE + 1], seen_complete[UINT8_MAX + 1][KNITOUT_YARN_TWICE + 1];
 
-static int differ(const char *what, struct knitout_served library, struct knitout_served plain)
+static int differ(const char *what, struct knitout_stepped library, struct knitout_stepped plain)
 {
-    fprintf(stderr, "bench: generated %s: library gives %u and %zu, plain C %u and %zu, or the contents differ\n", what,
-            library.number, library.length, plain.number, plain.length);
+    fprintf(stderr, "bench: generated %s: library gives %u, complete %u and %zu, plain C %u, %u and %zu, or contents differ\n",
+            what, library.number, library.complete, library.length, plain.number, plain.complete, plain.length);
     return 1;
 }
 
@@ -29,11 +29,13 @@ static int step_differs(const struct knitout_state *state, const uint8_t *bytes,
 {
     struct knitout_state before = *state, other = *state;
     *after = *state;
-    struct knitout_served library = knitout_step(&other, bytes, length), plain = plain_step(after, bytes, length);
+    struct knitout_stepped library = knitout_step(&other, bytes, length), plain = plain_step(after, bytes, length);
     int agree = library.number == plain.number && library.length == plain.length && states_agree(&other, after);
     if (plain.number && !states_agree(&before, after)) agree = 0;
-    if (!agree) return differ("step", library, plain);
+    int complete = plain.number != KNITOUT_BAD_STATE && is_empty(after);
+    if (!agree || library.complete != complete || plain.complete != complete) return differ("step", library, plain);
     seen[before.limit][plain.number]++;
+    seen_complete[before.limit][plain.number] += complete;
     return 0;
 }
 
@@ -47,7 +49,8 @@ static int list_differs(const struct knitout_state *state, size_t count)
     struct knitout_served plain = plain_carriers(state, of_plain, count);
     int agree = library.number == plain.number && library.length == plain.length
         && memcmp(of_library, of_plain, sizeof of_plain) == 0;
-    if (!agree) return differ("list", library, plain);
+    if (!agree) return differ("list", (struct knitout_stepped){ library.number, 0, library.length },
+                              (struct knitout_stepped){ plain.number, 0, plain.length });
     seen[state->limit][plain.number]++;
     return 0;
 }
@@ -170,6 +173,77 @@ static int altered_states_differ(const struct knitout_state *state)
     return altered_bytes_differ(state) || altered_words_differ(state);
 }
 
+/* A full hook, each in turn, and then a loop on another, too: no record, and the drop that empties the first. */
+static int one_loop_differs(const struct knitout_state *empty, uint32_t *seed)
+{
+    for (unsigned hook = 0; hook < KNITOUT_HOOKS; hook++) {
+        struct knitout_state state = *empty, after;
+        const uint8_t drop[] = { DROP, hook >= KNITOUT_NEEDLES, (uint8_t)(hook % KNITOUT_NEEDLES) };
+        state.loops[hook] = empty->limit;
+        if (step_differs(&state, NULL, 0, &after) || step_differs(&state, drop, sizeof drop, &after)) return 1;
+        state.loops[choose_below(seed, KNITOUT_HOOKS)] = 1;
+        if (step_differs(&state, drop, sizeof drop, &after)) return 1;
+    }
+    return 0;
+}
+
+/* A racking alone and a rack back to 0; a carrier alone and its out. */
+static int one_value_differs(const struct knitout_state *empty)
+{
+    static const uint8_t back[] = { RACK, 0 };
+    struct knitout_state after;
+    for (int racking = KNITOUT_RACKING_LEAST - 1; racking <= KNITOUT_RACKING_MOST + 1; racking++) {
+        struct knitout_state state = *empty;
+        state.racking = (int8_t)racking;
+        if (step_differs(&state, NULL, 0, &after) || step_differs(&state, back, sizeof back, &after)) return 1;
+    }
+    for (uint8_t k = 1; k <= KNITOUT_CARRIERS; k++) {
+        struct knitout_state state = *empty;
+        const uint8_t out[] = { OUT, LEFT, KNITOUT_FRONT, 0, k };
+        state.carriers[k - 1].active = 1;
+        if (step_differs(&state, NULL, 0, &after) || step_differs(&state, out, sizeof out, &after)) return 1;
+    }
+    return 0;
+}
+
+/* Records that the empty state refuses or that leave it empty. */
+static int no_value_differs(const struct knitout_state *empty)
+{
+    static const uint8_t records[][KNITOUT_RECORD_MOST] = {
+        { RACK, 0 }, { DROP, 0, 0 }, { XFER, 0, 9, 9 }, { 0 }, { KIND_LIMIT }, { RACK, 9 }, { KNIT, RIGHT, 0, 0, 1 },
+        { XFER, 0, 9, 8 }, { PLATED_KNIT, RIGHT, 0, 0, 1, 1 }
+    };
+    struct knitout_state after;
+    for (size_t i = 0; i < sizeof records / sizeof records[0]; i++)
+        for (size_t length = 0; length <= KNITOUT_RECORD_MOST; length++)
+            if (step_differs(empty, records[i], length, &after)) return 1;
+    return 0;
+}
+
+/* States that are empty or nearly so, at limits in range and out of it. */
+static int nearly_empty_differ(uint32_t seed)
+{
+    for (int i = 0; i < LIMITS; i++) {
+        struct knitout_state empty = KNITOUT_EMPTY(limits[i]);
+        if (one_loop_differs(&empty, &seed) || one_value_differs(&empty) || no_value_differs(&empty)) return 1;
+    }
+    return 0;
+}
+
+/* Was complete never said, at some limit, with a number that leaves a state empty? */
+static int complete_not_seen(void)
+{
+    static const uint8_t numbers[] = { KNITOUT_DONE, KNITOUT_UNKNOWN_KIND, KNITOUT_CUT_SHORT, KNITOUT_FIELD_RANGE,
+                                       KNITOUT_NOT_IN, KNITOUT_NOT_OPPOSITE, KNITOUT_YARN_TWICE };
+    for (unsigned limit = KNITOUT_LIMIT_LEAST; limit <= KNITOUT_LIMIT_MOST; limit++)
+        for (size_t i = 0; i < sizeof numbers; i++) {
+            if (seen_complete[limit][numbers[i]]) continue;
+            fprintf(stderr, "bench: generated step: %u was never given with complete at limit %u\n", numbers[i], limit);
+            return 1;
+        }
+    return 0;
+}
+
 /* Was a number never given, at some limit, that the service may give? */
 static int not_seen(const char *what, unsigned first, unsigned last)
 {
@@ -189,6 +263,7 @@ int generated_steps_differ(void)
         struct knitout_state state;
         if (generate(seed, &state)) return 1;
     }
+    if (nearly_empty_differ(GENERATED) || complete_not_seen()) return 1;
     return not_seen("step", KNITOUT_DONE, KNITOUT_DONE) || not_seen("step", KNITOUT_UNKNOWN_KIND, KNITOUT_HOOK_FULL)
         || not_seen("step", KNITOUT_BAD_STATE, KNITOUT_YARN_TWICE);
 }

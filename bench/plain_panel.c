@@ -231,25 +231,48 @@ static inline int step(struct knitout_state *s, const uint8_t *p)
     }
 }
 
-static inline struct knitout_served served(int number, size_t length)
+/* The first record, if there is one. */
+static inline int first_step(struct knitout_state *s, const uint8_t *bytes, size_t length)
 {
-    return (struct knitout_served){ (uint8_t)number, number ? 0 : length };
+    if (length == 0) return KNITOUT_CUT_SHORT;
+    if (bytes[0] < RACK || bytes[0] >= KIND_LIMIT) return KNITOUT_UNKNOWN_KIND;
+    return length < record_size[bytes[0]] ? KNITOUT_CUT_SHORT : step(s, bytes);
 }
 
-struct knitout_served plain_step(struct knitout_state *state, const uint8_t *bytes, size_t length)
+/* Is there a loop on any hook? From f.0 up, eight hooks at a time, until one is found; the last eight overlap the others. */
+static inline int any_loop(const uint8_t *loops)
 {
-    if (!in_range(state)) return served(KNITOUT_BAD_STATE, 0);
-    if (length == 0) return served(KNITOUT_CUT_SHORT, 0);
-    if (bytes[0] < RACK || bytes[0] >= KIND_LIMIT) return served(KNITOUT_UNKNOWN_KIND, 0);
-    size_t size = record_size[bytes[0]];
-    if (length < size) return served(KNITOUT_CUT_SHORT, 0);
-    return served(step(state, bytes), size);
+    enum { WORD = sizeof(uint64_t), LAST = KNITOUT_HOOKS - WORD };
+    uint64_t word;
+    for (int i = 0; i < LAST; i += WORD) {
+        memcpy(&word, loops + i, WORD);
+        if (word) return 1;
+    }
+    memcpy(&word, loops + LAST, WORD);
+    return word != 0;
+}
+
+/* Is a state in range the empty one? */
+static inline int complete(const struct knitout_state *s)
+{
+    if (s->racking != 0 || any_loop(s->loops)) return 0;
+    for (int i = 0; i < KNITOUT_CARRIERS; i++)
+        if (s->carriers[i].active) return 0;
+    return 1;
+}
+
+struct knitout_stepped plain_step(struct knitout_state *state, const uint8_t *bytes, size_t length)
+{
+    if (!in_range(state)) return (struct knitout_stepped){ .number = KNITOUT_BAD_STATE };
+    int number = first_step(state, bytes, length);
+    size_t size = number ? 0 : record_size[bytes[0]];
+    return (struct knitout_stepped){ (uint8_t)number, (uint8_t)complete(state), size };
 }
 
 struct knitout_served plain_carriers(const struct knitout_state *state, struct knitout_carrier *list, size_t count)
 {
-    if (!in_range(state)) return served(KNITOUT_BAD_STATE, 0);
-    if (count < KNITOUT_CARRIERS) return served(KNITOUT_NO_ROOM, 0);
+    if (!in_range(state)) return (struct knitout_served){ .number = KNITOUT_BAD_STATE };
+    if (count < KNITOUT_CARRIERS) return (struct knitout_served){ .number = KNITOUT_NO_ROOM };
     memcpy(list, state->carriers, sizeof state->carriers);
-    return served(KNITOUT_DONE, KNITOUT_CARRIERS);
+    return (struct knitout_served){ KNITOUT_DONE, KNITOUT_CARRIERS };
 }

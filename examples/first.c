@@ -20,7 +20,7 @@ int main(void)
         return 1;
     }
     for (size_t place = 0; place < sizeof program;) { /* the output is as long as the program */
-        struct knitout_served step = knitout_step(&panel, output + place, sizeof program - place);
+        struct knitout_stepped step = knitout_step(&panel, output + place, sizeof program - place);
         if (step.number != KNITOUT_DONE)
             return 1; /* not after a rewrite that is done, unless something else wrote to panel or output */
         printf("knit the %u bytes at %u\n", (unsigned)step.length, (unsigned)place);

@@ -104,10 +104,17 @@ struct knitout_state {
        static struct knitout_state panel = KNITOUT_EMPTY(KNITOUT_LIMIT_MOST); */
 #define KNITOUT_EMPTY(limit) {0, {0}, (limit), {{0, 0, 0, 0, 0}}}
 
-/* The answer of a panel service. */
+/* The answer of a step. (Bytes before the length are padding, here and below: compare fields, not bytes.) */
+struct knitout_stepped {
+    uint8_t number;   /* enum knitout_number */
+    uint8_t complete; /* 1 if the state that the step leaves is the empty one at its limit, else 0; 0 after 15 */
+    size_t length;    /* the record's length in bytes; 0 if refused */
+};
+
+/* The answer of a list. */
 struct knitout_served {
     uint8_t number; /* enum knitout_number */
-    size_t length;  /* the record's length in bytes, or the entries written; 0 if refused */
+    size_t length;  /* the entries written, ten; 0 if refused */
 };
 
 /* The hook of a needle among a state's loops. */
@@ -116,10 +123,10 @@ struct knitout_served {
 /* Runs a program from the empty state at a hook limit: number times 65,536 plus place. A limit out of 1 to 8 gets 15,
    before all else. The place is the refused record's start, its kind byte (3 to 11 and 16), else 0. Reads program[0] to
    program[length - 1] at most and writes nothing.
-   Stack 2,168 bytes; worst time 33 ms. */
+   Stack 1,176 bytes; worst time 34 ms. */
 uint64_t knitout_run_at(uint8_t limit, const uint8_t *program, size_t length);
 
-/* The same at limit 8. Stack 2,168 bytes; worst time 33 ms. */
+/* The same at limit 8. Stack 1,176 bytes; worst time 34 ms. */
 uint64_t knitout_run(const uint8_t *program, size_t length);
 
 /* Runs a program at a hook limit and makes a log's swaps in a copy of it: number times 65,536 plus place. A limit out of 1
@@ -130,11 +137,11 @@ uint64_t knitout_run(const uint8_t *program, size_t length);
    0 writes the program as the swaps made it to the front of the output, and the start of each of its records to the
    front of work; 12 to 14 the same, as the swaps before the refused one made it (KNITOUT_WRITTEN); 1 to 11, 15 and 16 write
    nothing. Output past the program's length and work past the last record's start keep their contents.
-   Stack 2,360 bytes; worst time 200 ms. */
+   Stack 1,512 bytes; worst time 200 ms. */
 uint64_t knitout_rewrite_at(uint8_t limit, const uint8_t *program, size_t program_length, const uint8_t *log,
                             size_t log_length, uint8_t *output, size_t output_length, uint16_t *work, size_t work_count);
 
-/* The same at limit 8. Stack 2,360 bytes; worst time 200 ms. */
+/* The same at limit 8. Stack 1,512 bytes; worst time 200 ms. */
 uint64_t knitout_rewrite(const uint8_t *program, size_t program_length, const uint8_t *log, size_t log_length,
                          uint8_t *output, size_t output_length, uint16_t *work, size_t work_count);
 
@@ -147,11 +154,11 @@ uint64_t knitout_rewrite(const uint8_t *program, size_t program_length, const ui
    0 writes the ordered program to the front of the output, and the start of each of its records to the front of work; every
    other number writes nothing. Output past the program's length and work past the last record's start keep their contents.
    Two programs that are done get equal bytes exactly if swaps that the rewriter accepts lead from one to the other.
-   Stack 2,344 bytes; worst time 88 s, which grows with the square of the length (docs/PERFORMANCE.md). */
+   Stack 1,352 bytes; worst time 83 s, which grows with the square of the length (docs/PERFORMANCE.md). */
 uint64_t knitout_order_at(uint8_t limit, const uint8_t *program, size_t program_length, uint8_t *output,
                           size_t output_length, uint16_t *work, size_t work_count);
 
-/* The same at limit 8. Stack 2,344 bytes; worst time 88 s. */
+/* The same at limit 8. Stack 1,352 bytes; worst time 83 s. */
 uint64_t knitout_order(const uint8_t *program, size_t program_length, uint8_t *output, size_t output_length, uint16_t *work,
                        size_t work_count);
 
@@ -168,13 +175,15 @@ uint64_t knitout_order(const uint8_t *program, size_t program_length, uint8_t *o
    the record is not looked at, and a length of 0 gives 4. 0: the state is the one after the record, its limit the same, and
    the answer's length the record's. 15 (looked at first), 3 to 11 and 16: length 0, and nothing is written. Which of them it
    will be is not known beforehand, so the state's memory must be writable.
-   Stack 2,744 bytes; worst time 45 microseconds. */
-struct knitout_served knitout_step(struct knitout_state *state, const uint8_t *bytes, size_t length);
+   Complete is 1 if the state is the empty one at its own limit (KNITOUT_EMPTY) after the call, else 0. After 3 to 11 and 16
+   that is the state as it was, so it may be 1 then too; after 15 it is always 0.
+   Stack 1,288 bytes; worst time 60 microseconds. */
+struct knitout_stepped knitout_step(struct knitout_state *state, const uint8_t *bytes, size_t length);
 
 /* Lists the carriers of a state. 0 writes carriers 1 to 10 to list[0] to list[9] and gives length 10; entries from list[10]
    on keep their contents. 15 (looked at first) and 2 (count under ten) give length 0 and write nothing. The list may not
    be the state's own carriers.
-   Stack 240 bytes; worst time 26 microseconds. */
+   Stack 224 bytes; worst time 26 microseconds. */
 struct knitout_served knitout_carriers(const struct knitout_state *state, struct knitout_carrier *list, size_t count);
 
 /* The layout that the library is built with (x86-64); crates/banthewig/proofs/Crossing.antt proves the same of it. A packed
@@ -199,6 +208,10 @@ KNITOUT_ASSERT(offsetof(struct knitout_state, racking) == 0);
 KNITOUT_ASSERT(offsetof(struct knitout_state, loops) == 1);
 KNITOUT_ASSERT(offsetof(struct knitout_state, limit) == 501);
 KNITOUT_ASSERT(offsetof(struct knitout_state, carriers) == 502);
+KNITOUT_ASSERT(sizeof(struct knitout_stepped) == 16);
+KNITOUT_ASSERT(offsetof(struct knitout_stepped, number) == 0);
+KNITOUT_ASSERT(offsetof(struct knitout_stepped, complete) == 1);
+KNITOUT_ASSERT(offsetof(struct knitout_stepped, length) == 8);
 KNITOUT_ASSERT(sizeof(struct knitout_served) == 16);
 KNITOUT_ASSERT(offsetof(struct knitout_served, number) == 0);
 KNITOUT_ASSERT(offsetof(struct knitout_served, length) == 8);

@@ -74,6 +74,14 @@ static void empty_panel(void)
     panel.limit = limit;
 }
 
+/* Whether a state is the empty one at its own limit, byte by byte: what a step's complete must say of the panel. */
+static bool is_empty(const struct knitout_state *state)
+{
+    struct knitout_state empty = KNITOUT_EMPTY(state->limit);
+
+    return memcmp(state, &empty, sizeof empty) == 0;
+}
+
 /* Whether the output from a byte on and the work area from an entry on are as they were painted. */
 static bool is_painted(size_t byte, size_t entry)
 {
@@ -108,9 +116,10 @@ static void show_answer(const char *call, uint64_t answer)
     printf("%s: %u %s, place %u\n", call, number, word(number), KNITOUT_PLACE(answer));
 }
 
-static void show_served(struct knitout_served served)
+/* Number and length of a step's or a list's answer. */
+static void show_served(unsigned number, size_t length)
 {
-    printf("%u %s, length %u", served.number, word(served.number), (unsigned)served.length);
+    printf("%u %s, length %u", number, word(number), (unsigned)length);
 }
 
 static void show_needle(unsigned bed, unsigned needle)
@@ -200,34 +209,51 @@ static bool is_of_record(unsigned number)
 }
 
 /* One line a step. */
-static void show_step(size_t place, struct knitout_served served, const uint8_t *bytes)
+static void show_step(size_t place, struct knitout_stepped stepped, const uint8_t *bytes)
 {
     printf("place %u: ", (unsigned)place);
-    show_served(served);
-    if (is_of_record(served.number))
+    show_served(stepped.number, stepped.length);
+    if (is_of_record(stepped.number))
         show_record(bytes);
     putchar('\n');
 }
 
-/* Steps a program's records on the panel from the empty state. Gives number and place as knitout_run_at does. */
+/* One record's step on the panel, at a place of a program. */
+static struct knitout_stepped step(const uint8_t *bytes, size_t length, size_t place)
+{
+    keep(&panel);
+    struct knitout_stepped stepped = knitout_step(&panel, bytes + place, length - place);
+
+    show_step(place, stepped, bytes + place);
+    if (stepped.complete != is_empty(&panel))
+        check(false, "complete is said of the state that the step leaves");
+    if (panel.limit != limit)
+        check(false, "a step keeps the limit");
+    if (stepped.number != KNITOUT_DONE)
+        check(stepped.length == 0 && is_kept(&panel),
+              stepped.complete ? "the refused step left the panel as it was, complete"
+                               : "the refused step left the panel as it was");
+    return stepped;
+}
+
+/* Steps a program's records on the panel from the empty state, with a line more where a piece ends: the machine is complete
+   again. Gives number and place as knitout_run_at does. */
 static uint64_t walk(const uint8_t *bytes, size_t length)
 {
     size_t place = 0, record = 0;
+    bool complete = true; /* the empty state is */
 
     empty_panel();
     while (place < length) { /* at the end there is no record: a step of no bytes would get 4 */
         if (bytes == output && work[record++] != place)
             check(false, "the work area has each record's start");
-        keep(&panel);
-        struct knitout_served served = knitout_step(&panel, bytes + place, length - place);
-        show_step(place, served, bytes + place);
-        if (served.number != KNITOUT_DONE) {
-            check(served.length == 0 && is_kept(&panel), "the refused step left the panel as it was");
-            return ((uint64_t)served.number << 16) + place;
-        }
-        if (panel.limit != limit)
-            check(false, "a step keeps the limit");
-        place += served.length;
+        struct knitout_stepped stepped = step(bytes, length, place);
+        if (stepped.number != KNITOUT_DONE)
+            return ((uint64_t)stepped.number << 16) + place;
+        if (stepped.complete && !complete)
+            printf("complete again, after the record at place %u\n", (unsigned)place);
+        complete = stepped.complete;
+        place += stepped.length;
     }
     if (bytes == output)
         check(is_painted(length, record), "past the program, output and work are as they were");
@@ -275,7 +301,7 @@ static void show_panel(const char *when)
 
     printf("panel %s: racking %d, limit %u\n", when, panel.racking, panel.limit);
     printf("list of eleven: ");
-    show_served(served);
+    show_served(served.number, served.length);
     check(served.number == KNITOUT_DONE && served.length == KNITOUT_CARRIERS &&
               memcmp(list, panel.carriers, sizeof panel.carriers) == 0 &&
               memcmp(&list[KNITOUT_CARRIERS], &kept[KNITOUT_CARRIERS], sizeof *list) == 0,
@@ -293,19 +319,20 @@ static bool is_refused_list(const struct knitout_state *state, size_t count, uns
     return served.number == number && served.length == 0 && memcmp(list, kept, sizeof list) == 0;
 }
 
-/* A foul state is refused first, even by the drop that would empty a bad hook and for a list too short. */
+/* A foul state is refused first, even by the drop that would empty a bad hook and for a list too short. It is never
+   complete, empty or not. */
 static void try_foul(const char *what, struct knitout_state *foul)
 {
     static const uint8_t drop[] = {KNITOUT_DROP, KNITOUT_FRONT, 3};
 
     keep(foul);
-    struct knitout_served served = knitout_step(foul, drop, sizeof drop);
+    struct knitout_stepped stepped = knitout_step(foul, drop, sizeof drop);
     printf("%s: step ", what);
-    show_served(served);
-    check(served.number == KNITOUT_BAD_STATE && served.length == 0 &&
+    show_served(stepped.number, stepped.length);
+    check(stepped.number == KNITOUT_BAD_STATE && stepped.complete == 0 && stepped.length == 0 &&
               is_refused_list(foul, KNITOUT_CARRIERS - 1, KNITOUT_BAD_STATE) &&
               is_refused_list(foul, KNITOUT_CARRIERS + 1, KNITOUT_BAD_STATE) && is_kept(foul),
-          ", lists of nine and eleven too, nothing written");
+          ", not complete, lists of nine and eleven too, nothing written");
 }
 
 /* The panel with a value damaged, and a list too short. */

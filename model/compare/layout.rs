@@ -1,4 +1,4 @@
-//! The lent state as the C header lays it out: bytes there and back, where two states differ.
+//! The lent state and the answers as C lays them out: bytes there and back, where two states differ.
 
 use crate::machine::*;
 use crate::raw_state::*;
@@ -30,6 +30,10 @@ const _: () = assert!(CARRIERS_AT + CARRIERS * CARRIER_BYTES == STATE_BYTES);
 const _: () = assert!(size_of::<Served>() == 2 * size_of::<usize>());
 const _: () = assert!(offset_of!(Served, number) == 0);
 const _: () = assert!(offset_of!(Served, length) == size_of::<usize>());
+const _: () = assert!(size_of::<Stepped>() == 2 * size_of::<usize>());
+const _: () = assert!(offset_of!(Stepped, number) == 0);
+const _: () = assert!(offset_of!(Stepped, complete) == 1);
+const _: () = assert!(offset_of!(Stepped, length) == size_of::<usize>());
 
 // Bytes.
 

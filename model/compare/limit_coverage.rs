@@ -189,7 +189,7 @@ fn can_keep(limit: u8, kind: u8) -> bool {
 }
 
 /// What can be counted: its name, whether it can occur, and its count.
-type Class = (String, bool, u64);
+pub type Class = (String, bool, u64);
 
 impl Counts {
     fn classes(&self, of: &Calls, limit: u8) -> Vec<Class> {

@@ -1,6 +1,8 @@
 //! Compares the linked library with the model, by a seed: run, rewriter, house order, panel.
 
 mod calls;
+mod complete_coverage;
+mod complete_groups;
 mod coverage;
 mod draft;
 mod generate;
@@ -32,7 +34,9 @@ use generate::GROUPS;
 use lend::Lent;
 use limit_coverage::{is_bad, Raised, CALL_LIMITS};
 use machine::{Answer, DONE, HOOK_LIMIT, LIMITS};
-use model::{history, machine, order, order_pieces, panel, pieces, raw_state, rewrite};
+use model::{
+    history, machine, order, order_pieces, panel, panel_pieces, pieces, raw_state, rewrite, walk,
+};
 use order_calls::Orderer;
 use panel_calls::Panel;
 use std::process::exit;

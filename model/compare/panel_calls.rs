@@ -7,10 +7,12 @@ use crate::machine::*;
 use crate::panel::{list_carriers, step_first};
 use crate::panel_coverage::{Event, PanelCoverage, Service, Source};
 use crate::raw_state::*;
+use crate::walk::{complete_by_walk, walk};
 use crate::{fail, show};
+use std::fmt::Debug;
 
 extern "C" {
-    fn knitout_step(state: *mut RawState, bytes: *const u8, length: usize) -> Served;
+    fn knitout_step(state: *mut RawState, bytes: *const u8, length: usize) -> Stepped;
     fn knitout_carriers(state: *const RawState, list: *mut RawCarrier, count: usize) -> Served;
 }
 
@@ -29,14 +31,14 @@ pub struct Panel {
     list: Lent,
 }
 
-/// What a compared call was made on, for a report.
-struct Call<'a> {
+/// What a compared call was made on and what it answered, for a report.
+struct Call<'a, A> {
     service: &'a str,
     from: &'a str,
     before: &'a RawState,
     bytes: &'a [u8],
-    expected: Served,
-    given: Served,
+    expected: A,
+    given: A,
 }
 
 impl Panel {
@@ -77,7 +79,7 @@ impl Panel {
         program: &[u8],
         place: usize,
         from: &str,
-    ) -> Served {
+    ) -> Stepped {
         // SAFETY: the place is in the lent program or just behind it.
         let at = unsafe { self.program.at().add(place) };
         self.step_at(Source::Reached, state, &program[place..], at, from)
@@ -90,21 +92,21 @@ impl Panel {
         state: &mut RawState,
         bytes: &[u8],
         from: &str,
-    ) -> Served {
+    ) -> Stepped {
         let behind = behind(&mut self.random);
         let odd = usize::from(behind > 0 && self.random.percent(50));
         let lent = self.bytes.lend(bytes, behind - odd);
         let null = bytes.is_empty() && self.random.percent(50);
         let at = if null { std::ptr::null_mut() } else { lent };
-        let served = self.step_at(source, state, bytes, at, from);
-        let just = served.number == DONE && served.length == bytes.len();
+        let stepped = self.step_at(source, state, bytes, at, from);
+        let just = stepped.number == DONE && stepped.length == bytes.len();
         self.coverage.note(Event::StepGuarded, just && behind == 0);
         self.coverage.note(Event::StepNull, null);
         if self.bytes.bytes() != bytes || !self.bytes.marks_stand() {
             show("bytes", bytes);
             fail("the library's step writes to its bytes or around them");
         }
-        served
+        stepped
     }
 
     fn step_at(
@@ -114,26 +116,10 @@ impl Panel {
         bytes: &[u8],
         at: *const u8,
         from: &str,
-    ) -> Served {
+    ) -> Stepped {
         let before = state.clone();
         let expected = step_first(state, bytes);
-        let accepted = expected.number == DONE;
-        let lent = self.state.at().cast::<RawState>();
-        // SAFETY: the state is readable, writable if the step must be done, and ends an even number
-        // of bytes before a page's end; the bytes are readable for their length.
-        let make = || unsafe { knitout_step(lent, at, bytes.len()) };
-        let read_only = self.random.below(READ_ONLY_EVERY) == 0;
-        let locked = !accepted && self.random.below(REFUSED_READ_ONLY_EVERY) == 0;
-        let given = match (read_only, locked) {
-            (_, true) => self.state.read_only(make),
-            (true, _) => self.bytes.read_only(|| self.program.read_only(make)),
-            _ => make(),
-        };
-        self.coverage
-            .note(Event::StepReadOnly, read_only && accepted);
-        if locked {
-            self.coverage.locked(Service::Step, expected.number);
-        }
+        let given = self.given_step(at, bytes.len(), expected.number);
         let call = Call {
             service: "step",
             from,
@@ -145,13 +131,55 @@ impl Panel {
         self.compare_state(&call, state);
         self.coverage
             .step(source, [&before, state], bytes, expected);
+        if expected.number != FOUL_STATE {
+            self.walk(state, expected.complete == 1);
+        }
         expected
     }
 
+    /// The library's answer to a step that must give a number.
+    fn given_step(&mut self, at: *const u8, length: usize, number: u8) -> Stepped {
+        let accepted = number == DONE;
+        let lent = self.state.at().cast::<RawState>();
+        // SAFETY: the state is readable, writable if the step must be done, and ends an even number
+        // of bytes before a page's end; the bytes are readable for their length.
+        let make = || unsafe { knitout_step(lent, at, length) };
+        let read_only = self.random.below(READ_ONLY_EVERY) == 0;
+        let locked = !accepted && self.random.below(REFUSED_READ_ONLY_EVERY) == 0;
+        let given = match (read_only, locked) {
+            (_, true) => self.state.read_only(make),
+            (true, _) => self.bytes.read_only(|| self.program.read_only(make)),
+            _ => make(),
+        };
+        self.coverage
+            .note(Event::StepReadOnly, read_only && accepted);
+        if locked {
+            self.coverage.locked(Service::Step, number);
+        }
+        given
+    }
+
+    /// The model's walk on the state that a step leaves: it ends at the first loop, and tells with
+    /// racking and carriers what complete is.
+    fn walk(&mut self, left: &RawState, complete: bool) {
+        let state = left.state();
+        let walk = walk(&state);
+        let first = left.loops.iter().position(|&count| count > 0);
+        let ends = match first {
+            Some(hook) => !walk.none && walk.looked_at == hook + 1,
+            None => walk.none && walk.looked_at == HOOKS,
+        };
+        if !ends || complete_by_walk(&state) != complete {
+            show("state", &state_bytes(left));
+            fail("the model's walk differs from the hooks or from complete");
+        }
+        self.coverage.complete.walk(&walk);
+    }
+
     /// Compares the answer, and every byte of the lent state with what it must hold.
-    fn compare_state(&self, call: &Call, wanted: &RawState) {
+    fn compare_state<A: PartialEq + Debug>(&self, call: &Call<A>, wanted: &RawState) {
         if call.given != call.expected {
-            differ(call, "number or length");
+            differ(call, "the answer");
         }
         let found = state_of(self.state.bytes());
         if let Some(what) = state_difference(wanted, &found) {
@@ -213,7 +241,7 @@ impl Panel {
         at: *mut RawCarrier,
         guarded: bool,
         from: &'a str,
-    ) -> Call<'a> {
+    ) -> Call<'a, Served> {
         let expected = list_carriers(state, entries);
         let accepted = expected.number == DONE;
         let lent = self.state.at().cast::<RawState>();
@@ -257,11 +285,10 @@ fn list_difference(wanted: &[u8], found: &[u8]) -> Option<String> {
 }
 
 /// What differs is told with the model's value first.
-fn differ(call: &Call, what: &str) -> ! {
+fn differ<A: Debug>(call: &Call<A>, what: &str) -> ! {
     println!("panel's {}, {}: {what}", call.service, call.from);
-    for (name, served) in [("model", call.expected), ("library", call.given)] {
-        println!("{name}: number {} length {}", served.number, served.length);
-    }
+    println!("model: {:?}", call.expected);
+    println!("library: {:?}", call.given);
     show("state before", &state_bytes(call.before));
     show("bytes", call.bytes);
     fail("a panel service of the library differs from the model")

@@ -1,6 +1,7 @@
 //! What the compared panel calls came to: numbers, kinds, changed values, slices, lengths of lists.
 
 use crate::by_number;
+use crate::complete_coverage::CompleteCoverage;
 use crate::coverage::{events, KIND_COUNT, KIND_NAMES, NUMBERS};
 use crate::limit_coverage::{is_bad, LimitCoverage, LIST, STEP};
 use crate::machine::*;
@@ -44,7 +45,7 @@ pub enum Source {
     Made,
 }
 
-const SOURCES: [&str; 2] = ["reached state", "made state"];
+pub const SOURCES: [&str; 2] = ["reached state", "made state"];
 
 #[derive(Clone, Copy)]
 pub enum Service {
@@ -90,6 +91,7 @@ pub struct PanelCoverage {
     locked: [[u64; NUMBERS]; 2],
     plated: PlatedCoverage,
     limits: [LimitCoverage; 2],
+    pub complete: CompleteCoverage,
     changes: [Changes; 2],
     counts: [[u64; NUMBERS]; MOST_COUNT + 1],
     events: [u64; EVENTS.len()],
@@ -109,6 +111,7 @@ impl PanelCoverage {
             locked: [[0; NUMBERS]; 2],
             plated: PlatedCoverage::new(),
             limits: [LimitCoverage::new(STEP), LimitCoverage::new(LIST)],
+            complete: CompleteCoverage::new(),
             changes: [0; 2].map(|_| Changes {
                 rackings: [0; 256],
                 limits: [0; 256],
@@ -125,20 +128,21 @@ impl PanelCoverage {
         self.events[event as usize] += u64::from(happened);
     }
 
-    pub fn step(&mut self, source: Source, states: [&RawState; 2], bytes: &[u8], served: Served) {
-        self.steps[source as usize][usize::from(served.number)] += 1;
-        self.limit(Service::Step, states[0], served.number);
-        if served.number != FOUL_STATE {
+    pub fn step(&mut self, source: Source, states: [&RawState; 2], bytes: &[u8], given: Stepped) {
+        self.steps[source as usize][usize::from(given.number)] += 1;
+        self.limit(Service::Step, states[0], given.number);
+        self.complete.step(source, states, bytes, given);
+        if given.number != FOUL_STATE {
             let before = states[0].state();
-            self.limits[0].record(&before, bytes, served.number);
+            self.limits[0].record(&before, bytes, given.number);
             if before.limit == HOOK_LIMIT {
-                self.plated.record(&before, bytes, served.number);
+                self.plated.record(&before, bytes, given.number);
             }
         }
-        if served.number == DONE {
+        if given.number == DONE {
             self.kinds[source as usize][usize::from(bytes[0])] += 1;
-            self.accepted(states, &bytes[..served.length]);
-            self.note(Event::StepFollowed, bytes.len() > served.length);
+            self.accepted(states, &bytes[..given.length]);
+            self.note(Event::StepFollowed, bytes.len() > given.length);
             self.note(Event::StepWide, bytes.len() >= 256);
             self.note(Event::StepWidest, bytes.len() >= 65_536);
         }
@@ -232,7 +236,7 @@ impl PanelCoverage {
 
 // What is missing.
 
-const FIELD_NAMES: [&str; 5] = ["active", "side", "slot", "bed", "needle"];
+pub const FIELD_NAMES: [&str; 5] = ["active", "side", "slot", "bed", "needle"];
 const STATUS_NAMES: [&str; 3] = ["inactive", "unattached", "attached"];
 const OUTCOMES: [&str; 2] = ["in range", "foul"];
 
@@ -265,13 +269,14 @@ impl PanelCoverage {
         }
         missing.extend(self.plated.missing("step"));
         missing.extend(self.limits.iter().flat_map(LimitCoverage::missing));
+        missing.extend(self.complete.missing());
         missing
     }
 
     /// The names of counts that are not zero, of what cannot occur.
     pub fn impossible(&self) -> Vec<String> {
-        let limits = self.limits.iter();
-        limits.flat_map(LimitCoverage::impossible).collect()
+        let limits = self.limits.iter().flat_map(LimitCoverage::impossible);
+        limits.chain(self.complete.impossible()).collect()
     }
 
     fn missing_numbers(&self, missing: &mut Vec<String>) {
@@ -405,6 +410,7 @@ impl PanelCoverage {
         let (steps, cells) = numbers(&self.steps);
         let reached: u64 = self.steps[0].iter().sum();
         println!("panel: {steps} steps agree, {reached} of them on reached states; {cells}");
+        self.complete.print();
         self.plated.print("step");
         self.limits.iter().for_each(LimitCoverage::print);
         let (lists, cells) = numbers(&self.lists);

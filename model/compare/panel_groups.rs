@@ -1,5 +1,6 @@
 //! The groups of panel calls: programs record by record, foul and random states, carrier lists.
 
+use crate::complete_groups;
 use crate::draft::{add_bytes, Draft, Random};
 use crate::generate::{self, add_racks_and_drops};
 use crate::limit_coverage::{is_bad, BAD_LIMITS, CALL_LIMITS};
@@ -27,6 +28,7 @@ pub fn compare(panel: &mut Panel, seed: u64) {
     random_states(&mut random, panel);
     several_values(&mut random, panel);
     lists(&mut random, panel);
+    complete_groups::compare(panel, seed);
 }
 
 /// Any length of list, mostly ten or a little more.
@@ -96,29 +98,37 @@ fn program_round(
 
 /// Steps one lent state through a program from the empty one at a limit; the end must be the
 /// library's run's and the model's.
-fn step_all(random: &mut Random, panel: &mut Panel, limit: u8, program: &[u8], from: &str) {
+pub fn step_all(random: &mut Random, panel: &mut Panel, limit: u8, program: &[u8], from: &str) {
     let mut state = RawState::empty(limit);
     panel.lend_state(&state);
     panel.lend_program(program);
-    let (mut number, mut place) = (DONE, 0);
+    let (mut number, mut place, mut complete) = (DONE, 0, 1);
     while number == DONE && place < program.len() {
         let refused = random.percent(15) && step_refused(random, panel, &mut state, program, place);
         if random.percent(3) {
             let count = any_count(random);
             panel.list(Source::Reached, &state, count, from);
         }
-        let served = step_next(random, panel, &mut state, program, place, from);
-        number = served.number;
-        place += served.length;
+        let stepped = step_next(random, panel, &mut state, program, place, from);
+        (number, complete) = (stepped.number, stepped.complete);
+        place += stepped.length;
         panel
             .coverage
             .note(Event::WentOn, refused && number == DONE);
     }
-    let place = if number == DONE { 0 } else { place };
     let end = run_records(limit, program, |_, _, _| {});
-    if (end.number, end.place) != (number, place) || RawState::of(&end.state) != state {
+    let place = if number == DONE { 0 } else { place };
+    let ended = (end.number, end.place, u8::from(end.complete()));
+    if ended != (number, place, complete) || RawState::of(&end.state) != state {
         fail("the model's step differs from its run");
     }
+    stepped_to_end(panel, limit, program, (number, place));
+    let count = any_count(random);
+    panel.list(Source::Reached, &state, count, from);
+}
+
+/// Compares the end of a program's steps with the library's run.
+fn stepped_to_end(panel: &mut Panel, limit: u8, program: &[u8], (number, place): (u8, usize)) {
     let over = program.len() > PROGRAM_LIMIT;
     panel
         .coverage
@@ -135,8 +145,6 @@ fn step_all(random: &mut Random, panel: &mut Panel, limit: u8, program: &[u8], f
     if !panel.program_stands(program) {
         fail("the library's step writes to a program or around it");
     }
-    let count = any_count(random);
-    panel.list(Source::Reached, &state, count, from);
 }
 
 /// One step by the record at a place: the rest in place, or a copy of the record alone, with some
@@ -148,7 +156,7 @@ fn step_next(
     program: &[u8],
     place: usize,
     from: &str,
-) -> Served {
+) -> Stepped {
     let rest = &program[place..];
     let needed = record_length(rest[0]);
     let mut bytes = rest[..needed.min(rest.len())].to_vec();

@@ -5,6 +5,8 @@ pub mod machine;
 pub mod order;
 pub mod order_pieces;
 pub mod panel;
+pub mod panel_pieces;
 pub mod pieces;
 pub mod raw_state;
 pub mod rewrite;
+pub mod walk;

@@ -153,9 +153,8 @@ impl Answer {
         Answer::not_run(HOOK_LIMIT, FOUL_STATE)
     }
 
-    /// "The empty state has the limit given, and complete compares against that" (02, W2).
     pub fn complete(&self) -> bool {
-        self.state == State::empty(self.state.limit)
+        self.state.complete()
     }
 
     /// The answer as the C entries give it.
@@ -212,6 +211,11 @@ impl State {
             limit,
             carriers: [None; CARRIERS],
         }
+    }
+
+    /// "The empty state has the limit given, and complete compares against that" (02, W2).
+    pub fn complete(&self) -> bool {
+        *self == State::empty(self.limit)
     }
 
     pub fn column(&self, needle: Needle) -> i32 {

@@ -31,11 +31,20 @@ pub struct RawState {
     pub carriers: [RawCarrier; CARRIERS],
 }
 
-/// The answer of a panel service.
+/// The answer of the carrier list.
 #[repr(C)]
 #[derive(Clone, Copy, PartialEq, Eq, Debug)]
 pub struct Served {
     pub number: u8,
+    pub length: usize,
+}
+
+/// The answer of the step: "The one-record step now gives it too" (02, W4), complete as 1 or 0.
+#[repr(C)]
+#[derive(Clone, Copy, PartialEq, Eq, Debug)]
+pub struct Stepped {
+    pub number: u8,
+    pub complete: u8,
     pub length: usize,
 }
 

@@ -1,21 +1,28 @@
 -- The layout of the structs that cross into C, as the library's memory has it: the sizes and offsets that include/banthewig.h asserts for the
 -- same fields. Assumes nothing.
 use Prim.Native.Nat.{ℕ}
-use mathlib.Core.Path.{_≡_, refl}
+use mathlib.Core.Path.{_≡_, refl, sym, _∙_}
 use mathlib.Core.Option.{some}
-use mathlib.Core.List.{[], _∷_}
+use mathlib.Core.List.{List, [], _∷_}
+use lib.ListN.{length, length-map}
 use mir.Syntax.{Ty, tyInt, tyArray, w8, w16, w64}
-use mir.Val.{vint, vstruct, ofList, ofZ}
+use mir.Val.{Val, vint, vstruct, ofList, ofZ}
 use prog.Memory.{size, align, fieldOf}
 use denote.Struct.Laws as LL
+use denote.Laws.{Is}
 use Rattle.machine.specs.declared.Carrier.{Carrier}
+use Rattle.machine.specs.declared.State.{State}
+use Rattle.machine.proofs.State as T
 use Rattle.machine.proofs.Carrier as Entry
+use Rattle.panel.specs.declared.Stepped.{Stepped}
+use Rattle.panel.proofs.Stepped as Answer
 use Rattle.machine.proofs.Slot.Laws as slot
 use Rattle.machine.proofs.Needle.Laws as needle
 use Rattle.machine.proofs.Racking.Laws as racking
 use Rattle.machine.proofs.Carrier.Laws as carrier
 use Rattle.machine.proofs.State.Laws as state
 use Rattle.panel.proofs.Served.Laws as served
+use Rattle.panel.proofs.Stepped.Laws as stepped
 
 -- a struct's size and alignment; field k, of a type, begins so many bytes from the front
 pub record Laid (τ : Ty) (bytes boundary : ℕ) : Type 0 where
@@ -58,9 +65,26 @@ state-laid = record { size-is = refl; align-is = refl }
 pub state-fields : FieldAt state.mir 0 racking.mir 0 × FieldAt state.mir 1 (tyArray (tyInt w8) 500) 1 × FieldAt state.mir 2 (tyInt w8) 501 × FieldAt state.mir 3 (tyArray carrier.mir 10) 502
 state-fields = (refl, refl, refl, refl)
 
--- a service's answer: number, length
+-- the list's answer: number, length
 pub served-laid : Laid served.mir 16 8
 served-laid = record { size-is = refl; align-is = refl }
 
 pub served-fields : FieldAt served.mir 0 (tyInt w8) 0 × FieldAt served.mir 1 (tyInt w64) 8
 served-fields = (refl, refl)
+
+-- the step's: number, complete, length
+pub stepped-laid : Laid stepped.mir 16 8
+stepped-laid = record { size-is = refl; align-is = refl }
+
+pub stepped-fields : FieldAt stepped.mir 0 (tyInt w8) 0 × FieldAt stepped.mir 1 (tyInt w8) 1 × FieldAt stepped.mir 2 (tyInt w64) 8
+stepped-fields = (refl, refl, refl)
+
+-- which of the two bytes is which
+pub stepped-order : (a : Stepped) → LL.val Answer.the-type stepped.the-laws a ≡ vstruct (ofList (vint w8 (a .number) ∷ vint w8 (a .complete) ∷ vint w64 (a .length) ∷ []))
+stepped-order a = refl
+
+-- every state in memory has 500 hooks and ten carriers, whatever its bytes
+pub state-lengths : (s : State) (vs : List Val) → Is T.the-row s vs → (length (s .loops) ≡ 500) × (length (s .carriers) ≡ 10)
+state-lengths s vs is =
+    let o = LL.owed T.the-type state.the-laws s vs is in
+    (sym (length-map (s .loops) _) ∙ o .1 .0 .1 .0 .1, sym (length-map (s .carriers) (Entry.the-type .to)) ∙ o .1 .1 .1 .0 .1 .0 .1)

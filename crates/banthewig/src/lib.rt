@@ -94,11 +94,12 @@ pub extern "C" fn knitout_order(program: &[u8], output: &mut [u8], work: &mut [u
     knitout_order_at(machine::State::LIMIT_MOST, program, output, work)
 }
 
-// Makes the step of the first record of a slice on a lent state: number, and the record's length. A refused call stores
-// nothing.
+// Makes the step of the first record of a slice on a lent state: number, whether the state it leaves is the empty one at its
+// limit (1 or 0; 0 after 15), and the record's length. A refused call stores nothing.
 #[no_mangle]
-pub extern "C" fn knitout_step(state: &mut machine::State, bytes: &[u8]) -> panel::Served
+pub extern "C" fn knitout_step(state: &mut machine::State, bytes: &[u8]) -> panel::Stepped
     ensures { λ r. ⌜ (r .number ≡ panelStep (now (state .entry)) (now (bytes .entry)) .number)
+        × (r .complete ≡ panelStep (now (state .entry)) (now (bytes .entry)) .complete)
         × (r .length ≡ panelStep (now (state .entry)) (now (bytes .entry)) .length)
         × (now (state .exit) ≡ panelStep (now (state .entry)) (now (bytes .entry)) .state) ⌝ }
 {
@@ -106,8 +107,9 @@ pub extern "C" fn knitout_step(state: &mut machine::State, bytes: &[u8]) -> pane
     if out.number == 0 {
         *state = out.state;
     }
-    panel::Served {
+    panel::Stepped {
         number: out.number,
+        complete: out.complete,
         length: out.length,
     }
 }

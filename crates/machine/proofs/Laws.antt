@@ -11,7 +11,7 @@ use lib.Dec.{eqb, leb, ltb}
 use lib.ListN.{getD, length, drop, replicate}
 use lib.Seq.{drop-cons, drop-length}
 use native.Mathlib.Numerals.{add-one}
-use borrow.Author.Tests.{eqb-true, eqb-false, not-true, ltb-true, ltb-false, leb-true, le-leb, lt-leb}
+use borrow.Author.Tests.{eqb-true, not-true, ltb-true, ltb-false, leb-true, le-leb}
 use Rattle.machine.specs.declared.Needle.{Needle}
 use Rattle.machine.specs.declared.Carrier.{Carrier}
 use Rattle.machine.specs.declared.State.{State}
@@ -21,8 +21,9 @@ use mir.Syntax.{w16, w32, w64}
 use mir.Val.{SFits, toZ, ofZ}
 use mir.Facts.{toZ-ofZ}
 use Rattle.machine.specs.Geometry.{columnOf, eqZ}
-use Rattle.machine.specs.Machine.{OnBed, sameNeedle, all, attachedAt, movedTo, noLoops, inactive, inactiveCarrier, emptyState, completeOf}
+use Rattle.machine.specs.Machine.{OnBed, sameNeedle, all, attachedAt, movedTo, noLoops, inactive, inactiveCarrier, allInactive, emptyState, completeOf}
 use Rattle.machine.specs.Range.{slotOk}
+use Rattle.machine.specs.Looks.{bedsEmpty}
 use Rattle.machine.proofs.Signed.{mag-sum, eqZ-true, back, fits, fits-sum, fits-difference, cast-back}
 
 -- how far a column reaches
@@ -133,6 +134,12 @@ same-parts : (z : ℤ) (l : List ℕ) (n : ℕ) (k : List Carrier) → z ≡ pos
 unfolding emptyState
 same-parts z l n k p q r = simp (p, q, r)
 
+-- complete: the beds, then the carriers
+pub complete-by : (s : State) {t : Bool} → bedsEmpty (s .racking) (s .loops) ≡ t → (t && allInactive (s .carriers)) ≡ completeOf s
+unfolding completeOf
+complete-by s e =
+    sym (sym (and-assoc (eqZ (s .racking .0) (pos 0)) (noLoops (s .loops)) (allInactive (s .carriers))) ∙ ap (λ (t : Bool). t && allInactive (s .carriers)) e)
+
 -- complete is true exactly of the empty state at the state's own limit
 pub complete-is-empty : (s : State) → length (s .loops) ≡ 500 → length (s .carriers) ≡ 10 → completeOf s ≡ true → s ≡ emptyState (s .limit)
 unfolding completeOf
@@ -152,16 +159,6 @@ pub slot-in : (z : ℤ) → slotOk z ≡ (leZ (negsuc 7) z && leZ z (pos 258))
 unfolding slotOk
 slot-in (pos n) = refl
 slot-in (negsuc n) = sym (and-true (leb n 7))
-
--- none: at most 0
-pub none-leb : (n : ℕ) → eqb n 0 ≡ leb n 0
-none-leb n = cases (eqb n 0) (λ e. simp (eqb-true n 0 e)) (λ e. e ∙ sym (lt-leb n 0 (omega (arith, eqb-false n 0 e))))
-
--- no loop on any hook: none over 0
-pub none-over : (l : List ℕ) → all (λ (n : ℕ). eqb n 0) l ≡ all (λ (n : ℕ). leb n 0) l
-unfolding all
-none-over [] = refl
-none-over (n ∷ l) = simp (none-leb n, none-over l)
 
 -- the larger of two is at most b exactly if both are
 larger-leb : (b a v : ℕ) → leb (cond (ltb a v) v a) b ≡ (leb a b && leb v b)

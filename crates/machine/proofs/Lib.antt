@@ -3,3 +3,4 @@ pub mod Signed
 pub mod Lists
 pub mod Laws
 pub mod Ranges
+pub mod Walks

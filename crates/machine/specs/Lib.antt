@@ -3,4 +3,5 @@ pub mod Limits
 pub mod Machine
 pub mod Geometry
 pub mod Range
+pub mod Walk
 pub mod Looks

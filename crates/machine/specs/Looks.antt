@@ -1,17 +1,28 @@
 -- What the code's small looks at a state promise. Theorems need them, a reader of document 01 does not.
 use Prim.Native.Nat.{ℕ}
 use mathlib.Core.Path.{_≡_}
-use mathlib.Core.Bool.{Bool, not, cond}
+use mathlib.Core.Bool.{Bool, _&&_, not, cond}
 use mathlib.Core.List.{List}
+use lib.IntN.{pos}
 use lib.Dec.{eqb, leb}
 use Rattle.machine.specs.declared.Needle.{Needle}
+use Rattle.machine.specs.declared.Racking.{Racking}
 use Rattle.machine.specs.declared.Carrier.{Carrier}
-use Rattle.machine.specs.Machine.{all, inactiveCarrier}
-use Rattle.machine.specs.Range.{carrierOk}
+use Rattle.machine.specs.Geometry.{eqZ}
+use Rattle.machine.specs.Machine.{all, noLoops, inactiveCarrier}
+use Rattle.machine.specs.Range.{slotOk, attachmentOk, carrierOk}
 
 -- the largest of a list, 0 of none: it is at most b exactly if every element is
 abbrev pub Most : List ℕ → ℕ → Type 0
 Most l m = (b : ℕ) → all (λ (n : ℕ). leb n b) l ≡ leb m b
+
+-- whether racking and loops are an empty state's
+abbrev pub bedsEmpty : Racking → List ℕ → Bool
+bedsEmpty r l = eqZ (r .0) (pos 0) && noLoops l
+
+-- a parked carrier's slot and attachment in range
+abbrev pub parkedOk : Carrier → Bool
+parkedOk c = slotOk (c .slot .0) && attachmentOk c
 
 -- whether a carrier is the inactive one, or else, whether it is in range
 abbrev pub carrierPasses : Bool → Carrier → Bool

@@ -28,9 +28,12 @@ inactive = record { active = 0; side = 0; slot = record { 0 = pos 0 }; needle = 
 unfoldable pub emptyState : ℕ → State
 emptyState limit = record { racking = record { 0 = pos 0 }; loops = replicate hookCount 0; limit = limit; carriers = replicate carrierCount inactive }
 
--- the state with these parts; its limit is kept
+-- the state of these parts; another with these parts, its limit kept
+abbrev pub stateWith : Racking → List ℕ → ℕ → List Carrier → State
+stateWith r l limit cs = record { racking = r; loops = l; limit = limit; carriers = cs }
+
 abbrev pub changed : State → Racking → List ℕ → List Carrier → State
-changed s r l cs = record { racking = r; loops = l; limit = s .limit; carriers = cs }
+changed s r l cs = stateWith r l (s .limit) cs
 
 -- a needle's hook among the 500, and the loops on it
 abbrev pub hookOf : Needle → ℕ
@@ -70,6 +73,6 @@ inactiveCarrier c = eqb (c .active) 0 && (eqb (c .side) 0 && (eqZ (c .slot .0) (
 abbrev pub allInactive : List Carrier → Bool
 allInactive l = all inactiveCarrier l
 
--- complete: the state is the empty one at its own limit
+-- complete: the state, of 500 hooks and ten carriers, is the empty one at its own limit
 unfoldable pub completeOf : State → Bool
 completeOf s = eqZ (s .racking .0) (pos 0) && (noLoops (s .loops) && allInactive (s .carriers))

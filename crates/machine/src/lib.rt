@@ -4,10 +4,11 @@ ghost use Prim.Native.Nat.{ℕ};
 ghost use mathlib.Core.Bool.{cond};
 ghost use mathlib.Core.List.{map};
 ghost use lib.Dec.{leb, ltb};
-ghost use Rattle.machine.specs.Machine.{OnBed, inactive, emptyState, hookOf, sameNeedle, attachedAt, movedTo, all, noLoops, inactiveCarrier, completeOf};
+ghost use Rattle.machine.specs.Machine.{OnBed, inactive, emptyState, hookOf, sameNeedle, attachedAt, movedTo, all, inactiveCarrier, completeOf};
+ghost use Rattle.machine.specs.Walk.{walkOf};
 ghost use Rattle.machine.specs.Geometry.{columnOf, entryOf, exitOf, sameColumn, withinFloat};
-ghost use Rattle.machine.specs.Looks.{Most, carrierPasses, anyBeside};
-ghost use Rattle.machine.specs.Range.{rackingOk, limitOk, slotOk, onBed, attachmentOk, carrierOk, stateOk};
+ghost use Rattle.machine.specs.Looks.{Most, bedsEmpty, parkedOk, carrierPasses, anyBeside};
+ghost use Rattle.machine.specs.Range.{rackingOk, limitOk, slotOk, onBed, attachmentOk, stateOk};
 
 // The numbers of refusals.
 pub mod numbers;
@@ -46,6 +47,12 @@ pub struct State {
     pub loops: [u8; State::HOOKS],
     pub limit: u8,
     pub carriers: [Carrier; State::CARRIERS],
+}
+
+// What a walk over the hooks found: whether none holds a loop, and how many hooks were looked at.
+pub struct Walked {
+    pub none: bool,
+    pub looked: usize,
 }
 
 impl State {
@@ -106,10 +113,7 @@ impl State {
         ensures { λ b. ⌜ b ≡ completeOf self ⌝ }
     {
         let r = self.racking;
-        if r.0 != 0 {
-            return false;
-        }
-        if !no_loops(&self.loops) {
+        if !beds_empty(r, &self.loops) {
             return false;
         }
         let cs = self.carriers;
@@ -289,16 +293,10 @@ impl Carrier {
         n.on_bed()
     }
 
-    // Whether every field is in its range, and 0 where it has no meaning.
-    fn in_range(self) -> bool
-        ensures { λ b. ⌜ b ≡ carrierOk self ⌝ }
+    // Whether a parked carrier's slot and attachment are in range.
+    fn parked_in_range(self) -> bool
+        ensures { λ b. ⌜ b ≡ parkedOk self ⌝ }
     {
-        if self.active == 0 {
-            return self.is_inactive();
-        }
-        if self.active != 1 {
-            return false;
-        }
         let z = self.slot;
         if !z.in_range() {
             return false;
@@ -306,14 +304,19 @@ impl Carrier {
         self.attachment_in_range()
     }
 
-    // Whether it is the inactive one, or else, whether it is in range.
-    fn passes(self, idle: bool) -> bool
+    // Whether it is the inactive one, or else, whether it is in range. (Its `active` is handed in as the walk reads it in the
+    // array: the compiler then tests an inactive carrier's fields as one word.)
+    fn passes(self, active: u8, idle: bool) -> bool
+        requires { ⌜ active ≡ self .active ⌝ }
         ensures { λ b. ⌜ b ≡ carrierPasses idle self ⌝ }
     {
-        if idle {
-            return self.is_inactive();
+        if active == 1 {
+            if idle {
+                return false;
+            }
+            return self.parked_in_range();
         }
-        self.in_range()
+        self.is_inactive()
     }
 
     // Whether the carrier is attached at the needle.
@@ -364,11 +367,24 @@ fn most_loops(loops: &[u8]) -> u8
     most
 }
 
-// Whether no hook holds a loop.
-fn no_loops(loops: &[u8]) -> bool
-    ensures { λ b. ⌜ b ≡ noLoops (now (loops .entry)) ⌝ }
+// The walk over the hooks, front first, upward: it ends at the first loop.
+pub fn walk(loops: &[u8]) -> Walked
+    ensures { λ w. ⌜ w ≡ walkOf (now (loops .entry)) ⌝ }
 {
-    most_loops(loops) == 0
+    let mut i = 0;
+    while i < loops.len() {
+        if loops[i] != 0 {
+            return Walked {
+                none: false,
+                looked: i + 1,
+            };
+        }
+        i += 1;
+    }
+    Walked {
+        none: true,
+        looked: i,
+    }
 }
 
 // Whether no hook holds more loops than the limit.
@@ -378,14 +394,25 @@ fn loops_in_range(loops: &[u8], limit: u8) -> bool
     most_loops(loops) <= limit
 }
 
+// Whether the beds are an empty state's: racking 0 and no loop. (Whoever has a state in parts need not copy its loops.)
+pub fn beds_empty(racking: Racking, loops: &[u8]) -> bool
+    ensures { λ b. ⌜ b ≡ bedsEmpty racking (now (loops .entry)) ⌝ }
+{
+    if racking.0 != 0 {
+        return false;
+    }
+    let w = walk(loops);
+    w.none
+}
+
 // Whether every carrier passes the one test or the other: one walk for both.
-fn carriers_pass(carriers: [Carrier; State::CARRIERS], idle: bool) -> bool
+pub fn carriers_pass(carriers: [Carrier; State::CARRIERS], idle: bool) -> bool
     ensures { λ b. ⌜ b ≡ all (carrierPasses idle) carriers ⌝ }
 {
     let mut k = 0;
     while k < State::CARRIERS {
         let c = carriers[k];
-        if !c.passes(idle) {
+        if !c.passes(carriers[k].active, idle) {
             return false;
         }
         k += 1;

@@ -3,22 +3,26 @@ use borrow.Table.Steps.{cases}
 use Prim.Native.Nat.{ℕ}
 use mathlib.Core.Path.{_≡_, refl, sym, ap, subst, _∙_}
 use mathlib.Core.Bool.{true, false}
-use mathlib.Core.List.{List}
+use mathlib.Core.List.{List, _++_}
 use native.Mathlib.Omega.{arith}
+use lib.ListN.{length, take}
+use lib.Seq.{take-append-seam}
 use Rattle.machine.specs.declared.State.{State}
 use Rattle.machine.specs.Geometry.{eqZ}
-use Rattle.machine.specs.Machine.{emptyState, all, inactiveCarrier}
+use Rattle.machine.specs.Machine.{emptyState, all, inactiveCarrier, completeOf}
 use Rattle.machine.specs.Range.{StateInRange, slotOk, attachmentOk, carrierOk, stateOk}
 use Rattle.machine.proofs.Ranges.{range-exactly}
 use Rattle.record.specs.Format.{refusedAs, decodeOf}
 use Rattle.run.specs.declared.Stepped.{Stepped}
-use Rattle.run.specs.Run.{runOf, stay, stepOf}
+use Rattle.run.specs.Relation.{Steps}
+use Rattle.run.specs.Run.{oneIf, runOf, answerOf, stay, stepOf}
 use Rattle.record.proofs.Shapes.{is}
 use Rattle.run.proofs.Refusals.{reason-other}
-use Rattle.run.proofs.Demand.{step-accepts, step-done, step-refused, step-keeps-limit, run-in-range, step-in-range}
+use Rattle.run.proofs.Demand.{final, step-accepts, step-done, step-refused, step-keeps-limit, run-in-range, step-in-range}
+use Rattle.run.proofs.Runs.{steps-on}
 use Rattle.run.proofs.Stepwise.{steps-are-the-run, steps-are-one}
 use Rattle.panel.specs.Panel.{panelStep}
-use Rattle.panel.specs.Claims.{ServiceIsStep, RunNotFoul, ServiceNotFoul, ServiceKeepsLimit, ServedAsRun, ServedOneWay}
+use Rattle.panel.specs.Claims.{ServiceIsStep, RunNotFoul, ServiceNotFoul, ServiceKeepsLimit, ServedAsRun, ServedOneWay, TellsAsRun, RefusedTellsAsRun, TellsAgain}
 use Rattle.panel.specs.Rows.{RangeRows}
 use Rattle.panel.proofs.Services.{foul-step, fine-step}
 
@@ -49,18 +53,15 @@ range-rows =
 
 -- a refused step keeps the state and gives length 0
 module _ (s : State) (l : List ℕ) where
-  stays : (a : Stepped) → a .length ≡ 0 → a .state ≡ s → a ≡ stay (a .number) s
-  stays a e f = λ i. record { number = a .number; length = e i; state = f i }
-
   pub step-keeps : (stepOf s l .number ≡ 0 → ⊥) → stepOf s l ≡ stay (stepOf s l .number) s
-  step-keeps d = let r = step-refused s l d in stays (stepOf s l) (r .length) (r .state)
+  step-keeps d = let r = step-refused s l d in λ i. record { number = stepOf s l .number; complete = r .complete i; length = r .length i; state = r .state i }
 
-  pub refused-keeps : (panelStep s l .number ≡ 0 → ⊥) → panelStep s l ≡ stay (panelStep s l .number) s
+  pub refused-keeps : (panelStep s l .number ≡ 0 → ⊥) → panelStep s l .state ≡ s
   refused-keeps d =
-      either s (λ h. subst Kept (fine-step s l (fine h)) step-keeps d) (λ e. subst Kept (foul-step s l e) (λ _. refl) d)
+      either s (λ h. subst Kept (fine-step s l (fine h)) (λ k. step-refused s l k .state) d) (λ e. subst Kept (foul-step s l e) (λ _. refl) d)
     where
       Kept : Stepped → Type 0
-      Kept a = (a .number ≡ 0 → ⊥) → a ≡ stay (a .number) s
+      Kept a = (a .number ≡ 0 → ⊥) → a .state ≡ s
 
 pub run-not-foul : RunNotFoul
 run-not-foul limit p l = not-foul (runOf limit p .state) l (run-in-range limit p)
@@ -82,10 +83,52 @@ service-keeps-limit s l =
     let (bytes, rest, x, t, whole, form, step) = step-accepts s l .0 (sym (ap (λ (a : Stepped). a .number) e) ∙ z) in
     ap (λ (a : Stepped). a .state .limit) (e ∙ ap (stepOf s) whole ∙ step-done s bytes rest x t form step) ∙ step-keeps-limit s t x step)
     (λ f. absurd (omega (arith, ap (λ (a : Stepped). a .number) (foul-step s l f), z))))
-    (λ d. ap (λ (a : Stepped). a .state .limit) (refused-keeps s l d))
+    (λ d. ap (λ (t : State). t .limit) (refused-keeps s l d))
 
 pub served-as-run : ServedAsRun
 served-as-run = steps-are-the-run panelStep service-is-step
 
 pub served-one-way : ServedOneWay
 served-one-way = steps-are-one panelStep service-is-step
+
+-- ---- behind a valid program
+pub tells-as-run : TellsAsRun
+unfolding runOf answerOf
+tells-as-run limit p bytes rest s v short z long =
+    let inside = subst StateInRange (final limit p s v .state) (run-in-range limit p) in
+    let e = service-is-step s (bytes ++ rest) inside in
+    let (own, others, x, t, whole, form, step) = step-accepts s (bytes ++ rest) .0 (sym (ap (λ (a : Stepped). a .number) e) ∙ z) in
+    let f = e ∙ ap (stepOf s) whole ∙ step-done s own others x t form step in
+    let same : own ≡ bytes =
+    sym (take-append-seam own others) ∙ ap (λ (n : ℕ). take n (own ++ others)) (sym (ap (λ (a : Stepped). a .length) f) ∙ long) ∙ ap (take (length bytes)) (sym whole) ∙ take-append-seam bytes rest in
+    let steps = subst (λ (l : List ℕ). Steps (emptyState limit) (p ++ l) t) same (steps-on (v .steps) form step) in
+    ap (λ (a : Stepped). a .complete) f
+    ∙ ap (λ (u : State). oneIf (completeOf u)) (sym (final limit (p ++ bytes) t (record { limit-in = v .limit-in; short = short; steps = steps }) .state))
+
+-- ---- refused: what is told of a state in range
+refused-tells : (s : State) (l : List ℕ) → StateInRange s → (panelStep s l .number ≡ 0 → ⊥) → panelStep s l .complete ≡ oneIf (completeOf s)
+refused-tells s l h d =
+    let e = service-is-step s l h in
+    ap (λ (a : Stepped). a .complete) e ∙ step-refused s l (λ z. d (ap (λ (a : Stepped). a .number) e ∙ z)) .complete
+
+pub refused-tells-as-run : RefusedTellsAsRun
+unfolding runOf answerOf
+refused-tells-as-run limit p l d = refused-tells (runOf limit p .state) l (run-in-range limit p) d
+
+-- of the state that a step leaves
+left-tells : (s : State) (l : List ℕ) → stepOf s l .complete ≡ oneIf (completeOf (stepOf s l .state))
+left-tells s l =
+    is (stepOf s l .number) 0
+    (λ z. let (bytes, rest, x, t, whole, form, step) = step-accepts s l .0 z in
+    let e = ap (stepOf s) whole ∙ step-done s bytes rest x t form step in
+    ap (λ (a : Stepped). a .complete) e ∙ sym (ap (λ (a : Stepped). oneIf (completeOf (a .state))) e))
+    (λ d. let r = step-refused s l d in r .complete ∙ sym (ap (λ (t : State). oneIf (completeOf t)) (r .state)))
+
+pub tells-again : TellsAgain
+tells-again s l m d k = either s fair (λ f. absurd (d (sym (ap (λ (t : Stepped). t .number) (foul-step s l f)))))
+  where
+    fair : StateInRange s → panelStep (panelStep s l .state) m .complete ≡ panelStep s l .complete
+    fair h =
+        let e = service-is-step s l h in
+        refused-tells (panelStep s l .state) m (subst (λ (t : Stepped). StateInRange (t .state)) (sym e) (step-in-range s l h)) k
+        ∙ ap (λ (a : Stepped). oneIf (completeOf (a .state))) e ∙ sym (left-tells s l) ∙ sym (ap (λ (a : Stepped). a .complete) e)

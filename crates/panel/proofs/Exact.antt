@@ -11,16 +11,20 @@ use lib.Seq.{ext-getD}
 use borrow.Author.Tests.{ltb-true, ltb-false}
 use Rattle.machine.specs.declared.Carrier.{Carrier}
 use Rattle.machine.specs.declared.State.{State}
-use Rattle.machine.specs.Machine.{inactive}
+use Rattle.machine.specs.Machine.{inactive, emptyState, completeOf}
 use Rattle.machine.specs.Range.{StateInRange, stateOk}
 use Rattle.run.specs.declared.Stepped.{Stepped}
-use Rattle.run.specs.Run.{stay, stepOf}
+use Rattle.machine.proofs.Laws.{complete-is-empty, empty-is-complete}
+use Rattle.record.specs.declared.Record.{Record}
+use Rattle.run.specs.Relation.{Step}
+use Rattle.run.specs.Run.{oneIf, stay, stepOf}
+use Rattle.run.proofs.Runs.{step-frame}
 use Rattle.run.proofs.Refusals.{first-is-one}
 use Rattle.record.proofs.Shapes.{is}
 use Rattle.run.proofs.Demand.{step-accepts, step-done, step-refused}
 use Rattle.panel.specs.declared.Served.{Served}
 use Rattle.panel.specs.Panel.{panelStep, listAnswer, carrierList}
-use Rattle.panel.specs.Exact.{Serves, StepExactly, Listed, Lists, ListExactly}
+use Rattle.panel.specs.Exact.{Tells, Serves, StepExactly, Listed, Lists, ListExactly}
 use Rattle.panel.proofs.Services.{foul-step, foul-list, short-list, long-list, list-number}
 use Rattle.panel.proofs.Filled.{list-long, list-kept, list-written, long-written, rest-written}
 use Rattle.panel.proofs.Demand.{fine, either, service-is-step, step-keeps}
@@ -32,7 +36,29 @@ not-in-range : {s : State} → stateOk s ≡ false → StateInRange s → ⊥
 not-in-range e h = true≢false (sym (fine h) ∙ e)
 
 -- ---- the step
-module _ (s : State) (l : List ℕ) where
+-- whether a state is complete, as a step tells it
+module _ (t : State) (hooks : length (t .loops) ≡ 500) (ten : length (t .carriers) ≡ 10) where
+  emptied : t ≡ emptyState (t .limit) → completeOf t ≡ true
+  emptied e = ap completeOf e ∙ empty-is-complete (t .limit)
+
+  tells : Tells t (oneIf (completeOf t))
+  tells =
+      cases (completeOf t) (λ e. subst (Tells t) (ap oneIf (sym e)) (Tells.complete (complete-is-empty t hooks ten e)))
+      (λ e. subst (Tells t) (ap oneIf (sym e)) (Tells.incomplete (λ f. true≢false (sym (emptied f) ∙ e))))
+
+  tells-one : {c : ℕ} → Tells t c → oneIf (completeOf t) ≡ c
+  tells-one (Tells.complete e) = ap oneIf (emptied e)
+  tells-one (Tells.incomplete d) = cases (completeOf t) (λ e. absurd (d (complete-is-empty t hooks ten e))) (λ e. ap oneIf e)
+
+module _ (s : State) (l : List ℕ) (hooks : length (s .loops) ≡ 500) (ten : length (s .carriers) ≡ 10) where
+  -- the state after a step has as many
+  module _ {t : State} {x : Record} (step : Step s x t) where
+    tells-after : Tells t (oneIf (completeOf t))
+    tells-after = let f = step-frame step in tells t (f .loops ∙ hooks) (f .carriers ∙ ten)
+
+    after-one : {c : ℕ} → Tells t c → oneIf (completeOf t) ≡ c
+    after-one = let f = step-frame step in tells-one t (f .loops ∙ hooks) (f .carriers ∙ ten)
+
   served : Serves s l (panelStep s l)
   served = either s fair (λ e. subst (Serves s l) (foul-step s l e) (Serves.foul (not-in-range e)))
     where
@@ -42,22 +68,26 @@ module _ (s : State) (l : List ℕ) where
           accepted : stepOf s l .number ≡ 0 → Serves s l (stepOf s l)
           accepted e =
               let (bytes, rest, x, t, whole, form, step) = step-accepts s l .0 e in
-              subst (Serves s l) (sym (ap (stepOf s) whole ∙ step-done s bytes rest x t form step)) (Serves.done h bytes rest x t whole form step)
+              subst (Serves s l) (sym (ap (stepOf s) whole ∙ step-done s bytes rest x t form step)) (Serves.done h bytes rest x t whole form step _ (tells-after step))
 
           kept : (stepOf s l .number ≡ 0 → ⊥) → Serves s l (stepOf s l)
-          kept d = let r = step-refused s l d in subst (Serves s l) (sym (step-keeps s l d)) (Serves.refused h (r .no-step) (stepOf s l .number) (r .first))
+          kept d = let r = step-refused s l d in
+              subst (Serves s l) (sym (step-keeps s l d)) (Serves.refused h (r .no-step) (stepOf s l .number) (r .first) _ (tells s hooks ten))
 
   serves-one : {a : Stepped} → Serves s l a → panelStep s l ≡ a
   serves-one (Serves.foul h) = sym (foul-step s l (not-ok h))
-  serves-one (Serves.done h bytes rest x t whole form step) = service-is-step s l h ∙ ap (stepOf s) whole ∙ step-done s bytes rest x t form step
-  serves-one (Serves.refused h none n first) =
+  serves-one (Serves.done h bytes rest x t whole form step c told) =
+      service-is-step s l h ∙ ap (stepOf s) whole ∙ step-done s bytes rest x t form step
+      ∙ ap (λ (n : ℕ). record { number = 0; complete = n; length = length bytes; state = t }) (after-one step told)
+  serves-one (Serves.refused h none n first c told) =
       service-is-step s l h ∙ step-keeps s l refused ∙ ap (λ (m : ℕ). stay m s) (first-is-one (step-refused s l refused .first) first)
+      ∙ ap (λ (m : ℕ). record { number = n; complete = m; length = 0; state = s }) (tells-one s hooks ten told)
     where
       refused : stepOf s l .number ≡ 0 → ⊥
       refused e = let (bytes, rest, x, t, whole, form, step) = step-accepts s l .0 e in none bytes rest x t whole form step
 
 pub step-exactly : StepExactly
-step-exactly s l a = ((λ e. subst (Serves s l) e (served s l)), serves-one s l)
+step-exactly s l a hooks ten = ((λ e. subst (Serves s l) e (served s l hooks ten)), serves-one s l hooks ten)
 
 -- ---- the carrier list
 module _ (s : State) (list : List Carrier) where

@@ -6,12 +6,12 @@ use mathlib.Core.List.{List}
 use borrow.Author.Tests.{lt-ltb, le-ltb}
 use Rattle.machine.specs.declared.State.{State}
 use Rattle.machine.specs.Range.{stateOk}
-use Rattle.run.specs.Run.{stay, stepOf}
+use Rattle.run.specs.Run.{stepOf}
 use Rattle.panel.specs.declared.Served.{Served}
-use Rattle.panel.specs.Panel.{panelStep, listAnswer}
+use Rattle.panel.specs.Panel.{fouled, panelStep, listAnswer}
 
 module _ (s : State) (l : List ℕ) where
-  pub foul-step : stateOk s ≡ false → stay 15 s ≡ panelStep s l
+  pub foul-step : stateOk s ≡ false → fouled s ≡ panelStep s l
   unfolding panelStep
   foul-step e = simp e
 

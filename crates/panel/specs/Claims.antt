@@ -1,10 +1,14 @@
--- What is claimed of the panel's step besides what each call gives: that it is the run's step, and that 15 tells of a fault.
-use Prim.Native.Nat.{ℕ}
+-- What is claimed of the panel's step besides what each call gives: that it is the run's step, that it tells after each record what the run so far tells, and
+-- that 15 tells of a fault.
+use Prim.Native.Nat.{ℕ, _≤_}
 use mathlib.Core.Path.{_≡_}
-use mathlib.Core.List.{List}
+use mathlib.Core.List.{List, _++_}
+use lib.ListN.{length}
 use Rattle.machine.specs.declared.State.{State}
+use Rattle.machine.specs.Limits.{programMost}
 use Rattle.machine.specs.Range.{StateInRange}
-use Rattle.run.specs.Run.{runOf, stepOf}
+use Rattle.run.specs.Relation.{Valid}
+use Rattle.run.specs.Run.{oneIf, runOf, stepOf}
 use Rattle.run.specs.Claims.{StepsAreTheRun, StepsAreOne}
 use Rattle.panel.specs.Panel.{panelStep}
 
@@ -29,3 +33,20 @@ ServedAsRun = StepsAreTheRun panelStep
 
 abbrev pub ServedOneWay : Type 0
 ServedOneWay = StepsAreOne panelStep
+
+-- 02, W4: 'The panel needs complete after every record': behind a valid program a record that has its step tells what the run of both tells
+abbrev pub TellsAsRun : Type 0
+TellsAsRun =
+    (limit : ℕ) (p bytes rest : List ℕ) (s : State) → Valid limit p s → length (p ++ bytes) ≤ programMost
+    → panelStep s (bytes ++ rest) .number ≡ 0 → panelStep s (bytes ++ rest) .length ≡ length bytes
+    → panelStep s (bytes ++ rest) .complete ≡ oneIf (runOf limit (p ++ bytes) .complete)
+
+-- a refused one, what the run tells of the state that it ended in
+abbrev pub RefusedTellsAsRun : Type 0
+RefusedTellsAsRun = (limit : ℕ) (p l : List ℕ) → (panelStep (runOf limit p .state) l .number ≡ 0 → ⊥) → panelStep (runOf limit p .state) l .complete ≡ oneIf (runOf limit p .complete)
+
+-- 'for the state it leaves', from whatever state: what a step tells, a refused one behind it tells again
+abbrev pub TellsAgain : Type 0
+TellsAgain =
+    (s : State) (l m : List ℕ) → (panelStep s l .number ≡ 15 → ⊥) → (panelStep (panelStep s l .state) m .number ≡ 0 → ⊥)
+    → panelStep (panelStep s l .state) m .complete ≡ panelStep s l .complete

@@ -6,7 +6,8 @@ use mathlib.Core.Logic.{_↔_}
 use lib.ListN.{length, getD}
 use Rattle.machine.specs.declared.Carrier.{Carrier}
 use Rattle.machine.specs.declared.State.{State}
-use Rattle.machine.specs.Machine.{inactive, carrierOf}
+use Rattle.machine.specs.Limits.{hookCount, carrierCount}
+use Rattle.machine.specs.Machine.{emptyState, inactive, carrierOf}
 use Rattle.machine.specs.Range.{StateInRange}
 use Rattle.record.specs.declared.Record.{Record}
 use Rattle.record.specs.Format.{Encodes}
@@ -17,19 +18,26 @@ use Rattle.run.specs.Claims.{NoStep}
 use Rattle.panel.specs.declared.Served.{Served}
 use Rattle.panel.specs.Panel.{panelStep, listAnswer, carrierList}
 
--- ---- the one-record step: number, the record's length, the lent state afterwards
--- (01: '15 is looked at first, then 3 to 11', 02: 16 'after 5'; refused, it leaves its loan untouched and gives length 0)
+-- ---- the one-record step: number, complete, the record's length, the lent state afterwards
+-- 02, W4: complete 'for the state it leaves and that state's limit': 1 if that state is the empty one there, else 0
+pub data Tells (t : State) : ℕ → Type 0 where
+  complete : t ≡ emptyState (t .limit) → Tells t 1
+  incomplete : (t ≡ emptyState (t .limit) → ⊥) → Tells t 0
+
+-- 01: '15 is looked at first, then 3 to 11', 02: 16 'after 5'; refused, it leaves its loan untouched and gives length 0; 'no after 15'
 pub data Serves (s : State) (l : List ℕ) : Stepped → Type 0 where
   -- a foul state, whatever the bytes
-  foul : (StateInRange s → ⊥) → Serves s l (record { number = 15; length = 0; state = s })
+  foul : (StateInRange s → ⊥) → Serves s l (record { number = 15; complete = 0; length = 0; state = s })
   -- the bytes begin with a record that has a step
-  done : StateInRange s → (bytes rest : List ℕ) (x : Record) (t : State) → l ≡ bytes ++ rest → Encodes bytes x → Step s x t
-      → Serves s l (record { number = 0; length = length bytes; state = t })
+  done : StateInRange s → (bytes rest : List ℕ) (x : Record) (t : State) → l ≡ bytes ++ rest → Encodes bytes x → Step s x t → (c : ℕ) → Tells t c
+      → Serves s l (record { number = 0; complete = c; length = length bytes; state = t })
   -- they do not: the first reason
-  refused : StateInRange s → NoStep s l → (n : ℕ) → First n s l → Serves s l (record { number = n; length = 0; state = s })
+  refused : StateInRange s → NoStep s l → (n : ℕ) → First n s l → (c : ℕ) → Tells s c → Serves s l (record { number = n; complete = c; length = 0; state = s })
 
+-- (every state in memory has 500 hooks and ten carriers: `state-lengths` of crate banthewig; the definitions take lists of any length, and call shorter ones of
+-- nothing but 0 complete too)
 abbrev pub StepExactly : Type 0
-StepExactly = (s : State) (l : List ℕ) (a : Stepped) → (panelStep s l ≡ a) ↔ Serves s l a
+StepExactly = (s : State) (l : List ℕ) (a : Stepped) → length (s .loops) ≡ hookCount → length (s .carriers) ≡ carrierCount → (panelStep s l ≡ a) ↔ Serves s l a
 
 -- ---- the carrier list: number and length, the lent list afterwards
 -- 'the first ten become carriers 1 to 10 of a machine state handed to it, later ones keep their contents'
@@ -44,7 +52,6 @@ pub data Lists (s : State) (list : List Carrier) : Served → List Carrier → T
   short : StateInRange s → length list < 10 → Lists s list (record { number = 2; length = 0 }) list
   done : StateInRange s → 10 ≤ length list → (after : List Carrier) → Listed s list after → Lists s list (record { number = 0; length = 10 }) after
 
--- (a state in code has ten carriers; the definitions take lists of any length)
 abbrev pub ListExactly : Type 0
 ListExactly =
     (s : State) (list : List Carrier) (a : Served) (after : List Carrier) → length (s .carriers) ≡ 10

@@ -8,13 +8,17 @@ use Rattle.machine.specs.declared.Carrier.{Carrier}
 use Rattle.machine.specs.declared.State.{State}
 use Rattle.machine.specs.Range.{stateOk}
 use Rattle.run.specs.declared.Stepped.{Stepped}
-use Rattle.run.specs.Run.{stay, stepOf}
+use Rattle.run.specs.Run.{stepOf}
 use Rattle.panel.specs.declared.Served.{Served}
 
 -- ---- the one-record step
+-- a foul state is kept, and not complete whatever its values (02, W4: 'no after 15')
+abbrev pub fouled : State → Stepped
+fouled s = record { number = 15; complete = 0; length = 0; state = s }
+
 -- 15 (foul state) is looked at first, then 3 to 11 and 16 by the step that the run makes; a refused call keeps the state
 unfoldable pub panelStep : State → List ℕ → Stepped
-panelStep s l = cond (stateOk s) (stepOf s l) (stay 15 s)
+panelStep s l = cond (stateOk s) (stepOf s l) (fouled s)
 
 -- ---- the carrier list
 -- 15 first, then 2 (01: a carrier list under ten); length 10, or 0 if refused

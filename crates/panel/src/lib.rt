@@ -8,21 +8,34 @@ use machine::Carrier;
 use machine::State;
 use machine::numbers::BAD_STATE;
 use machine::numbers::NO_ROOM;
-use run::Stepped;
 
-// What a service gives besides the loan: a number, and the record's length or the entries written (0 if refused).
+// What the carrier list gives besides the loan: a number, and the entries written (0 if refused).
 #[repr(C)]
 pub struct Served {
     pub number: u8,
     pub length: usize,
 }
 
+// What the step gives besides the loan: a number, whether the state that it leaves is the empty one (1 or 0; 0 after 15),
+// and the record's length (0 if refused).
+#[repr(C)]
+pub struct Stepped {
+    pub number: u8,
+    pub complete: u8,
+    pub length: usize,
+}
+
 // The step of the first record of a slice of any length, from a state with any values.
-pub fn step(state: State, bytes: &[u8]) -> Stepped
+pub fn step(state: State, bytes: &[u8]) -> run::Stepped
     ensures { λ t. ⌜ t ≡ panelStep state (now (bytes .entry)) ⌝ }
 {
     if !state.in_range() {
-        return run::kept(BAD_STATE, state);
+        return run::Stepped {
+            number: BAD_STATE,
+            complete: 0,
+            length: 0,
+            state,
+        };
     }
     run::step(state, bytes)
 }

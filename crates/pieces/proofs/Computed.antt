@@ -31,6 +31,7 @@ use Rattle.pieces.specs.Edges.{Pair, pairs, edges}
 use Rattle.pieces.specs.Houses.{houses, firsts}
 use Rattle.pieces.specs.Pieces.{Says, Holds, front, rewritten, ordered, Leaves, Rewrites, Orders, Firsts, inForce, Ties, PiecesHold}
 use Rattle.pieces.proofs.Orders.{orders}
+use Rattle.pieces.proofs.Steps.{walks-so, steps-so, pieces-so}
 
 -- the test that is computed, and that it says so
 sameBool : Bool → Bool → Bool
@@ -182,4 +183,7 @@ pieces =
       orders,
       each Orders orderTest order-says houses orders-computed,
       each Firsts firstTest first-says firsts firsts-computed,
+      walks-so,
+      steps-so,
+      pieces-so,
     )

@@ -1,3 +1,4 @@
 -- The proof of the pieces.
 pub mod Orders
+pub mod Steps
 pub mod Computed

@@ -4,4 +4,5 @@ pub mod Rows
 pub mod Edges
 pub mod Orders
 pub mod Houses
+pub mod Steps
 pub mod Pieces

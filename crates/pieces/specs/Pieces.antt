@@ -18,6 +18,7 @@ use Rattle.pieces.specs.Edges.{Pair, pairs, edges}
 use Rattle.house.specs.Order.{bytesFirst, orderOf}
 use Rattle.pieces.specs.Orders.{OrdersHold}
 use Rattle.pieces.specs.Houses.{houses, firsts}
+use Rattle.pieces.specs.Steps.{walks, WalksSo, steps, Shows, pieces, StepsSo}
 
 -- an answer is as expected
 pub record Says (a : Answer) (e : Expected) : Type 0 where
@@ -72,4 +73,6 @@ pub record Ties (r : Pair) : Type 0 where
 
 -- the one theorem; the edges are listed by a function: that many
 abbrev pub PiecesHold : Type 0
-PiecesHold = Each Holds rows × Each Rewrites swaps × Each Ties pairs × Each Ties edges × (length edges ≡ 6308) × OrdersHold × Each Orders houses × Each Firsts firsts
+PiecesHold =
+    Each Holds rows × Each Rewrites swaps × Each Ties pairs × Each Ties edges × (length edges ≡ 6308) × OrdersHold × Each Orders houses × Each Firsts firsts
+    × Each WalksSo walks × Each Shows steps × Each StepsSo pieces

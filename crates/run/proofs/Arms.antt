@@ -48,11 +48,6 @@ module _ (s : State) (x : Record) where
   abbrev pub Made : State → Type 0
   Made u = (numberAt s x ≡ 0) × (applyOf s x ≡ u)
 
-  -- which keeps the limit
-  pub made-limit : {u : State} → applyOf s x ≡ u → s .limit ≡ u .limit
-  unfolding applyOf
-  made-limit e = ap (λ (t : State). t .limit) e
-
   -- the state with other loops and carriers
   abbrev pub parts : List ℕ → List Carrier → State
   parts l cs = changed s (s .racking) l cs

@@ -18,7 +18,7 @@ use Rattle.run.specs.Relation.{Step}
 use Rattle.run.specs.Reason.{Whole, CutShort, RecordReason, Reason, First}
 use Rattle.run.specs.Step.{numberAt}
 use Rattle.run.specs.declared.Stepped.{Stepped}
-use Rattle.run.specs.Run.{stepOf}
+use Rattle.run.specs.Run.{told, stepOf}
 use Rattle.run.specs.Claims.{NoStep, HasStep, StepRefusal}
 use Rattle.run.proofs.Refusals.{first-of}
 use Rattle.run.proofs.Sound.{step-only, step-sound, number-reason}
@@ -108,7 +108,7 @@ no-step-reason s l h =
 
 -- ---- the step of a slice's first record
 pub step-gives : (s : State) (bytes rest : List ℕ) (x : Record) (t : State) → Encodes bytes x → Step s x t
-    → stepOf s (bytes ++ rest) ≡ record { number = 0; length = length bytes; state = t }
+    → stepOf s (bytes ++ rest) ≡ told 0 (length bytes) t
 unfolding stepOf
 step-gives s bytes rest x t form step =
     let (z, u) = step-only s x (form-in form) step in simp (form-decode form rest) (simp (z, u))
@@ -118,8 +118,8 @@ unfolding stepOf
 step-refuses s l h =
     is (decodeOf l .number) 0
     (λ e. is (numberAt s (decodeOf l .what)) 0 (λ z. absurd (h (simp (e, z))))
-    (λ d. let r = step-first s l e d in simp (e, ne-eqb (numberAt s (decodeOf l .what)) 0 d) (record { length = refl; state = refl; no-step = reason-no-step (r .reason); first = r })))
-    (λ d. let r = bytes-first s l d in simp (ne-eqb (decodeOf l .number) 0 d) (record { length = refl; state = refl; no-step = reason-no-step (r .reason); first = r }))
+    (λ d. let r = step-first s l e d in simp (e, ne-eqb (numberAt s (decodeOf l .what)) 0 d) (record { complete = refl; length = refl; state = refl; no-step = reason-no-step (r .reason); first = r })))
+    (λ d. let r = bytes-first s l d in simp (ne-eqb (decodeOf l .number) 0 d) (record { complete = refl; length = refl; state = refl; no-step = reason-no-step (r .reason); first = r }))
 
 step-has : (s : State) (l : List ℕ) → stepOf s l .number ≡ 0 → HasStep s l
 unfolding stepOf

@@ -1,7 +1,7 @@
 -- The run against the relation: it goes through the records that have their steps, and stops at the first that has none. Assumes nothing.
 use Prim.Native.Nat.{ℕ, zero, suc, _+_, _≤_, _<_}
 use mathlib.Core.Path.{_≡_, refl, sym, ap, subst, _∙_}
-use mathlib.Core.List.{List, [], _∷_, _++_}
+use mathlib.Core.List.{List, [], _∷_, _++_, append-nil, append-assoc}
 use native.Mathlib.Omega.{arith}
 use lib.ListN.{length, take, drop, length-drop, length-set, length-map, take-append-drop}
 use lib.Seq.{drop-append-seam, drop-drop, take-add}
@@ -107,3 +107,17 @@ steps-frame Steps.none = record { loops = refl; limit = refl; carriers = refl }
 steps-frame (Steps.next form step more) =
     let a = step-frame step in let b = steps-frame more in
     record { loops = b .loops ∙ a .loops; limit = b .limit ∙ a .limit; carriers = b .carriers ∙ a .carriers }
+
+-- and so does a run
+pub run-frame : (p : List ℕ) (at : ℕ) (s : State) → SameFrame s (runFrom 0 p at s .state)
+run-frame p at s = kept (runs (length p) p (omega arith) at s)
+  where
+    kept : {r : Reached} → Ends p at s r → SameFrame s (r .state)
+    kept (Ends.through steps) = steps-frame steps
+    kept (Ends.refused w h before r) = steps-frame before
+
+-- ---- one record more behind others
+pub steps-on : {s t u : State} {p bytes : List ℕ} {x : Record} → Steps s p t → Encodes bytes x → Step t x u → Steps s (p ++ bytes) u
+steps-on {s = s} {u = u} {bytes = bytes} Steps.none form step = subst (λ (l : List ℕ). Steps s l u) (append-nil bytes) (Steps.next form step Steps.none)
+steps-on {s = s} {u = u} {bytes = bytes} (Steps.next {bytes = b} {rest = rest} f g more) form step =
+    subst (λ (l : List ℕ). Steps s l u) (sym (append-assoc b rest bytes)) (Steps.next f g (steps-on more form step))

@@ -13,7 +13,7 @@ use Rattle.record.proofs.Ranges.{InRange}
 use Rattle.record.proofs.Forms.{decode-size, decode-in}
 use Rattle.run.specs.Step.{numberAt, applyOf}
 use Rattle.run.specs.declared.Stepped.{Stepped}
-use Rattle.run.specs.Run.{reached, stay, stepOf, turn, runFrom}
+use Rattle.run.specs.Run.{reached, told, stay, stepOf, turn, runFrom}
 
 -- passing over bytes
 run-skip : (k : ℕ) (l : List ℕ) (at : ℕ) (s : State) → runFrom k l at s ≡ runFrom 0 (drop k l) at s
@@ -41,7 +41,7 @@ module _ (s : State) (l : List ℕ) where
     unfolding stepOf
     refused-step h = simp (eq-eqb (decodeOf l .number) 0 k, ne-eqb (numberAt s (decodeOf l .what)) 0 h)
 
-    pub made-step : numberAt s (decodeOf l .what) ≡ 0 → stepOf s l ≡ record { number = 0; length = decodeOf l .size; state = applyOf s (decodeOf l .what) }
+    pub made-step : numberAt s (decodeOf l .what) ≡ 0 → stepOf s l ≡ told 0 (decodeOf l .size) (applyOf s (decodeOf l .what))
     unfolding stepOf
     made-step h = simp (eq-eqb (decodeOf l .number) 0 k, eq-eqb (numberAt s (decodeOf l .what)) 0 h)
 

@@ -8,7 +8,7 @@ use mathlib.Core.Logic.{_↔_, _⊎_}
 use lib.ListN.{length, take, drop}
 use Rattle.machine.specs.declared.State.{State}
 use Rattle.machine.specs.Limits.{limitMost, programMost}
-use Rattle.machine.specs.Machine.{emptyState}
+use Rattle.machine.specs.Machine.{emptyState, completeOf}
 use Rattle.machine.specs.Range.{LimitInRange, StateInRange}
 use Rattle.record.specs.declared.Record.{Record}
 use Rattle.record.specs.Kinds.{sizeOf}
@@ -18,7 +18,7 @@ use Rattle.run.specs.declared.Reached.{Reached}
 use Rattle.run.specs.declared.Stepped.{Stepped}
 use Rattle.run.specs.Relation.{Step, Steps, Valid}
 use Rattle.run.specs.Reason.{Whole, Reason, First}
-use Rattle.run.specs.Run.{reached, runOf, stay, stepOf, answerOf}
+use Rattle.run.specs.Run.{reached, oneIf, told, stay, stepOf, runOf, answerOf}
 
 -- ---- the run in one statement
 -- no record that the bytes begin with has a step
@@ -143,14 +143,15 @@ HasStep s l = (bytes : List ℕ) × (rest : List ℕ) × (x : Record) × (t : St
 abbrev pub StepAcceptsExactly : Type 0
 StepAcceptsExactly = (s : State) (l : List ℕ) → (stepOf s l .number ≡ 0) ↔ HasStep s l
 
--- and then gives that record's length and the relation's state
+-- and then gives that record's length and the relation's state, and tells whether that is complete
 abbrev pub StepGives : Type 0
 StepGives =
     (s : State) (bytes rest : List ℕ) (x : Record) (t : State) → Encodes bytes x → Step s x t
-    → stepOf s (bytes ++ rest) ≡ record { number = 0; length = length bytes; state = t }
+    → stepOf s (bytes ++ rest) ≡ told 0 (length bytes) t
 
--- otherwise it gives the first reason, length 0 and the same state
+-- otherwise it gives the first reason, length 0 and the same state, and tells whether that is complete
 pub record StepRefusal (s : State) (l : List ℕ) (a : Stepped) : Type 0 where
+  pub complete : a .complete ≡ oneIf (completeOf s)
   pub length : a .length ≡ 0
   pub state : a .state ≡ s
   pub no-step : NoStep s l

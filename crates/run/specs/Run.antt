@@ -1,15 +1,17 @@
 -- The step of the first record of a slice, and the run of a program's bytes, which goes by that step, as definitions that compute.
 use Prim.Native.Nat.{ℕ, zero, suc, _+_, _-_}
-use mathlib.Core.Bool.{cond}
+use mathlib.Core.Bool.{Bool, cond}
 use mathlib.Core.List.{List, [], _∷_}
 use lib.ListN.{length}
-use lib.Dec.{eqb, leb}
+use lib.Dec.{eqb, ltb, leb}
 use Rattle.machine.specs.declared.State.{State}
 use Rattle.machine.specs.Limits.{limitMost, programMost}
-use Rattle.machine.specs.Machine.{emptyState, completeOf}
+use Rattle.machine.specs.Machine.{emptyState, stateWith, completeOf}
 use Rattle.machine.specs.Range.{limitOk}
-use Rattle.record.specs.Format.{decodeOf}
+use Rattle.record.specs.Kinds.{sizeOf}
+use Rattle.record.specs.Format.{byte, decodeOf}
 use Rattle.run.specs.declared.Reached.{Reached}
+use Rattle.run.specs.declared.Halted.{Halted}
 use Rattle.run.specs.declared.Answer.{Answer}
 use Rattle.run.specs.declared.Stepped.{Stepped}
 use Rattle.run.specs.Step.{numberAt, applyOf}
@@ -17,16 +19,25 @@ use Rattle.run.specs.Step.{numberAt, applyOf}
 abbrev pub reached : ℕ → ℕ → State → Reached
 reached n at s = record { number = n; place = at; state = s }
 
+-- 1 if so, else 0
+abbrev pub oneIf : Bool → ℕ
+oneIf c = cond c 1 0
+
+-- what a step gives: number, length, state, and whether that state is the empty one (02, W4: 'The one-record step now gives it too, for the state it
+-- leaves and that state's limit')
+abbrev pub told : ℕ → ℕ → State → Stepped
+told n long s = record { number = n; complete = oneIf (completeOf s); length = long; state = s }
+
 -- a step that is refused: length 0 and the state kept
 abbrev pub stay : ℕ → State → Stepped
-stay n s = record { number = n; length = 0; state = s }
+stay n s = told n 0 s
 
--- the step of the first record of a slice: number, the record's length (0 if refused), state
+-- the step of the first record of a slice: number, complete, the record's length (0 if refused), state
 unfoldable pub stepOf : State → List ℕ → Stepped
 stepOf s l =
     cond (eqb (decodeOf l .number) 0)
     (cond (eqb (numberAt s (decodeOf l .what)) 0)
-    (record { number = 0; length = decodeOf l .size; state = applyOf s (decodeOf l .what) })
+    (told 0 (decodeOf l .size) (applyOf s (decodeOf l .what)))
     (stay (numberAt s (decodeOf l .what)) s))
     (stay (decodeOf l .number) s)
 
@@ -60,3 +71,12 @@ reachedOf limit p =
 
 unfoldable pub runOf : ℕ → List ℕ → Answer
 runOf limit p = answerOf (reachedOf limit p)
+
+-- ---- what the code's step and its loop go by
+-- the bytes of a slice's first record, or as many of them as there are; of an unknown kind the one byte
+unfoldable pub frontOf : List ℕ → ℕ
+frontOf l = cond (eqb (length l) 0) 0 (cond (eqb (sizeOf (byte l 0)) 0) 1 (cond (ltb (length l) (sizeOf (byte l 0))) (length l) (sizeOf (byte l 0))))
+
+-- where the loop stopped, with the loops that it was lent and the limit
+abbrev pub halted : Halted → List ℕ → ℕ → Reached
+halted h l limit = reached (h .number) (h .place) (stateWith (h .racking) l limit (h .carriers))

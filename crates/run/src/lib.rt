@@ -4,13 +4,13 @@ ghost use Prim.Native.Nat.{_≤_, _<_};
 ghost use lib.ListN.{getD, set};
 ghost use lib.Dec.{eqb};
 ghost use mathlib.Core.Bool.{not, cond};
-ghost use Rattle.machine.specs.Machine.{OnBed, hookOf, inactive, emptyState};
+ghost use Rattle.machine.specs.Machine.{OnBed, hookOf, inactive, emptyState, stateWith};
 ghost use Rattle.machine.specs.Geometry.{columnOf, entryOf, exitOf};
 ghost use Rattle.record.specs.Kinds.{IN, OUT, TUCK, SPLIT, PLATED-KNIT};
 ghost use Rattle.run.specs.Relation.{unattached, reparked, attached};
 ghost use Rattle.run.specs.Step.{lookOf, parkedNo, floatNo, orNumber, askedNo, bothNo};
 ghost use Rattle.run.specs.Loops.{tuckNo, tucked, formNo, formedLoops, transferNo, transferredLoops};
-ghost use Rattle.run.specs.Run.{reached, runFrom, answerLimit, startNo, reachedOf, answerOf, runOf, stay, stepOf};
+ghost use Rattle.run.specs.Run.{reached, halted, runFrom, answerLimit, startNo, reachedOf, answerOf, runOf, frontOf, oneIf, stepOf};
 use machine::Carrier;
 use machine::Needle;
 use machine::Racking;
@@ -24,7 +24,6 @@ use machine::numbers::HOOK_FULL;
 use machine::numbers::NOT_IN;
 use machine::numbers::NOT_OPPOSITE;
 use machine::numbers::TOO_LONG;
-use machine::numbers::UNKNOWN_KIND;
 use machine::numbers::WRONG_SLOT;
 use machine::numbers::YARN_TWICE;
 use record::DROP;
@@ -60,11 +59,20 @@ pub struct Answer {
     pub state: State,
 }
 
-// One step: the refusal's number and 0, or 0 and the record's length, and the state.
+// One step: the refusal's number and 0, or 0 and the record's length, the state, and whether that is the empty one (1 or 0).
 pub struct Stepped {
     pub number: u8,
+    pub complete: u8,
     pub length: usize,
     pub state: State,
+}
+
+// Where the run's loop stopped, besides the loops, which it is lent.
+struct Halted {
+    pub number: u8,
+    pub place: usize,
+    pub racking: Racking,
+    pub carriers: [Carrier; State::CARRIERS],
 }
 
 // Whether the carrier is parked at the slot: 0, or 7 or 8.
@@ -286,123 +294,134 @@ fn stop(number: u8, place: usize, state: State) -> Reached
     }
 }
 
-// The run from a state over bytes of any length. Stores are made in its own state, by the kind. (The limit, which no record
-// changes, is read once.)
-fn run_from(state: State, program: &[u8]) -> Reached
-    ensures { λ a. ⌜ a ≡ runFrom 0 (now (program .entry)) 0 state ⌝ }
+// The loop that stops so.
+fn halt(number: u8, place: usize, racking: Racking, carriers: [Carrier; State::CARRIERS]) -> Halted
+    ensures { λ h. ⌜ h ≡ record { number = number; place = place; racking = racking; carriers = carriers } ⌝ }
 {
-    let limit = state.limit;
-    let mut st = state;
+    Halted {
+        number,
+        place,
+        racking,
+        carriers,
+    }
+}
+
+// The run from a state in parts over bytes of any length. The loops are lent: stores are made there, by the kind, and the
+// state is not copied.
+fn run_from(
+    racking: Racking,
+    loops: &mut [u8; State::HOOKS],
+    limit: u8,
+    carriers: [Carrier; State::CARRIERS],
+    program: &[u8],
+) -> Halted
+    ensures { λ h. ⌜ halted h (now (loops .exit)) limit ≡ runFrom 0 (now (program .entry)) 0 (stateWith racking (now (loops .entry)) limit carriers) ⌝ }
+{
+    let mut r = racking;
+    let mut cs = carriers;
     let mut at: usize = 0;
     while at < program.len() {
         let d = record::decode(&program[at..]);
         if d.number != 0 {
-            return stop(d.number, at, st);
+            return halt(d.number, at, r, cs);
         }
         let next = at + d.size;
         let x = d.what;
         let kind = x.kind;
         let n = x.at;
-        let r = st.racking;
         match kind {
             RACK => {
                 let z = x.racking;
-                st.racking = z;
+                r = z;
             }
-            DROP => put(&mut st.loops, n, 0),
+            DROP => put(loops, n, 0),
             XFER => {
                 let m = x.to;
-                let number = transfer(&mut st.loops, n, m, r, 0, limit);
+                let number = transfer(loops, n, m, r, 0, limit);
                 if number != 0 {
-                    return stop(number, at, st);
+                    return halt(number, at, r, cs);
                 }
-                let cs = st.carriers;
                 if machine::any_beside(cs, n) {
-                    let ds = machine::attachments_moved(cs, n, m);
-                    st.carriers = ds;
+                    cs = machine::attachments_moved(cs, n, m);
                 }
             }
             IN..=OUT => {
                 let k = (x.carrier as usize) - 1;
-                let c = st.carriers[k];
+                let c = cs[k];
                 let number = asked(kind, n, x.right, c, r);
                 if number != 0 {
-                    return stop(number, at, st);
+                    return halt(number, at, r, cs);
                 }
                 let then = enter_or_leave(kind, n, r, x.right);
-                st.carriers[k] = then;
+                cs[k] = then;
             }
             MISS => {
                 let k = (x.carrier as usize) - 1;
-                let c = st.carriers[k];
+                let c = cs[k];
                 let number = asked(kind, n, x.right, c, r);
                 if number != 0 {
-                    return stop(number, at, st);
+                    return halt(number, at, r, cs);
                 }
                 let then = pass(c, n, r, x.right);
-                st.carriers[k] = then;
+                cs[k] = then;
             }
             // `asked` says `ready` of both, with one more look at the kind
             TUCK..=KNIT => {
                 let k = (x.carrier as usize) - 1;
-                let c = st.carriers[k];
+                let c = cs[k];
                 let number = ready(c, n, r, x.right);
                 if number != 0 {
-                    return stop(number, at, st);
+                    return halt(number, at, r, cs);
                 }
-                let number = form(kind, &mut st.loops, n, limit);
+                let number = form(kind, loops, n, limit);
                 if number != 0 {
-                    return stop(number, at, st);
+                    return halt(number, at, r, cs);
                 }
                 let then = attach(n, r, x.right);
-                st.carriers[k] = then;
+                cs[k] = then;
             }
             SPLIT => {
                 let m = x.to;
                 let k = (x.carrier as usize) - 1;
-                let c = st.carriers[k];
+                let c = cs[k];
                 let number = asked(kind, n, x.right, c, r);
                 if number != 0 {
-                    return stop(number, at, st);
+                    return halt(number, at, r, cs);
                 }
-                let number = transfer(&mut st.loops, n, m, r, 1, limit);
+                let number = transfer(loops, n, m, r, 1, limit);
                 if number != 0 {
-                    return stop(number, at, st);
+                    return halt(number, at, r, cs);
                 }
                 let then = attach(n, r, x.right);
-                let cs = st.carriers;
                 if machine::any_beside(cs, n) {
-                    let mut ds = machine::attachments_moved(cs, n, m);
-                    ds[k] = then;
-                    st.carriers = ds;
-                } else {
-                    st.carriers[k] = then;
+                    cs = machine::attachments_moved(cs, n, m);
                 }
+                cs[k] = then;
             }
             PLATED_TUCK..=PLATED_KNIT => {
                 if x.carrier == x.second {
-                    return stop(YARN_TWICE, at, st);
+                    return halt(YARN_TWICE, at, r, cs);
                 }
                 let k = (x.carrier as usize) - 1;
                 let j = (x.second as usize) - 1;
-                let number = both_ready(st.carriers[k], st.carriers[j], n, r, x.right);
+                let number = both_ready(cs[k], cs[j], n, r, x.right);
                 if number != 0 {
-                    return stop(number, at, st);
+                    return halt(number, at, r, cs);
                 }
-                let number = form(kind, &mut st.loops, n, limit);
+                let number = form(kind, loops, n, limit);
                 if number != 0 {
-                    return stop(number, at, st);
+                    return halt(number, at, r, cs);
                 }
                 let then = attach(n, r, x.right);
-                st.carriers[k] = then;
-                st.carriers[j] = then;
+                cs[k] = then;
+                cs[j] = then;
             }
             // decode gives no other kind
             _ => {}
         }
         at = next;
     }
-    stop(0, 0, st)
+    halt(0, 0, r, cs)
 }
 
 // An answer: whether the state is the empty one is looked at last.
@@ -461,7 +480,20 @@ fn from_empty(limit: u8, program: &[u8]) -> Reached
     if number != 0 {
         return stop(number, 0, state);
     }
-    run_from(state, program)
+    let r = state.racking;
+    let limit = state.limit;
+    let cs = state.carriers;
+    let mut loops = state.loops;
+    let h = run_from(r, &mut loops, limit, cs, program);
+    let r = h.racking;
+    let cs = h.carriers;
+    let after = State {
+        racking: r,
+        loops,
+        limit,
+        carriers: cs,
+    };
+    stop(h.number, h.place, after)
 }
 
 // The run of a program at a hook limit.
@@ -486,15 +518,28 @@ pub fn outcome(limit: u8, program: &[u8]) -> Ended
     end_at(a.number, a.place)
 }
 
-// A step that is refused keeps the state.
-pub fn kept(number: u8, state: State) -> Stepped
-    ensures { λ t. ⌜ t ≡ stay number state ⌝ }
+// The bytes of a slice's first record, or as many of them as there are; of an unknown kind the one byte.
+fn front(bytes: &[u8]) -> usize
+    ensures { λ n. ⌜ n ≡ frontOf (now (bytes .entry)) ⌝ }
 {
-    Stepped {
-        number,
-        length: 0,
-        state,
+    if bytes.len() == 0 {
+        return 0;
     }
+    let size = record::size_of(bytes[0]);
+    if size == 0 {
+        return 1;
+    }
+    if bytes.len() < size {
+        return bytes.len();
+    }
+    size
+}
+
+// 1 if so, else 0.
+fn one_if(c: bool) -> u8
+    ensures { λ n. ⌜ n ≡ oneIf c ⌝ }
+{
+    if c { 1 } else { 0 }
 }
 
 // The step of the first record of a slice of any length: the run of that record alone. (It does not decode the record
@@ -502,24 +547,30 @@ pub fn kept(number: u8, state: State) -> Stepped
 pub fn step(state: State, bytes: &[u8]) -> Stepped
     ensures { λ t. ⌜ t ≡ stepOf state (now (bytes .entry)) ⌝ }
 {
-    if bytes.len() == 0 {
-        return kept(CUT_SHORT, state);
+    let r = state.racking;
+    let limit = state.limit;
+    let cs = state.carriers;
+    let mut loops = state.loops;
+    let size = front(bytes);
+    let h = run_from(r, &mut loops, limit, cs, &bytes[..size]);
+    let r = h.racking;
+    let mut complete = 0;
+    if machine::beds_empty(r, &loops) {
+        let left = h.carriers;
+        complete = one_if(machine::carriers_pass(left, true));
     }
-    let size = record::size_of(bytes[0]);
-    if size == 0 {
-        return kept(UNKNOWN_KIND, state);
-    }
-    if bytes.len() < size {
-        return kept(CUT_SHORT, state);
-    }
-    let a = run_from(state, &bytes[..size]);
-    if a.number != 0 {
-        return kept(a.number, state);
-    }
-    let after = a.state;
+    let number = if size == 0 { CUT_SHORT } else { h.number };
+    let length = if number == 0 { size } else { 0 };
+    let cs = h.carriers;
     Stepped {
-        number: 0,
-        length: size,
-        state: after,
+        number,
+        complete,
+        length,
+        state: State {
+            racking: r,
+            loops,
+            limit,
+            carriers: cs,
+        },
     }
 }

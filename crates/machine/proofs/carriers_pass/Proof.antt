@@ -26,8 +26,14 @@ mul-c c = search needs
 array-copy-out-c : tie.Need-array-copy-out-c Inv-loop μ-loop
 array-copy-out-c c = search needs
 
+mul-passes : tie.Need-mul-passes Inv-loop μ-loop
+mul-passes c = search needs
+
+element-copy-out-passes : tie.Need-element-copy-out-passes Inv-loop μ-loop
+element-copy-out-passes c = search needs
+
 passes-requires : tie.Need-passes-requires Inv-loop μ-loop
-passes-requires c κs = search needs
+passes-requires c κs = refl
 
 returns : tie.Need-returns Inv-loop μ-loop
 returns c = let at = c .before .before .before .before in
@@ -49,4 +55,4 @@ returns-2 c = sym (c .before .loop .inv .2 ∙ all-end (carrierPasses (c .before
 pub carriers-pass-spec : {M : Type 1} → statement M
 carriers-pass-spec =
     tie.close (tie.spec
-    Inv-loop μ-loop loop-holds mul-c array-copy-out-c passes-requires returns add-k loop-less loop-again returns-2)
+    Inv-loop μ-loop loop-holds mul-c array-copy-out-c mul-passes element-copy-out-passes passes-requires returns add-k loop-less loop-again returns-2)

@@ -9,11 +9,8 @@ use Rattle.panel.proofs.step.Tie as tie
 in-range-requires : tie.Need-in-range-requires
 in-range-requires c κs = search needs
 
-kept-requires : tie.Need-kept-requires
-kept-requires c κs = search needs
-
 returns : tie.Need-returns
-returns c = c .kept .ensures ∙ foul-step _ _ (sym (c .before .before .in-range .ensures) ∙ not-true _ (c .before .if1 .taken))
+returns c = foul-step _ _ (sym (c .before .in-range .ensures) ∙ not-true _ (c .if1 .taken))
 
 step-requires : tie.Need-step-requires
 step-requires c κs = search needs
@@ -22,4 +19,4 @@ returns-2 : tie.Need-returns-2
 returns-2 c = c .step .ensures ∙ fine-step _ _ (sym (c .before .before .in-range .ensures) ∙ not-false _ (c .before .if1 .left))
 
 pub step-spec : {M : Type 1} → statement M
-step-spec = tie.close (tie.spec in-range-requires kept-requires returns step-requires returns-2)
+step-spec = tie.close (tie.spec in-range-requires returns step-requires returns-2)

@@ -30,9 +30,12 @@ returns c = let d = c .before .before in
 run-from-requires : tie.Need-run-from-requires
 run-from-requires c κs = search needs
 
+stop-requires-2 : tie.Need-stop-requires-2
+stop-requires-2 c κs = search needs
+
 returns-2 : tie.Need-returns-2
-returns-2 c = let d = c .before .before in
-    c .run-from .ensures ∙ simp (← (d .start .ensures), eq-eqb (d .start .result) 0 (c .before .if1 .left), emptied (d .before))
+returns-2 c = let d = c .before .before .before .before .before .before .before .before .before in
+    c .stop2 .ensures ∙ c .before .before .before .run-from .ensures ∙ simp (← (d .start .ensures), eq-eqb (d .start .result) 0 (c .before .before .before .before .before .before .before .before .if1 .left), emptied (d .before))
 
 pub from-empty-spec : {M : Type 1} → statement M
-from-empty-spec = tie.close (tie.spec answer-limit-requires empty-requires start-requires stop-requires returns run-from-requires returns-2)
+from-empty-spec = tie.close (tie.spec answer-limit-requires empty-requires start-requires stop-requires returns run-from-requires stop-requires-2 returns-2)

@@ -1,35 +1,48 @@
--- The run: after each turn the rest of the program is run from the state so far. Each arm cites the law of its kinds. Assumes nothing.
+-- The run: after each turn the rest of the program is run from the state so far, of which the loops are lent. Each arm cites the law of its kinds.
+-- Assumes nothing.
 use Prim.Native.Nat.{ℕ, _+_, _-_, _≤_, _<_}
-use mathlib.Core.Path.{_≡_, refl, sym, _∙_}
-use mathlib.Core.List.{List}
+use mathlib.Core.Path.{_≡_, refl, sym, ap, _∙_}
+use mathlib.Core.List.{List, map}
+use mathlib.Core.Logic.{⊎-elim}
 use native.Mathlib.Omega.{arith}
 use borrow.Author.Needs.{needs}
 use lib.ListN.{length, drop}
 use Rattle.machine.specs.Limits.{carrierCount}
+use Rattle.machine.specs.Machine.{stateWith, movedTo}
 use Rattle.machine.specs.declared.State.{State}
+use Rattle.machine.specs.declared.Racking.{Racking}
+use Rattle.machine.specs.declared.Carrier.{Carrier}
 use Rattle.record.specs.declared.Record.{Record}
 use Rattle.record.specs.declared.Decoded.{Decoded}
 use Rattle.record.specs.Kinds.{IN, OUT, TUCK, KNIT, PLATED-TUCK, PLATED-KNIT}
 use Rattle.record.proofs.Shapes.{above-bare, known-least, known-most, carrying, two-named}
 use Rattle.record.proofs.Ranges.{InRange}
+use Rattle.run.specs.declared.Reached.{Reached}
+use Rattle.run.specs.declared.Halted.{Halted}
 use Rattle.run.specs.Step.{numberAt}
-use Rattle.run.specs.Run.{reached, runFrom}
+use Rattle.run.specs.Run.{reached, halted, runFrom}
 use Rattle.run.proofs.Turns.{Turn, ended, turned, refused, in-range, sized, stopped, goes}
-use Rattle.run.proofs.Arms.{Made, made-limit, transfer-kept, unmoved, rack-made, drop-made, xfer-stopped, xfer-made, in-out-stopped, in-out-made, miss-stopped, miss-made}
+use Rattle.run.proofs.Arms.{Made, transfer-kept, unmoved, rack-made, drop-made, xfer-stopped, xfer-made, in-out-stopped, in-out-made, miss-stopped, miss-made}
 use Rattle.run.proofs.Arms.{form-kept, loop-unready, loop-stopped, loop-made, split-unready, split-stopped, split-made, plated-twice, plated-unready, plated-stopped, plated-made}
 use Rattle.run.proofs.run_from.Statement.{statement}
 use Rattle.run.proofs.run_from.Tie as tie
 
 abbrev Inv-loop : tie.InvT-loop
-Inv-loop program limit st₀ at₀ st at = (at ≤ length program) × (runFrom 0 program 0 st₀ ≡ runFrom 0 (drop at program) at st) × (limit ≡ st .limit)
+Inv-loop loops₀ limit program r₀ cs₀ at₀ loops r cs at =
+    (at ≤ length program) × (runFrom 0 program 0 (stateWith r₀ loops₀ limit cs₀) ≡ runFrom 0 (drop at program) at (stateWith r loops limit cs))
 
 abbrev μ-loop : tie.MeasureT-loop
-μ-loop program limit st₀ at₀ st at = length program - at
+μ-loop loops₀ limit program r₀ cs₀ at₀ loops r cs at = length program - at
+
+-- where the loop halts, the run has stopped
+ends : {h : Halted} {n at : ℕ} {r : Racking} {cs : List Carrier} {l : List ℕ} {limit : ℕ} {end : Reached}
+    → h ≡ record { number = n; place = at; racking = r; carriers = cs } → reached n at (stateWith r l limit cs) ≡ end → halted h l limit ≡ end
+ends {l = l} {limit = limit} e f = ap (λ (h : Halted). halted h l limit) e ∙ f
 
 -- what is known once a record is decoded: the program, the place, the state, the record
 module _ (b : tie.Else1 Inv-loop μ-loop) where
   abbrev s₀ : State
-  s₀ = b .before .before .before .before .before .before .before .args .state
+  s₀ = let a = b .before .before .before .before .before .before .before .args in stateWith (a .racking) (a .loops .now) (a .limit) (a .carriers)
 
   abbrev p : List ℕ
   p = b .before .before .before .before .before .before .before .args .program .now
@@ -38,7 +51,7 @@ module _ (b : tie.Else1 Inv-loop μ-loop) where
   place = b .before .before .before .before .before .loop .at
 
   abbrev s : State
-  s = b .before .before .before .before .before .loop .st
+  s = let a = b .before .before .before .before .before .loop in stateWith (a .r) (a .loops) (b .before .before .before .before .before .before .before .args .limit) (a .cs)
 
   abbrev d : Decoded
   d = b .before .before .decode .result
@@ -55,16 +68,12 @@ module _ (b : tie.Else1 Inv-loop μ-loop) where
   size : (0 < d .size) × (d .size ≤ length p - place)
   size = sized here (b .if1 .left)
 
-  -- the limit is the one that the run started with
-  limit-kept : s₀ .limit ≡ s .limit
-  limit-kept = b .before .before .before .before .before .loop .inv .2
-
   -- a record that is refused, and one that has its step
-  halt : {n : ℕ} → n ≡ numberAt s x → (n ≡ 0 → ⊥) → reached n place s ≡ runFrom 0 p 0 s₀
-  halt e h = stopped here (b .if1 .left) _ e h
+  stop : {n : ℕ} → n ≡ numberAt s x → (n ≡ 0 → ⊥) → reached n place s ≡ runFrom 0 p 0 s₀
+  stop e h = stopped here (b .if1 .left) _ e h
 
-  on : {u : State} → Made s x u → (place + d .size ≤ length p) × (runFrom 0 p 0 s₀ ≡ runFrom 0 (drop (place + d .size) p) (place + d .size) u) × (s₀ .limit ≡ u .limit)
-  on m = (omega (arith, size .1, b .before .before .before .before .loop-test .taken), goes here (b .if1 .left) _ (m .0) (m .1), limit-kept ∙ made-limit s x (m .1))
+  on : {u : State} → Made s x u → (place + d .size ≤ length p) × (runFrom 0 p 0 s₀ ≡ runFrom 0 (drop (place + d .size) p) (place + d .size) u)
+  on m = (omega (arith, size .1, b .before .before .before .before .loop-test .taken), goes here (b .if1 .left) _ (m .0) (m .1))
 
   -- what is left gets shorter
   less : length p - (place + d .size) < length p - place
@@ -77,16 +86,16 @@ module _ (b : tie.Else1 Inv-loop μ-loop) where
   carried : IN ≤ x .kind → Carried
   carried h = (known .carrier-low (carrying (known .known) h), known .carrier-high)
 
-miss-carrier : (m : tie.At-match-keys4 Inv-loop μ-loop) → Carried (m .before .before .before .before .before)
-miss-carrier m = carried (m .before .before .before .before .before) (omega (arith, m .match .keys4))
+miss-carrier : (m : tie.At-match-keys4 Inv-loop μ-loop) → Carried (m .before .before .before .before)
+miss-carrier m = carried (m .before .before .before .before) (omega (arith, m .match .keys4))
 
-split-carrier : (m : tie.At-match-keys5 Inv-loop μ-loop) → Carried (m .before .before .before .before .before)
-split-carrier m = carried (m .before .before .before .before .before) (omega (arith, m .match .keys5))
+split-carrier : (m : tie.At-match-keys5 Inv-loop μ-loop) → Carried (m .before .before .before .before)
+split-carrier m = carried (m .before .before .before .before) (omega (arith, m .match .keys5))
 
 -- the arm of in and out
 module _ (t : tie.Then9 Inv-loop μ-loop) where
   abbrev in-out : tie.Else1 Inv-loop μ-loop
-  in-out = t .before .before .before .before .before .before .before
+  in-out = t .before .before .before .before .before .before
 
   in-out-low : IN ≤ x in-out .kind
   in-out-low = let no = t .before .before .match .rest in
@@ -101,7 +110,7 @@ module _ (t : tie.Then9 Inv-loop μ-loop) where
 -- the arm of tuck and knit
 module _ (t : tie.Then11 Inv-loop μ-loop) where
   abbrev loop : tie.Else1 Inv-loop μ-loop
-  loop = t .before .before .before .before .before .before .before .before
+  loop = t .before .before .before .before .before .before .before
 
   loop-low : TUCK ≤ x loop .kind
   loop-low = omega (arith, t .before .if9 .left, t .before .before .before .match .rest .0 .1)
@@ -115,7 +124,7 @@ module _ (t : tie.Then11 Inv-loop μ-loop) where
 -- the arm of the plated stitches
 module _ (t : tie.Then14 Inv-loop μ-loop) where
   abbrev plate : tie.Else1 Inv-loop μ-loop
-  plate = t .before .before .before .before .before .before .before .before .before
+  plate = t .before .before .before .before .before .before .before .before
 
   plate-low : PLATED-TUCK ≤ x plate .kind
   plate-low = omega (arith, t .before .if11 .left, t .before .before .before .before .match .rest .1)
@@ -129,9 +138,10 @@ module _ (t : tie.Then14 Inv-loop μ-loop) where
   plate-second : (1 ≤ x plate .second) × (x plate .second ≤ carrierCount)
   plate-second = (known plate .second-low (two-named (x plate .kind) plate-low plate-high), known plate .second-high)
 
--- below, m or t is where an arm begins and b where its record has been decoded
+-- below, t is where an arm begins and b where its record has been decoded
+
 loop-holds : tie.Need-loop-holds Inv-loop μ-loop
-loop-holds c = (search needs, refl, refl)
+loop-holds c = (search needs, refl)
 
 sub-decode : tie.Need-sub-decode Inv-loop μ-loop
 sub-decode c = search needs
@@ -145,27 +155,27 @@ part-decode-end c = search needs
 decode-requires : tie.Need-decode-requires Inv-loop μ-loop
 decode-requires c κs = search needs
 
-stop-requires : tie.Need-stop-requires Inv-loop μ-loop
-stop-requires c κs = search needs
+halt-requires : tie.Need-halt-requires Inv-loop μ-loop
+halt-requires c κs = search needs
 
 returns : tie.Need-returns Inv-loop μ-loop
-returns c = c .stop .ensures ∙ refused (turned (c .before .before .before .before .before .loop-test .taken) (c .before .before .before .before .before .before .loop .inv .1) (c .before .before .before .decode .ensures)) (c .before .if1 .taken)
+returns c = ends (c .halt .ensures) (refused (turned (c .before .before .before .before .before .loop-test .taken) (c .before .before .before .before .before .before .loop .inv .1) (c .before .before .before .decode .ensures)) (c .before .if1 .taken))
 
 add-next : tie.Need-add-next Inv-loop μ-loop
 add-next c = let z = size (c .before) in omega (arith, z .1, c .before .before .before .before .before .loop-test .taken, c .before .before .before .before .before .before .before .before .good)
 
 put-requires : tie.Need-put-requires Inv-loop μ-loop
-put-requires c κs = known (c .before .before .before .before .before .before) .at-bed
+put-requires c κs = known (c .before .before .before .before .before) .at-bed
 
 transfer-requires : tie.Need-transfer-requires Inv-loop μ-loop
-transfer-requires c κs = let b = c .before .before .before .before .before .before .before in (known b .at-bed, known b .to-bed)
+transfer-requires c κs = let b = c .before .before .before .before .before .before in (known b .at-bed, known b .to-bed)
 
-stop-requires-2 : tie.Need-stop-requires-2 Inv-loop μ-loop
-stop-requires-2 c κs = search needs
+halt-requires-2 : tie.Need-halt-requires-2 Inv-loop μ-loop
+halt-requires-2 c κs = search needs
 
 returns-2 : tie.Need-returns-2 Inv-loop μ-loop
-returns-2 c = let m = c .before .before .before .before .before in let b = m .before .before .before .before .before in let e = m .match .keys3 in let told = simp (limit-kept b) at (c .before .before .transfer .ensures) in
-    c .stop2 .ensures ∙ simp (told .1, transfer-kept (s b .limit) (s b .loops) (x b .at) (x b .to) (s b .racking) 0 _ (told .0) (c .before .if2 .taken)) (halt b (xfer-stopped (s b) (x b) e _ (told .0)) (c .before .if2 .taken))
+returns-2 c = let b = c .before .before .before .before .before .before .before .before .before in let told = c .before .before .transfer .ensures in
+    ends (c .halt2 .ensures) (simp (told .1, transfer-kept (s b .limit) (s b .loops) (x b .at) (x b .to) (s b .racking) 0 _ (told .0) (c .before .if2 .taken)) (stop b (xfer-stopped (s b) (x b) (c .before .before .before .before .before .match .keys3) _ (told .0)) (c .before .if2 .taken)))
 
 any-beside-requires : tie.Need-any-beside-requires Inv-loop μ-loop
 any-beside-requires c κs = search needs
@@ -182,27 +192,27 @@ sub-k c = omega (arith, miss-carrier (c .before))
 mul-c : tie.Need-mul-c Inv-loop μ-loop
 mul-c c = omega (arith, miss-carrier (c .before))
 
-element-copy-out-c : tie.Need-element-copy-out-c Inv-loop μ-loop
-element-copy-out-c c = omega (arith, miss-carrier (c .before))
+array-copy-out-c : tie.Need-array-copy-out-c Inv-loop μ-loop
+array-copy-out-c c = omega (arith, miss-carrier (c .before))
 
 asked-requires : tie.Need-asked-requires Inv-loop μ-loop
-asked-requires c κs = let b = c .before .before .before .before .before .before .before in known b .at-bed
+asked-requires c κs = known (c .before .before .before .before .before .before) .at-bed
 
-stop-requires-3 : tie.Need-stop-requires-3 Inv-loop μ-loop
-stop-requires-3 c κs = search needs
+halt-requires-3 : tie.Need-halt-requires-3 Inv-loop μ-loop
+halt-requires-3 c κs = search needs
 
 returns-3 : tie.Need-returns-3 Inv-loop μ-loop
-returns-3 c = let m = c .before .before .before .before .before in let b = m .before .before .before .before .before in
-    c .stop3 .ensures ∙ halt b (miss-stopped (s b) (x b) _ (c .before .before .asked .ensures) (m .match .keys4)) (c .before .if4 .taken)
+returns-3 c = let b = c .before .before .before .before .before .before .before .before .before in
+    ends (c .halt3 .ensures) (stop b (miss-stopped (s b) (x b) _ (c .before .before .asked .ensures) (c .before .before .before .before .before .match .keys4)) (c .before .if4 .taken))
 
 pass-requires : tie.Need-pass-requires Inv-loop μ-loop
-pass-requires c κs = known (c .before .before .before .before .before .before .before .before .before) .at-bed
+pass-requires c κs = known (c .before .before .before .before .before .before .before .before) .at-bed
 
-mul-then : tie.Need-mul-then Inv-loop μ-loop
-mul-then c = omega (arith, miss-carrier (c .before .before .before .before .before))
+mul-cs : tie.Need-mul-cs Inv-loop μ-loop
+mul-cs c = omega (arith, miss-carrier (c .before .before .before .before .before))
 
-element-set-from-then : tie.Need-element-set-from-then Inv-loop μ-loop
-element-set-from-then c = omega (arith, miss-carrier (c .before .before .before .before .before))
+array-set-from-cs : tie.Need-array-set-from-cs Inv-loop μ-loop
+array-set-from-cs c = omega (arith, miss-carrier (c .before .before .before .before .before))
 
 cast-k-2 : tie.Need-cast-k-2 Inv-loop μ-loop
 cast-k-2 c = search needs
@@ -213,31 +223,31 @@ sub-k-2 c = omega (arith, split-carrier (c .before .before))
 mul-c-2 : tie.Need-mul-c-2 Inv-loop μ-loop
 mul-c-2 c = omega (arith, split-carrier (c .before .before))
 
-element-copy-out-c-2 : tie.Need-element-copy-out-c-2 Inv-loop μ-loop
-element-copy-out-c-2 c = omega (arith, split-carrier (c .before .before))
+array-copy-out-c-2 : tie.Need-array-copy-out-c-2 Inv-loop μ-loop
+array-copy-out-c-2 c = omega (arith, split-carrier (c .before .before))
 
 asked-requires-2 : tie.Need-asked-requires-2 Inv-loop μ-loop
-asked-requires-2 c κs = let b = c .before .before .before .before .before .before .before .before in known b .at-bed
+asked-requires-2 c κs = known (c .before .before .before .before .before .before .before) .at-bed
 
-stop-requires-4 : tie.Need-stop-requires-4 Inv-loop μ-loop
-stop-requires-4 c κs = search needs
+halt-requires-4 : tie.Need-halt-requires-4 Inv-loop μ-loop
+halt-requires-4 c κs = search needs
 
 returns-4 : tie.Need-returns-4 Inv-loop μ-loop
-returns-4 c = let m = c .before .before .before .before .before .before in let b = m .before .before .before .before .before in
-    c .stop4 .ensures ∙ halt b (split-unready (s b) (x b) (m .match .keys5) _ (c .before .before .asked2 .ensures) (c .before .if5 .taken)) (c .before .if5 .taken)
+returns-4 c = let b = c .before .before .before .before .before .before .before .before .before .before in
+    ends (c .halt4 .ensures) (stop b (split-unready (s b) (x b) (c .before .before .before .before .before .before .match .keys5) _ (c .before .before .asked2 .ensures) (c .before .if5 .taken)) (c .before .if5 .taken))
 
 transfer-requires-2 : tie.Need-transfer-requires-2 Inv-loop μ-loop
-transfer-requires-2 c κs = let b = c .before .before .before .before .before .before .before .before .before .before .before in (known b .at-bed, known b .to-bed)
+transfer-requires-2 c κs = let b = c .before .before .before .before .before .before .before .before .before .before in (known b .at-bed, known b .to-bed)
 
-stop-requires-5 : tie.Need-stop-requires-5 Inv-loop μ-loop
-stop-requires-5 c κs = search needs
+halt-requires-5 : tie.Need-halt-requires-5 Inv-loop μ-loop
+halt-requires-5 c κs = search needs
 
 returns-5 : tie.Need-returns-5 Inv-loop μ-loop
-returns-5 c = let m = c .before .before .before .before .before .before .before .before .before in let b = m .before .before .before .before .before in let told = simp (limit-kept b) at (c .before .before .transfer2 .ensures) in
-    c .stop5 .ensures ∙ simp (told .1, transfer-kept (s b .limit) (s b .loops) (x b .at) (x b .to) (s b .racking) 1 _ (told .0) (c .before .if6 .taken)) (halt b (split-stopped (s b) (x b) (m .match .keys5) _ (c .before .before .before .before .before .asked2 .ensures) (c .before .before .before .before .if5 .left) _ (told .0)) (c .before .if6 .taken))
+returns-5 c = let b = c .before .before .before .before .before .before .before .before .before .before .before .before .before in let told = c .before .before .transfer2 .ensures in
+    ends (c .halt5 .ensures) (simp (told .1, transfer-kept (s b .limit) (s b .loops) (x b .at) (x b .to) (s b .racking) 1 _ (told .0) (c .before .if6 .taken)) (stop b (split-stopped (s b) (x b) (c .before .before .before .before .before .before .before .before .before .match .keys5) _ (c .before .before .before .before .before .asked2 .ensures) (c .before .before .before .before .if5 .left) _ (told .0)) (c .before .if6 .taken)))
 
 attach-requires : tie.Need-attach-requires Inv-loop μ-loop
-attach-requires c κs = known (c .before .before .before .before .before .before .before .before .before .before .before .before .before) .at-bed
+attach-requires c κs = known (c .before .before .before .before .before .before .before .before .before .before .before .before) .at-bed
 
 any-beside-requires-2 : tie.Need-any-beside-requires-2 Inv-loop μ-loop
 any-beside-requires-2 c κs = search needs
@@ -245,17 +255,11 @@ any-beside-requires-2 c κs = search needs
 attachments-moved-requires-2 : tie.Need-attachments-moved-requires-2 Inv-loop μ-loop
 attachments-moved-requires-2 c κs = search needs
 
-mul-ds : tie.Need-mul-ds Inv-loop μ-loop
-mul-ds c = omega (arith, split-carrier (c .before .before .before .before .before .before .before .before .before .before .before .before .before))
+mul-cs-2 : tie.Need-mul-cs-2 Inv-loop μ-loop
+mul-cs-2 c = omega (arith, split-carrier (c .before .before .before .before .before .before .before .before .before .before .before))
 
-array-set-from-ds : tie.Need-array-set-from-ds Inv-loop μ-loop
-array-set-from-ds c = omega (arith, split-carrier (c .before .before .before .before .before .before .before .before .before .before .before .before .before))
-
-mul-then-2 : tie.Need-mul-then-2 Inv-loop μ-loop
-mul-then-2 c = omega (arith, split-carrier (c .before .before .before .before .before .before .before .before .before .before .before .before))
-
-element-set-from-then-2 : tie.Need-element-set-from-then-2 Inv-loop μ-loop
-element-set-from-then-2 c = omega (arith, split-carrier (c .before .before .before .before .before .before .before .before .before .before .before .before))
+array-set-from-cs-2 : tie.Need-array-set-from-cs-2 Inv-loop μ-loop
+array-set-from-cs-2 c = omega (arith, split-carrier (c .before .before .before .before .before .before .before .before .before .before .before))
 
 cast-k-3 : tie.Need-cast-k-3 Inv-loop μ-loop
 cast-k-3 c = search needs
@@ -266,27 +270,27 @@ sub-k-3 c = omega (arith, in-out-carrier (c .before))
 mul-c-3 : tie.Need-mul-c-3 Inv-loop μ-loop
 mul-c-3 c = omega (arith, in-out-carrier (c .before))
 
-element-copy-out-c-3 : tie.Need-element-copy-out-c-3 Inv-loop μ-loop
-element-copy-out-c-3 c = omega (arith, in-out-carrier (c .before))
+array-copy-out-c-3 : tie.Need-array-copy-out-c-3 Inv-loop μ-loop
+array-copy-out-c-3 c = omega (arith, in-out-carrier (c .before))
 
 asked-requires-3 : tie.Need-asked-requires-3 Inv-loop μ-loop
-asked-requires-3 c κs = let b = c .before .before .before .before .before .before .before .before .before in known b .at-bed
+asked-requires-3 c κs = known (c .before .before .before .before .before .before .before .before) .at-bed
 
-stop-requires-6 : tie.Need-stop-requires-6 Inv-loop μ-loop
-stop-requires-6 c κs = search needs
+halt-requires-6 : tie.Need-halt-requires-6 Inv-loop μ-loop
+halt-requires-6 c κs = search needs
 
 returns-6 : tie.Need-returns-6 Inv-loop μ-loop
-returns-6 c = let t = c .before .before .before .before .before in let b = in-out t in
-    c .stop6 .ensures ∙ halt b (in-out-stopped (s b) (x b) _ (c .before .before .asked3 .ensures) (in-out-low t) (in-out-high t)) (c .before .if10 .taken)
+returns-6 c = let t = c .before .before .before .before .before in let b = c .before .before .before .before .before .before .before .before .before .before .before in
+    ends (c .halt6 .ensures) (stop b (in-out-stopped (s b) (x b) _ (c .before .before .asked3 .ensures) (in-out-low t) (in-out-high t)) (c .before .if10 .taken))
 
 enter-or-leave-requires : tie.Need-enter-or-leave-requires Inv-loop μ-loop
-enter-or-leave-requires c κs = let t = c .before .before .before .before in (omega (arith, in-out-low t), omega (arith, in-out-high t), known (in-out t) .at-bed)
+enter-or-leave-requires c κs = let t = c .before .before .before .before in (omega (arith, in-out-low t), omega (arith, in-out-high t), known (c .before .before .before .before .before .before .before .before .before .before) .at-bed)
 
-mul-then-3 : tie.Need-mul-then-3 Inv-loop μ-loop
-mul-then-3 c = omega (arith, in-out-carrier (c .before .before .before .before .before))
+mul-cs-3 : tie.Need-mul-cs-3 Inv-loop μ-loop
+mul-cs-3 c = omega (arith, in-out-carrier (c .before .before .before .before .before))
 
-element-set-from-then-3 : tie.Need-element-set-from-then-3 Inv-loop μ-loop
-element-set-from-then-3 c = omega (arith, in-out-carrier (c .before .before .before .before .before))
+array-set-from-cs-3 : tie.Need-array-set-from-cs-3 Inv-loop μ-loop
+array-set-from-cs-3 c = omega (arith, in-out-carrier (c .before .before .before .before .before))
 
 cast-k-4 : tie.Need-cast-k-4 Inv-loop μ-loop
 cast-k-4 c = search needs
@@ -297,44 +301,44 @@ sub-k-4 c = omega (arith, loop-carrier (c .before))
 mul-c-4 : tie.Need-mul-c-4 Inv-loop μ-loop
 mul-c-4 c = omega (arith, loop-carrier (c .before))
 
-element-copy-out-c-4 : tie.Need-element-copy-out-c-4 Inv-loop μ-loop
-element-copy-out-c-4 c = omega (arith, loop-carrier (c .before))
+array-copy-out-c-4 : tie.Need-array-copy-out-c-4 Inv-loop μ-loop
+array-copy-out-c-4 c = omega (arith, loop-carrier (c .before))
 
 ready-requires : tie.Need-ready-requires Inv-loop μ-loop
-ready-requires c κs = known (c .before .before .before .before .before .before .before .before .before .before) .at-bed
+ready-requires c κs = known (c .before .before .before .before .before .before .before .before .before) .at-bed
 
-stop-requires-7 : tie.Need-stop-requires-7 Inv-loop μ-loop
-stop-requires-7 c κs = search needs
+halt-requires-7 : tie.Need-halt-requires-7 Inv-loop μ-loop
+halt-requires-7 c κs = search needs
 
 returns-7 : tie.Need-returns-7 Inv-loop μ-loop
-returns-7 c = let t = c .before .before .before .before .before in let b = loop t in
-    c .stop7 .ensures ∙ halt b (loop-unready (s b) (x b) (loop-low t) (loop-high t) _ (c .before .before .ready .ensures) (c .before .if12 .taken)) (c .before .if12 .taken)
+returns-7 c = let t = c .before .before .before .before .before in let b = c .before .before .before .before .before .before .before .before .before .before .before .before in
+    ends (c .halt7 .ensures) (stop b (loop-unready (s b) (x b) (loop-low t) (loop-high t) _ (c .before .before .ready .ensures) (c .before .if12 .taken)) (c .before .if12 .taken))
 
 form-requires : tie.Need-form-requires Inv-loop μ-loop
-form-requires c κs = let t = c .before .before .before .before .before in (omega (arith, loop-low t), omega (arith, loop-high t), (λ e. omega (arith, loop-high t)), known (loop t) .at-bed)
+form-requires c κs = let t = c .before .before .before .before .before in (omega (arith, loop-low t), omega (arith, loop-high t), (λ e. omega (arith, loop-high t)), known (c .before .before .before .before .before .before .before .before .before .before .before .before) .at-bed)
 
-stop-requires-8 : tie.Need-stop-requires-8 Inv-loop μ-loop
-stop-requires-8 c κs = search needs
+halt-requires-8 : tie.Need-halt-requires-8 Inv-loop μ-loop
+halt-requires-8 c κs = search needs
 
 returns-8 : tie.Need-returns-8 Inv-loop μ-loop
-returns-8 c = let t = c .before .before .before .before .before .before .before .before in let b = loop t in let told = simp (limit-kept b) at (c .before .before .form .ensures) in let ready = c .before .before .before .before .before .ready .ensures in let h = c .before .before .before .before .if12 .left in
-    c .stop8 .ensures ∙ simp (told .1, form-kept (s b) (x b) _ (told .0) (c .before .if13 .taken)) (halt b (loop-stopped (s b) (x b) (loop-low t) (loop-high t) _ ready h _ (told .0)) (c .before .if13 .taken))
+returns-8 c = let t = c .before .before .before .before .before .before .before .before in let b = c .before .before .before .before .before .before .before .before .before .before .before .before .before .before .before in let told = c .before .before .form .ensures in
+    ends (c .halt8 .ensures) (simp (told .1, form-kept (s b) (x b) _ (told .0) (c .before .if13 .taken)) (stop b (loop-stopped (s b) (x b) (loop-low t) (loop-high t) _ (c .before .before .before .before .before .ready .ensures) (c .before .before .before .before .if12 .left) _ (told .0)) (c .before .if13 .taken)))
 
 attach-requires-2 : tie.Need-attach-requires-2 Inv-loop μ-loop
-attach-requires-2 c κs = known (c .before .before .before .before .before .before .before .before .before .before .before .before .before .before .before) .at-bed
+attach-requires-2 c κs = known (c .before .before .before .before .before .before .before .before .before .before .before .before .before .before) .at-bed
 
-mul-then-4 : tie.Need-mul-then-4 Inv-loop μ-loop
-mul-then-4 c = omega (arith, loop-carrier (c .before .before .before .before .before .before .before .before))
+mul-cs-4 : tie.Need-mul-cs-4 Inv-loop μ-loop
+mul-cs-4 c = omega (arith, loop-carrier (c .before .before .before .before .before .before .before .before))
 
-element-set-from-then-4 : tie.Need-element-set-from-then-4 Inv-loop μ-loop
-element-set-from-then-4 c = omega (arith, loop-carrier (c .before .before .before .before .before .before .before .before))
+array-set-from-cs-4 : tie.Need-array-set-from-cs-4 Inv-loop μ-loop
+array-set-from-cs-4 c = omega (arith, loop-carrier (c .before .before .before .before .before .before .before .before))
 
-stop-requires-9 : tie.Need-stop-requires-9 Inv-loop μ-loop
-stop-requires-9 c κs = search needs
+halt-requires-9 : tie.Need-halt-requires-9 Inv-loop μ-loop
+halt-requires-9 c κs = search needs
 
 returns-9 : tie.Need-returns-9 Inv-loop μ-loop
-returns-9 c = let t = c .before .before .before in let b = plate t in
-    c .stop9 .ensures ∙ halt b (plated-twice (s b) (x b) (plate-low t) (plate-high t) (c .before .if15 .taken)) (λ z. omega arith)
+returns-9 c = let t = c .before .before .before in let b = c .before .before .before .before .before .before .before .before .before .before .before in
+    ends (c .halt9 .ensures) (stop b (plated-twice (s b) (x b) (plate-low t) (plate-high t) (c .before .if15 .taken)) (λ z. omega arith))
 
 cast-k-5 : tie.Need-cast-k-5 Inv-loop μ-loop
 cast-k-5 c = search needs
@@ -351,160 +355,143 @@ sub-j c = omega (arith, plate-second (c .before .before .before .before))
 mul-both-ready : tie.Need-mul-both-ready Inv-loop μ-loop
 mul-both-ready c = omega (arith, plate-first (c .before .before .before .before))
 
-element-copy-out-both-ready : tie.Need-element-copy-out-both-ready Inv-loop μ-loop
-element-copy-out-both-ready c = omega (arith, plate-first (c .before .before .before .before))
+array-copy-out-both-ready : tie.Need-array-copy-out-both-ready Inv-loop μ-loop
+array-copy-out-both-ready c = omega (arith, plate-first (c .before .before .before .before))
 
 mul-both-ready-2 : tie.Need-mul-both-ready-2 Inv-loop μ-loop
 mul-both-ready-2 c = omega (arith, plate-second (c .before .before .before .before .before))
 
-element-copy-out-both-ready-2 : tie.Need-element-copy-out-both-ready-2 Inv-loop μ-loop
-element-copy-out-both-ready-2 c = omega (arith, plate-second (c .before .before .before .before .before))
+array-copy-out-both-ready-2 : tie.Need-array-copy-out-both-ready-2 Inv-loop μ-loop
+array-copy-out-both-ready-2 c = omega (arith, plate-second (c .before .before .before .before .before))
 
 both-ready-requires : tie.Need-both-ready-requires Inv-loop μ-loop
-both-ready-requires c κs = known (plate (c .before .before .before .before .before .before)) .at-bed
+both-ready-requires c κs = known (c .before .before .before .before .before .before .before .before .before .before .before .before .before .before) .at-bed
 
-stop-requires-10 : tie.Need-stop-requires-10 Inv-loop μ-loop
-stop-requires-10 c κs = search needs
-
--- two yarns, and what both carriers answered
-module _ (r : tie.After-both-ready Inv-loop μ-loop) where
-  abbrev arm : tie.Then14 Inv-loop μ-loop
-  arm = r .before .before .before .before .before .before .before
-
-  yarns : x (plate arm) .carrier ≡ x (plate arm) .second → ⊥
-  yarns = r .before .before .before .before .before .if15 .left
+halt-requires-10 : tie.Need-halt-requires-10 Inv-loop μ-loop
+halt-requires-10 c κs = search needs
 
 returns-10 : tie.Need-returns-10 Inv-loop μ-loop
-returns-10 c = let r = c .before .before in let t = arm r in let b = plate t in
-    c .stop10 .ensures ∙ halt b (plated-unready (s b) (x b) (plate-low t) (plate-high t) (yarns r) _ (r .both-ready .ensures) (c .before .if16 .taken)) (c .before .if16 .taken)
+returns-10 c = let t = c .before .before .before .before .before .before .before .before .before in let b = c .before .before .before .before .before .before .before .before .before .before .before .before .before .before .before .before .before in
+    ends (c .halt10 .ensures) (stop b (plated-unready (s b) (x b) (plate-low t) (plate-high t) (c .before .before .before .before .before .before .before .if15 .left) _ (c .before .before .both-ready .ensures) (c .before .if16 .taken)) (c .before .if16 .taken))
 
 form-requires-2 : tie.Need-form-requires-2 Inv-loop μ-loop
-form-requires-2 c κs = let t = arm (c .before .before) in (omega (arith, plate-low t), omega (arith, plate-high t), (λ e. omega (arith, plate-low t)), known (plate t) .at-bed)
+form-requires-2 c κs = let t = c .before .before .before .before .before .before .before .before .before in (omega (arith, plate-low t), omega (arith, plate-high t), (λ e. omega (arith, plate-low t)), known (c .before .before .before .before .before .before .before .before .before .before .before .before .before .before .before .before .before) .at-bed)
 
-stop-requires-11 : tie.Need-stop-requires-11 Inv-loop μ-loop
-stop-requires-11 c κs = search needs
+halt-requires-11 : tie.Need-halt-requires-11 Inv-loop μ-loop
+halt-requires-11 c κs = search needs
 
 returns-11 : tie.Need-returns-11 Inv-loop μ-loop
-returns-11 c = let r = c .before .before .before .before .before in let t = arm r in let b = plate t in let told = simp (limit-kept b) at (c .before .before .form2 .ensures) in let h = c .before .before .before .before .if16 .left in
-    c .stop11 .ensures ∙ simp (told .1, form-kept (s b) (x b) _ (told .0) (c .before .if17 .taken)) (halt b (plated-stopped (s b) (x b) (plate-low t) (plate-high t) (yarns r) _ (r .both-ready .ensures) h _ (told .0)) (c .before .if17 .taken))
+returns-11 c = let t = c .before .before .before .before .before .before .before .before .before .before .before .before in let b = c .before .before .before .before .before .before .before .before .before .before .before .before .before .before .before .before .before .before .before .before in let told = c .before .before .form2 .ensures in
+    ends (c .halt11 .ensures) (simp (told .1, form-kept (s b) (x b) _ (told .0) (c .before .if17 .taken)) (stop b (plated-stopped (s b) (x b) (plate-low t) (plate-high t) (c .before .before .before .before .before .before .before .before .before .before .if15 .left) _ (c .before .before .before .before .before .both-ready .ensures) (c .before .before .before .before .if16 .left) _ (told .0)) (c .before .if17 .taken)))
 
 attach-requires-3 : tie.Need-attach-requires-3 Inv-loop μ-loop
-attach-requires-3 c κs = known (plate (arm (c .before .before .before .before))) .at-bed
+attach-requires-3 c κs = known (c .before .before .before .before .before .before .before .before .before .before .before .before .before .before .before .before .before .before .before) .at-bed
 
-mul-then-5 : tie.Need-mul-then-5 Inv-loop μ-loop
-mul-then-5 c = omega (arith, plate-first (arm (c .before .before .before .before .before)))
+mul-cs-5 : tie.Need-mul-cs-5 Inv-loop μ-loop
+mul-cs-5 c = omega (arith, plate-first (c .before .before .before .before .before .before .before .before .before .before .before .before))
 
-element-set-from-then-5 : tie.Need-element-set-from-then-5 Inv-loop μ-loop
-element-set-from-then-5 c = omega (arith, plate-first (arm (c .before .before .before .before .before)))
+array-set-from-cs-5 : tie.Need-array-set-from-cs-5 Inv-loop μ-loop
+array-set-from-cs-5 c = omega (arith, plate-first (c .before .before .before .before .before .before .before .before .before .before .before .before))
 
-mul-then-6 : tie.Need-mul-then-6 Inv-loop μ-loop
-mul-then-6 c = omega (arith, plate-second (arm (c .before .before .before .before .before)))
+mul-cs-6 : tie.Need-mul-cs-6 Inv-loop μ-loop
+mul-cs-6 c = omega (arith, plate-second (c .before .before .before .before .before .before .before .before .before .before .before .before))
 
-element-set-from-then-6 : tie.Need-element-set-from-then-6 Inv-loop μ-loop
-element-set-from-then-6 c = omega (arith, plate-second (arm (c .before .before .before .before .before)))
+array-set-from-cs-6 : tie.Need-array-set-from-cs-6 Inv-loop μ-loop
+array-set-from-cs-6 c = omega (arith, plate-second (c .before .before .before .before .before .before .before .before .before .before .before .before))
 
 loop-less : tie.Need-loop-less Inv-loop μ-loop
-loop-less c = less (c .before .before .before .before .before .before)
+loop-less c = less (c .before .before .before .before .before)
 
 loop-again : tie.Need-loop-again Inv-loop μ-loop
-loop-again c = let m = c .before in let b = m .before .before .before .before .before in let e = m .match .keys1 in
-    on b (rack-made (s b) (x b) e)
+loop-again c = let b = c .before .before .before .before .before in on b (rack-made (s b) (x b) (c .before .match .keys1))
 
 loop-less-2 : tie.Need-loop-less-2 Inv-loop μ-loop
-loop-less-2 c = less (c .before .before .before .before .before .before .before)
+loop-less-2 c = less (c .before .before .before .before .before .before)
 
 loop-again-2 : tie.Need-loop-again-2 Inv-loop μ-loop
-loop-again-2 c = let m = c .before .before in let b = m .before .before .before .before .before in let e = m .match .keys2 in
-    on b (drop-made (s b) (x b) e _ (c .put .ensures))
+loop-again-2 c = let b = c .before .before .before .before .before .before in on b (drop-made (s b) (x b) (c .before .before .match .keys2) _ (c .put .ensures))
 
 loop-less-3 : tie.Need-loop-less-3 Inv-loop μ-loop
-loop-less-3 c = less (c .before .before .before .before .before .before .before .before .before .before .before .before .before)
+loop-less-3 c = less (c .before .before .before .before .before .before .before .before .before .before .before)
 
 loop-again-3 : tie.Need-loop-again-3 Inv-loop μ-loop
-loop-again-3 c = let m = c .before .before .before .before .before .before .before .before in let b = m .before .before .before .before .before in let e = m .match .keys3 in let told = simp (limit-kept b) at (c .before .before .before .before .before .transfer .ensures) in
-    on b (xfer-made (s b) (x b) e _ (told .0) (c .before .before .before .before .if2 .left) _ _ (told .1) (c .attachments-moved .ensures))
+loop-again-3 c = let b = c .before .before .before .before .before .before .before .before .before .before .before in let told = c .before .before .before .before .transfer .ensures in
+    on b (xfer-made (s b) (x b) (c .before .before .before .before .before .before .before .match .keys3) _ (told .0) (c .before .before .before .if2 .left) _ _ (told .1) (c .attachments-moved .ensures))
 
 loop-less-4 : tie.Need-loop-less-4 Inv-loop μ-loop
-loop-less-4 c = less (c .before .before .before .before .before .before .before .before .before .before .before .before)
+loop-less-4 c = less (c .before .before .before .before .before .before .before .before .before .before)
 
 loop-again-4 : tie.Need-loop-again-4 Inv-loop μ-loop
-loop-again-4 c = let m = c .before .before .before .before .before .before .before in let b = m .before .before .before .before .before in let e = m .match .keys3 in let told = simp (limit-kept b) at (c .before .before .before .before .transfer .ensures) in
-    on b (xfer-made (s b) (x b) e _ (told .0) (c .before .before .before .if2 .left) _ _ (told .1) (unmoved (x b .at) (x b .to) (s b .carriers) (sym (c .before .any-beside .ensures) ∙ c .if3 .left)))
+loop-again-4 c = let b = c .before .before .before .before .before .before .before .before .before .before in let told = c .before .before .before .transfer .ensures in
+    on b (xfer-made (s b) (x b) (c .before .before .before .before .before .before .match .keys3) _ (told .0) (c .before .before .if2 .left) _ _ (told .1) (unmoved (x b .at) (x b .to) (s b .carriers) (sym (c .before .any-beside .ensures) ∙ c .if3 .left)))
 
 loop-less-5 : tie.Need-loop-less-5 Inv-loop μ-loop
-loop-less-5 c = less (c .before .before .before .before .before .before .before .before .before .before)
+loop-less-5 c = less (c .before .before .before .before .before .before .before .before .before)
 
 loop-again-5 : tie.Need-loop-again-5 Inv-loop μ-loop
-loop-again-5 c = let m = c .before .before .before .before .before in let b = m .before .before .before .before .before in
-    on b (miss-made (s b) (x b) _ (c .before .before .asked .ensures) (m .match .keys4) (c .before .if4 .left) _ (c .pass .ensures))
+loop-again-5 c = let b = c .before .before .before .before .before .before .before .before .before in
+    on b (miss-made (s b) (x b) _ (c .before .before .asked .ensures) (c .before .before .before .before .before .match .keys4) (c .before .if4 .left) _ (c .pass .ensures))
 
 loop-less-6 : tie.Need-loop-less-6 Inv-loop μ-loop
-loop-less-6 c = less (c .before .before .before .before .before .before .before .before .before .before .before .before .before .before .before .before .before .before)
+loop-less-6 c = less (c .before .before .before .before .before .before .before .before .before .before .before .before .before .before .before)
 
 loop-again-6 : tie.Need-loop-again-6 Inv-loop μ-loop
-loop-again-6 c = let m = c .before .before .before .before .before .before .before .before .before .before .before .before .before in let b = m .before .before .before .before .before in let told = simp (limit-kept b) at (c .before .before .before .before .before .before .transfer2 .ensures) in
-    on b (split-made (s b) (x b) (m .match .keys5) _ (c .before .before .before .before .before .before .before .before .before .asked2 .ensures) (c .before .before .before .before .before .before .before .before .if5 .left) _ (told .0) (c .before .before .before .before .before .if6 .left) _ (c .before .before .before .before .attach .ensures) _ _ (told .1) (c .attachments-moved2 .ensures))
+loop-again-6 c = let b = c .before .before .before .before .before .before .before .before .before .before .before .before .before .before .before in let told = c .before .before .before .before .transfer2 .ensures in
+    on b (split-made (s b) (x b) (c .before .before .before .before .before .before .before .before .before .before .before .match .keys5) _ (c .before .before .before .before .before .before .before .asked2 .ensures) (c .before .before .before .before .before .before .if5 .left) _ (told .0) (c .before .before .before .if6 .left) _ (c .before .before .attach .ensures) _ _ (told .1)
+    (⊎-elim {C = c .if7 .cs ≡ map (movedTo (x b .at) (x b .to)) (s b .carriers)} (λ u. u .2 ∙ u .1 .ensures) (λ u. u .1 ∙ unmoved (x b .at) (x b .to) (s b .carriers) (sym (c .before .any-beside2 .ensures) ∙ u .0 .left)) (c .if7 .came)))
 
 loop-less-7 : tie.Need-loop-less-7 Inv-loop μ-loop
-loop-less-7 c = less (c .before .before .before .before .before .before .before .before .before .before .before .before .before .before .before .before .before)
-
-loop-again-7 : tie.Need-loop-again-7 Inv-loop μ-loop
-loop-again-7 c = let m = c .before .before .before .before .before .before .before .before .before .before .before .before in let b = m .before .before .before .before .before in let told = simp (limit-kept b) at (c .before .before .before .before .before .transfer2 .ensures) in
-    on b (split-made (s b) (x b) (m .match .keys5) _ (c .before .before .before .before .before .before .before .before .asked2 .ensures) (c .before .before .before .before .before .before .before .if5 .left) _ (told .0) (c .before .before .before .before .if6 .left) _ (c .before .before .before .attach .ensures) _ _ (told .1) (unmoved (x b .at) (x b .to) (s b .carriers) (sym (c .before .any-beside2 .ensures) ∙ c .if7 .left)))
+loop-less-7 c = less (c .before .before .before .before .before)
 
 -- decode gives no kind below 1
+loop-again-7 : tie.Need-loop-again-7 Inv-loop μ-loop
+loop-again-7 c = absurd (omega (arith, c .if8 .taken, known-least (known (c .before .before .before .before .before) .known)))
+
 loop-less-8 : tie.Need-loop-less-8 Inv-loop μ-loop
-loop-less-8 c = less (c .before .before .before .before .before .before)
+loop-less-8 c = less (c .before .before .before .before .before .before .before .before .before .before .before)
 
 loop-again-8 : tie.Need-loop-again-8 Inv-loop μ-loop
-loop-again-8 c = absurd (omega (arith, c .if8 .taken, known-least (known (c .before .before .before .before .before .before) .known)))
-
-loop-less-9 : tie.Need-loop-less-9 Inv-loop μ-loop
-loop-less-9 c = less (c .before .before .before .before .before .before .before .before .before .before .before .before)
-
-loop-again-9 : tie.Need-loop-again-9 Inv-loop μ-loop
-loop-again-9 c = let t = c .before .before .before .before .before in let b = in-out t in
+loop-again-8 c = let t = c .before .before .before .before .before in let b = c .before .before .before .before .before .before .before .before .before .before .before in
     on b (in-out-made (s b) (x b) _ (c .before .before .asked3 .ensures) (in-out-low t) (in-out-high t) (c .before .if10 .left) _ (c .enter-or-leave .ensures))
 
-loop-less-10 : tie.Need-loop-less-10 Inv-loop μ-loop
-loop-less-10 c = less (c .before .before .before .before .before .before .before .before .before .before .before .before .before .before .before .before)
+loop-less-9 : tie.Need-loop-less-9 Inv-loop μ-loop
+loop-less-9 c = less (c .before .before .before .before .before .before .before .before .before .before .before .before .before .before .before)
 
-loop-again-10 : tie.Need-loop-again-10 Inv-loop μ-loop
-loop-again-10 c = let t = c .before .before .before .before .before .before .before .before in let b = loop t in let told = simp (limit-kept b) at (c .before .before .form .ensures) in
+loop-again-9 : tie.Need-loop-again-9 Inv-loop μ-loop
+loop-again-9 c = let t = c .before .before .before .before .before .before .before .before in let b = c .before .before .before .before .before .before .before .before .before .before .before .before .before .before .before in let told = c .before .before .form .ensures in
     on b (loop-made (s b) (x b) (loop-low t) (loop-high t) _ (c .before .before .before .before .before .ready .ensures) (c .before .before .before .before .if12 .left) _ (told .0) (c .before .if13 .left) _ (c .attach2 .ensures) _ (told .1))
 
-loop-less-11 : tie.Need-loop-less-11 Inv-loop μ-loop
-loop-less-11 c = less (plate (arm (c .before .before .before .before .before)))
+loop-less-10 : tie.Need-loop-less-10 Inv-loop μ-loop
+loop-less-10 c = less (c .before .before .before .before .before .before .before .before .before .before .before .before .before .before .before .before .before .before .before .before)
 
-loop-again-11 : tie.Need-loop-again-11 Inv-loop μ-loop
-loop-again-11 c = let r = c .before .before .before .before .before in let t = arm r in let b = plate t in let told = simp (limit-kept b) at (c .before .before .form2 .ensures) in
-    on b (plated-made (s b) (x b) (plate-low t) (plate-high t) (yarns r) _ (r .both-ready .ensures) (c .before .before .before .before .if16 .left) _ (told .0) (c .before .if17 .left) _ (c .attach3 .ensures) _ (told .1))
+loop-again-10 : tie.Need-loop-again-10 Inv-loop μ-loop
+loop-again-10 c = let t = c .before .before .before .before .before .before .before .before .before .before .before .before in let b = c .before .before .before .before .before .before .before .before .before .before .before .before .before .before .before .before .before .before .before .before in let told = c .before .before .form2 .ensures in
+    on b (plated-made (s b) (x b) (plate-low t) (plate-high t) (c .before .before .before .before .before .before .before .before .before .before .if15 .left) _ (c .before .before .before .before .before .both-ready .ensures) (c .before .before .before .before .if16 .left) _ (told .0) (c .before .if17 .left) _ (c .attach3 .ensures) _ (told .1))
+
+loop-less-11 : tie.Need-loop-less-11 Inv-loop μ-loop
+loop-less-11 c = less (c .before .before .before .before .before .before .before .before)
 
 -- and none above plated knit
-loop-less-12 : tie.Need-loop-less-12 Inv-loop μ-loop
-loop-less-12 c = less (c .before .before .before .before .before .before .before .before .before)
+loop-again-11 : tie.Need-loop-again-11 Inv-loop μ-loop
+loop-again-11 c = absurd (omega (arith, c .if14 .left, known-most (known (c .before .before .before .before .before .before .before .before) .known)))
 
-loop-again-12 : tie.Need-loop-again-12 Inv-loop μ-loop
-loop-again-12 c = absurd (omega (arith, c .if14 .left, known-most (known (c .before .before .before .before .before .before .before .before .before) .known)))
-
-stop-requires-12 : tie.Need-stop-requires-12 Inv-loop μ-loop
-stop-requires-12 c κs = search needs
+halt-requires-12 : tie.Need-halt-requires-12 Inv-loop μ-loop
+halt-requires-12 c κs = search needs
 
 returns-12 : tie.Need-returns-12 Inv-loop μ-loop
-returns-12 c = c .stop12 .ensures ∙ ended (c .before .before .before .before .args .state) (c .before .before .before .before .args .program .now) (c .before .before .loop .at) (c .before .before .loop .st) (omega arith) (c .before .before .loop .inv .1)
+returns-12 c = ends (c .halt12 .ensures) (ended _ (c .before .before .before .before .args .program .now) (c .before .before .loop .at) _ (omega arith) (c .before .before .loop .inv .1))
 
 pub run-from-spec : {M : Type 1} → statement M
 run-from-spec =
     tie.close (tie.spec
-    Inv-loop μ-loop loop-holds sub-decode part-decode-start part-decode-end decode-requires stop-requires returns add-next put-requires
-    transfer-requires stop-requires-2 returns-2 any-beside-requires attachments-moved-requires cast-k sub-k mul-c element-copy-out-c
-    asked-requires stop-requires-3 returns-3 pass-requires mul-then element-set-from-then cast-k-2 sub-k-2 mul-c-2 element-copy-out-c-2
-    asked-requires-2 stop-requires-4 returns-4 transfer-requires-2 stop-requires-5 returns-5 attach-requires any-beside-requires-2
-    attachments-moved-requires-2 mul-ds array-set-from-ds mul-then-2 element-set-from-then-2 cast-k-3 sub-k-3 mul-c-3 element-copy-out-c-3
-    asked-requires-3 stop-requires-6 returns-6 enter-or-leave-requires mul-then-3 element-set-from-then-3 cast-k-4 sub-k-4 mul-c-4
-    element-copy-out-c-4 ready-requires stop-requires-7 returns-7 form-requires stop-requires-8 returns-8 attach-requires-2 mul-then-4
-    element-set-from-then-4 stop-requires-9 returns-9 cast-k-5 sub-k-5 cast-j sub-j mul-both-ready element-copy-out-both-ready mul-both-ready-2
-    element-copy-out-both-ready-2 both-ready-requires stop-requires-10 returns-10 form-requires-2 stop-requires-11 returns-11 attach-requires-3
-    mul-then-5 element-set-from-then-5 mul-then-6 element-set-from-then-6 loop-less loop-again loop-less-2 loop-again-2 loop-less-3 loop-again-3
+    Inv-loop μ-loop loop-holds sub-decode part-decode-start part-decode-end decode-requires halt-requires returns add-next put-requires
+    transfer-requires halt-requires-2 returns-2 any-beside-requires attachments-moved-requires cast-k sub-k mul-c array-copy-out-c asked-requires
+    halt-requires-3 returns-3 pass-requires mul-cs array-set-from-cs cast-k-2 sub-k-2 mul-c-2 array-copy-out-c-2 asked-requires-2 halt-requires-4
+    returns-4 transfer-requires-2 halt-requires-5 returns-5 attach-requires any-beside-requires-2 attachments-moved-requires-2 mul-cs-2
+    array-set-from-cs-2 cast-k-3 sub-k-3 mul-c-3 array-copy-out-c-3 asked-requires-3 halt-requires-6 returns-6 enter-or-leave-requires mul-cs-3
+    array-set-from-cs-3 cast-k-4 sub-k-4 mul-c-4 array-copy-out-c-4 ready-requires halt-requires-7 returns-7 form-requires halt-requires-8 returns-8
+    attach-requires-2 mul-cs-4 array-set-from-cs-4 halt-requires-9 returns-9 cast-k-5 sub-k-5 cast-j sub-j mul-both-ready array-copy-out-both-ready
+    mul-both-ready-2 array-copy-out-both-ready-2 both-ready-requires halt-requires-10 returns-10 form-requires-2 halt-requires-11 returns-11
+    attach-requires-3 mul-cs-5 array-set-from-cs-5 mul-cs-6 array-set-from-cs-6 loop-less loop-again loop-less-2 loop-again-2 loop-less-3 loop-again-3
     loop-less-4 loop-again-4 loop-less-5 loop-again-5 loop-less-6 loop-again-6 loop-less-7 loop-again-7 loop-less-8 loop-again-8 loop-less-9
-    loop-again-9 loop-less-10 loop-again-10 loop-less-11 loop-again-11 loop-less-12 loop-again-12 stop-requires-12 returns-12)
+    loop-again-9 loop-less-10 loop-again-10 loop-less-11 loop-again-11 halt-requires-12 returns-12)

@@ -1,58 +1,68 @@
--- The record alone, run. Assumes nothing.
+-- The record alone, run on a copy of the loops. Assumes nothing.
 use borrow.Author.Needs.{needs}
-use native.Mathlib.Omega.{arith}
-use mathlib.Core.Path.{sym, _∙_}
+use borrow.Author.Tests.{eq-eqb, ne-eqb}
+use Prim.Native.Nat.{ℕ, _≤_}
+use mathlib.Core.Path.{_≡_, sym, ap, subst, _∙_}
+use mathlib.Core.Bool.{cond}
+use mathlib.Core.List.{List}
+use mathlib.Core.Logic.{⊎-elim}
+use lib.Dec.{eqb}
+use lib.ListN.{length, take, length-map}
 use lib.Seq.{length-take-le}
-use Rattle.record.proofs.Forms.{decode-none, decode-strange, decode-short}
-use Rattle.run.proofs.Alone.{step-unread, step-stopped, step-passed}
+use Rattle.machine.specs.Machine.{completeOf}
+use Rattle.machine.proofs.Laws.{complete-by}
+use Rattle.run.specs.declared.Reached.{Reached}
+use Rattle.run.specs.Run.{oneIf, halted, runFrom, frontOf}
+use Rattle.run.proofs.Runs.{run-frame}
+use Rattle.run.proofs.Alone.{front-within, step-given}
 use Rattle.run.proofs.step.Statement.{statement}
 use Rattle.run.proofs.step.Tie as tie
 
-kept-requires : tie.Need-kept-requires
-kept-requires c κs = search needs
-
-returns : tie.Need-returns
-returns c = let a = c .before .before .before .args in c .kept .ensures ∙ step-unread (a .state) (a .bytes .now) 3 (decode-none (a .bytes .now) (c .before .if1 .taken))
-
-shared-slice-read-size-of : tie.Need-shared-slice-read-size-of
-shared-slice-read-size-of c = search needs
-
-size-of-requires : tie.Need-size-of-requires
-size-of-requires c κs = search needs
-
-kept-requires-2 : tie.Need-kept-requires-2
-kept-requires-2 c κs = search needs
-
-returns-2 : tie.Need-returns-2
-returns-2 c = let z = c .before .before in let a = z .before .before .before .before .args in
-    c .kept2 .ensures ∙ step-unread (a .state) (a .bytes .now) 2 (decode-strange (a .bytes .now) (omega (arith, z .before .before .if1 .left)) (sym (z .size-of .ensures) ∙ c .before .if2 .taken))
-
-kept-requires-3 : tie.Need-kept-requires-3
-kept-requires-3 c κs = search needs
-
-returns-3 : tie.Need-returns-3
-returns-3 c = let z = c .before .before .before in let a = z .before .before .before .before .args in
-    c .kept3 .ensures ∙ step-unread (a .state) (a .bytes .now) 3 (decode-short (a .bytes .now) (omega (arith, z .before .before .if1 .left)) (omega (arith, z .size-of .ensures, c .before .if3 .taken)))
+front-requires : tie.Need-front-requires
+front-requires c κs = search needs
 
 slice-aggregate-run-from : tie.Need-slice-aggregate-run-from
-slice-aggregate-run-from c = sym (length-take-le (c .before .before .before .size-of .result) (c .before .before .before .before .before .before .before .args .bytes .now) (c .before .if3 .left))
+slice-aggregate-run-from c = let z = c .before .before in let l = z .before .before .before .before .before .args .bytes .now in
+    sym (length-take-le (z .front .result) l (subst (λ (n : ℕ). n ≤ length l) (sym (z .front .ensures)) (front-within l)))
 
 run-from-requires : tie.Need-run-from-requires
 run-from-requires c κs = search needs
 
-kept-requires-4 : tie.Need-kept-requires-4
-kept-requires-4 c κs = search needs
+-- the loops are as many as the state's, 500
+slice-aggregate-beds-empty : tie.Need-slice-aggregate-beds-empty
+slice-aggregate-beds-empty c = let e = c .before .before .run-from .ensures in let a = c .before .before .before .before .before .before .before .before .before .before in
+    sym (ap (λ (r : Reached). length (r .state .loops)) e ∙ run-frame _ 0 _ .loops ∙ sym (length-map (a .args .state .loops) _) ∙ a .good .0 .1 .1 .1 .0 .1 .0 .1)
 
-returns-4 : tie.Need-returns-4
-returns-4 c = let r = c .before .before .before in let u = r .before .before in let z = u .before .before in let a = z .before .before .before .before .args in
-    c .kept4 .ensures ∙ step-stopped (a .state) (a .bytes .now) (z .size-of .result) (z .size-of .ensures) (u .before .if2 .left) (u .if3 .left) (r .run-from .result) (r .run-from .ensures) (c .before .if4 .taken)
+beds-empty-requires : tie.Need-beds-empty-requires
+beds-empty-requires c κs = search needs
 
-returns-5 : tie.Need-returns-5
-returns-5 c = let r = c .before .before .before in let u = r .before .before in let z = u .before .before in let a = z .before .before .before .before .args in
-    step-passed (a .state) (a .bytes .now) (z .size-of .result) (z .size-of .ensures) (u .before .if2 .left) (u .if3 .left) (r .run-from .result) (r .run-from .ensures) (c .before .if4 .left)
+carriers-pass-requires : tie.Need-carriers-pass-requires
+carriers-pass-requires c κs = search needs
+
+one-if-requires : tie.Need-one-if-requires
+one-if-requires c κs = search needs
+
+-- where the run stopped, and whether the state there is complete
+module _ (b : tie.After-beds-empty) where
+  abbrev end : Reached
+  end = halted (b .before .before .before .run-from .result) (b .before .before .before .run-from .last .1 .0) (b .before .before .before .before .before .before .before .before .before .before .before .args .state .limit)
+
+  abbrev whole : List ℕ
+  whole = b .before .before .before .before .before .before .before .before .before .before .before .args .bytes .now
+
+  stopped : end ≡ runFrom 0 (take (frontOf whole) whole) 0 (b .before .before .before .before .before .before .before .before .before .before .before .args .state)
+  stopped = b .before .before .before .run-from .ensures ∙ ap (λ (n : ℕ). runFrom 0 (take n whole) 0 (b .before .before .before .before .before .before .before .before .before .before .before .args .state)) (b .before .before .before .before .before .before .front .ensures)
+
+returns : tie.Need-returns
+returns c = let b = c .before .before .before .before in let size = c .before .before .before .before .before .before .before .before .before .before .front .result in
+    step-given _ (whole b) (end b) (stopped b) size (c .before .before .if2 .number) (c .before .before .before .if1 .complete) (c .before .if3 .length) (c .before .before .before .before .before .before .before .before .before .before .front .ensures)
+    (⊎-elim {C = c .before .before .if2 .number ≡ cond (eqb size 0) 4 (end b .number)} (λ u. simp (eq-eqb size 0 (u .0 .taken)) (u .1)) (λ u. simp (ne-eqb size 0 (u .0 .left)) (u .1)) (c .before .before .if2 .came))
+    (⊎-elim {C = c .before .before .before .if1 .complete ≡ oneIf (completeOf (end b .state))}
+    (λ u. u .4 ∙ u .3 .ensures ∙ ap oneIf (u .2 .ensures ∙ complete-by (end b .state) (sym (b .beds-empty .ensures) ∙ u .0 .taken)))
+    (λ u. u .1 ∙ ap oneIf (complete-by (end b .state) (sym (b .beds-empty .ensures) ∙ u .0 .left))) (c .before .before .before .if1 .came))
+    (⊎-elim {C = c .before .if3 .length ≡ cond (eqb (c .before .before .if2 .number) 0) size 0} (λ u. simp (eq-eqb _ 0 (u .0 .taken)) (u .1)) (λ u. simp (ne-eqb _ 0 (u .0 .left)) (u .1)) (c .before .if3 .came))
 
 pub step-spec : {M : Type 1} → statement M
 step-spec =
     tie.close (tie.spec
-    kept-requires returns shared-slice-read-size-of size-of-requires kept-requires-2 returns-2 kept-requires-3 returns-3 slice-aggregate-run-from
-    run-from-requires kept-requires-4 returns-4 returns-5)
+    front-requires slice-aggregate-run-from run-from-requires slice-aggregate-beds-empty beds-empty-requires carriers-pass-requires one-if-requires returns)

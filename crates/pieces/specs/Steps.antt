@@ -1,0 +1,93 @@
+-- Complete after every record (02, W4) as rows: the walk over the hooks, single steps from a state, and programs stepped record by record.
+use Prim.Native.Nat.{ℕ}
+use mathlib.Core.Path.{_≡_}
+use mathlib.Core.Bool.{Bool, true, false}
+use mathlib.Core.List.{List, [], _∷_, _++_}
+use lib.IntN.{ℤ, pos, negsuc}
+use lib.ListN.{set, replicate}
+use Rattle.machine.specs.declared.State.{State}
+use Rattle.machine.specs.Machine.{emptyState}
+use Rattle.machine.specs.Walk.{walkOf}
+use Rattle.panel.specs.Panel.{panelStep}
+use Rattle.panel.specs.Rows.{withRacking, withHook, with}
+use Rattle.pieces.specs.Spelled.{f, b, left, right, rack, drop, xfer, bring-in, take-out, miss, tuck, knit, plated-tuck, plated-knit}
+
+-- ---- the walk: loops, whether there is none, hooks looked at
+abbrev hooks : List ℕ
+hooks = replicate 500 0
+
+abbrev pub walks : List (List ℕ × Bool × ℕ)
+walks =
+    -- a loop on the first hook, on the last, none; at both sides of the border of the beds
+    (set hooks 0 1, false, 1) ∷ (set hooks 499 1, false, 500) ∷ (hooks, true, 500)
+    ∷ (set hooks 1 1, false, 2) ∷ (set hooks 249 1, false, 250) ∷ (set hooks 250 1, false, 251) ∷ (set hooks 498 1, false, 499)
+    -- the first of several, whatever their counts
+    ∷ (set (set hooks 10 1) 260 8, false, 11) ∷ (set (set hooks 0 8) 499 1, false, 1) ∷ (set (set hooks 498 2) 499 1, false, 499) ∷ (set hooks 300 255, false, 301)
+    -- loops of any length
+    ∷ ([], true, 0) ∷ (0 ∷ [], true, 1) ∷ (1 ∷ [], false, 1) ∷ (0 ∷ 0 ∷ 0 ∷ [], true, 3) ∷ (0 ∷ 0 ∷ 5 ∷ [], false, 3) ∷ (0 ∷ 7 ∷ 5 ∷ [], false, 2) ∷ (3 ∷ 0 ∷ 0 ∷ [], false, 1) ∷ []
+
+abbrev pub WalksSo : List ℕ × Bool × ℕ → Type 0
+WalksSo r = walkOf (r .0) ≡ record { none = r .1; looked = r .2 }
+
+-- ---- single steps: a state, bytes, and number, complete and length
+abbrev empty : State
+empty = emptyState 8
+
+-- carrier 10 parked at a slot; attached on the right of f.9, beside it
+abbrev parked : ℤ → State
+parked z = with 1 0 z 0 0
+
+abbrev attached : State
+attached = with 1 2 (pos 10) 0 9
+
+abbrev pub steps : List (State × List ℕ × ℕ × ℕ × ℕ)
+steps =
+    -- done on an empty machine: it stays complete, or not
+    (empty, rack 0, 0, 1, 2) ∷ (empty, drop (f 5), 0, 1, 3) ∷ (empty, drop (b 249), 0, 1, 3) ∷ (empty, xfer (f 5) 5, 0, 1, 4)
+    ∷ (empty, rack 1, 0, 0, 2) ∷ (empty, rack 255, 0, 0, 2) ∷ (empty, bring-in right (f 10) 3, 0, 0, 5) ∷ (empty, bring-in left (f 255) 1, 5, 1, 0)
+    -- what follows the record is not looked at
+    ∷ (empty, rack 0 ++ rack 1, 0, 1, 2) ∷ (empty, rack 1 ++ rack 0, 0, 0, 2) ∷ (empty, drop (f 5) ++ bring-in right (f 10) 3, 0, 1, 3) ∷ (empty, rack 0 ++ (0 ∷ []), 0, 1, 2)
+    -- refused on an empty machine: it is complete
+    ∷ (empty, 0 ∷ [], 3, 1, 0) ∷ (empty, 12 ∷ rack 0, 3, 1, 0) ∷ (empty, [], 4, 1, 0) ∷ (empty, 1 ∷ [], 4, 1, 0) ∷ (empty, 8 ∷ 1 ∷ 0 ∷ 10 ∷ [], 4, 1, 0)
+    ∷ (empty, rack 9, 5, 1, 0) ∷ (empty, knit right (f 10) 3, 7, 1, 0) ∷ (empty, take-out right (f 10) 3, 7, 1, 0) ∷ (empty, xfer (f 5) 6, 10, 1, 0) ∷ (empty, plated-knit right (f 5) 2 2, 16, 1, 0)
+    -- at that state's limit
+    ∷ (emptyState 1, rack 0, 0, 1, 2) ∷ (emptyState 1, [], 4, 1, 0) ∷ (emptyState 3, drop (f 5), 0, 1, 3) ∷ (emptyState 3, plated-tuck right (f 5) 2 2, 16, 1, 0)
+    -- 15: no, though nothing but the limit is amiss
+    ∷ (emptyState 0, rack 0, 15, 0, 0) ∷ (emptyState 9, rack 0, 15, 0, 0) ∷ (emptyState 255, [], 15, 0, 0) ∷ (withRacking (pos 9), rack 0, 15, 0, 0) ∷ (withHook 8 0 9, drop (f 0), 15, 0, 0) ∷ (with 0 0 (pos 1) 0 0, [], 15, 0, 0)
+    -- one hook holds a loop, the first or the last; it is dropped, or another is
+    ∷ (withHook 8 0 1, rack 0, 0, 0, 2) ∷ (withHook 8 499 1, rack 0, 0, 0, 2) ∷ (withHook 8 0 1, drop (f 0), 0, 1, 3) ∷ (withHook 8 499 8, drop (b 249), 0, 1, 3)
+    ∷ (withHook 8 499 1, drop (f 249), 0, 0, 3) ∷ (withHook 8 250 1, drop (b 0), 0, 1, 3) ∷ (withHook 8 249 1, xfer (f 249) 249, 0, 0, 4)
+    ∷ (withHook 8 499 1, [], 4, 0, 0) ∷ (withHook 8 0 1, 0 ∷ [], 3, 0, 0) ∷ (withHook 1 499 1, knit right (f 10) 3, 7, 0, 0)
+    -- the racking comes back to 0, or does not
+    ∷ (withRacking (pos 1), rack 0, 0, 1, 2) ∷ (withRacking (negsuc 7), rack 0, 0, 1, 2) ∷ (withRacking (pos 1), rack 2, 0, 0, 2) ∷ (withRacking (pos 1), drop (f 0), 0, 0, 3) ∷ (withRacking (negsuc 0), [], 4, 0, 0)
+    -- the last carrier goes out, or passes by; refused, it is still in
+    ∷ (parked (pos 10), take-out right (f 9) 10, 0, 1, 5) ∷ (attached, take-out right (f 9) 10, 0, 1, 5) ∷ (parked (pos 0), take-out left (f 0) 10, 0, 1, 5) ∷ (parked (pos 10), miss left (f 9) 10, 0, 0, 5)
+    ∷ (parked (pos 10), take-out left (f 9) 10, 8, 0, 0) ∷ (parked (pos 10), take-out right (f 9) 9, 7, 0, 0) ∷ (parked (pos 0), bring-in right (f 0) 10, 6, 0, 0) ∷ (parked (pos 10), rack 0, 0, 0, 2) ∷ []
+
+abbrev pub Shows : State × List ℕ × ℕ × ℕ × ℕ → Type 0
+Shows (s, l, n, c, k) = (panelStep s l .number ≡ n) × (panelStep s l .complete ≡ c) × (panelStep s l .length ≡ k)
+
+-- ---- programs stepped record by record from the empty state at a limit: number and complete after each
+abbrev pub stepped : State → List (List ℕ) → List (ℕ × ℕ)
+stepped s [] = []
+stepped s (r ∷ l) = (panelStep s r .number, panelStep s r .complete) ∷ stepped (panelStep s r .state) l
+
+abbrev pub pieces : List (ℕ × List (List ℕ) × List (ℕ × ℕ))
+pieces =
+    -- complete after the last out, and not before
+    (8, bring-in right (f 10) 3 ∷ take-out left (f 10) 3 ∷ [], (0, 0) ∷ (0, 1) ∷ [])
+    ∷ (1, bring-in right (f 10) 3 ∷ bring-in right (f 20) 4 ∷ take-out left (f 10) 3 ∷ take-out left (f 20) 4 ∷ [], (0, 0) ∷ (0, 0) ∷ (0, 0) ∷ (0, 1) ∷ [])
+    ∷ (8, bring-in right (f 10) 3 ∷ knit right (f 10) 3 ∷ drop (f 10) ∷ take-out right (f 10) 3 ∷ [], (0, 0) ∷ (0, 0) ∷ (0, 0) ∷ (0, 1) ∷ [])
+    -- the last is a drop, or a rack; a loop or a carrier that is forgotten
+    ∷ (8, bring-in right (b 10) 3 ∷ knit right (b 10) 3 ∷ take-out right (b 10) 3 ∷ drop (b 10) ∷ [], (0, 0) ∷ (0, 0) ∷ (0, 0) ∷ (0, 1) ∷ [])
+    ∷ (8, rack 2 ∷ drop (f 10) ∷ rack 0 ∷ rack 0 ∷ [], (0, 0) ∷ (0, 0) ∷ (0, 1) ∷ (0, 1) ∷ [])
+    ∷ (8, bring-in right (f 10) 3 ∷ tuck right (f 10) 3 ∷ take-out right (f 10) 3 ∷ drop (b 10) ∷ [], (0, 0) ∷ (0, 0) ∷ (0, 0) ∷ (0, 0) ∷ [])
+    -- two pieces, the second begun after the first is complete; refused records between keep what there is
+    ∷ (8, bring-in right (f 10) 3 ∷ take-out left (f 10) 4 ∷ take-out left (f 10) 3 ∷ take-out left (f 10) 3 ∷ bring-in right (f 10) 3 ∷ take-out left (f 10) 3 ∷ [], (0, 0) ∷ (7, 0) ∷ (0, 1) ∷ (7, 1) ∷ (0, 0) ∷ (0, 1) ∷ [])
+    -- at limit 1 a second loop is refused with 11, and the machine is as it was
+    ∷ (1, bring-in right (f 10) 3 ∷ tuck right (f 10) 3 ∷ tuck left (f 10) 3 ∷ take-out left (f 11) 3 ∷ [], (0, 0) ∷ (0, 0) ∷ (11, 0) ∷ (0, 0) ∷ [])
+    -- a limit out of range: 15 every time, and not complete
+    ∷ (0, rack 0 ∷ drop (f 10) ∷ [], (15, 0) ∷ (15, 0) ∷ []) ∷ (9, rack 0 ∷ [], (15, 0) ∷ []) ∷ []
+
+abbrev pub StepsSo : ℕ × List (List ℕ) × List (ℕ × ℕ) → Type 0
+StepsSo (limit, l, told) = stepped (emptyState limit) l ≡ told
