@@ -4,6 +4,7 @@ use Prim.Native.Nat.{ℕ, _+_, _<_, _≤_}
 use mathlib.Core.Path.{_≡_, refl, sym, ap, subst, _∙_}
 use mathlib.Core.Bool.{Bool, true, false, _&&_, not, cond, and-true, and-false, and-assoc, false≢true}
 use mathlib.Core.List.{List, [], _∷_, map}
+use mathlib.Core.Logic.{_↔_}
 use native.Mathlib.Omega.{arith}
 use lib.IntN.{ℤ, pos, negsuc, _+ℤ_, _-ℤ_}
 use lib.Signed.{leZ, mag}
@@ -141,7 +142,7 @@ complete-by s e =
     sym (sym (and-assoc (eqZ (s .racking .0) (pos 0)) (noLoops (s .loops)) (allInactive (s .carriers))) ∙ ap (λ (t : Bool). t && allInactive (s .carriers)) e)
 
 -- complete is true exactly of the empty state at the state's own limit
-pub complete-is-empty : (s : State) → length (s .loops) ≡ 500 → length (s .carriers) ≡ 10 → completeOf s ≡ true → s ≡ emptyState (s .limit)
+complete-is-empty : (s : State) → length (s .loops) ≡ 500 → length (s .carriers) ≡ 10 → completeOf s ≡ true → s ≡ emptyState (s .limit)
 unfolding completeOf
 complete-is-empty s hl hc e =
     let (r, e1) = and-two (eqZ (s .racking .0) (pos 0)) _ e in
@@ -153,6 +154,9 @@ complete-is-empty s hl hc e =
 pub empty-is-complete : (limit : ℕ) → completeOf (emptyState limit) ≡ true
 unfolding completeOf emptyState all inactiveCarrier eqZ
 empty-is-complete limit = refl
+
+pub complete-exactly : (s : State) → length (s .loops) ≡ 500 → length (s .carriers) ≡ 10 → (completeOf s ≡ true) ↔ (s ≡ emptyState (s .limit))
+complete-exactly s hl hc = (complete-is-empty s hl hc, λ e. ap completeOf e ∙ empty-is-complete (s .limit))
 
 -- a slot in range, as two comparisons
 pub slot-in : (z : ℤ) → slotOk z ≡ (leZ (negsuc 7) z && leZ z (pos 258))

@@ -11,10 +11,10 @@ use lib.Seq.{ext-getD}
 use borrow.Author.Tests.{ltb-true, ltb-false}
 use Rattle.machine.specs.declared.Carrier.{Carrier}
 use Rattle.machine.specs.declared.State.{State}
-use Rattle.machine.specs.Machine.{inactive, emptyState, completeOf}
+use Rattle.machine.specs.Machine.{inactive, completeOf}
 use Rattle.machine.specs.Range.{StateInRange, stateOk}
 use Rattle.run.specs.declared.Stepped.{Stepped}
-use Rattle.machine.proofs.Laws.{complete-is-empty, empty-is-complete}
+use Rattle.machine.proofs.Laws.{complete-exactly}
 use Rattle.record.specs.declared.Record.{Record}
 use Rattle.run.specs.Relation.{Step}
 use Rattle.run.specs.Run.{oneIf, stay, stepOf}
@@ -38,17 +38,15 @@ not-in-range e h = true≢false (sym (fine h) ∙ e)
 -- ---- the step
 -- whether a state is complete, as a step tells it
 module _ (t : State) (hooks : length (t .loops) ≡ 500) (ten : length (t .carriers) ≡ 10) where
-  emptied : t ≡ emptyState (t .limit) → completeOf t ≡ true
-  emptied e = ap completeOf e ∙ empty-is-complete (t .limit)
-
   tells : Tells t (oneIf (completeOf t))
   tells =
-      cases (completeOf t) (λ e. subst (Tells t) (ap oneIf (sym e)) (Tells.complete (complete-is-empty t hooks ten e)))
-      (λ e. subst (Tells t) (ap oneIf (sym e)) (Tells.incomplete (λ f. true≢false (sym (emptied f) ∙ e))))
+      let (empty, full) = complete-exactly t hooks ten in
+      cases (completeOf t) (λ e. subst (Tells t) (ap oneIf (sym e)) (Tells.complete (empty e)))
+      (λ e. subst (Tells t) (ap oneIf (sym e)) (Tells.incomplete (λ f. true≢false (sym (full f) ∙ e))))
 
   tells-one : {c : ℕ} → Tells t c → oneIf (completeOf t) ≡ c
-  tells-one (Tells.complete e) = ap oneIf (emptied e)
-  tells-one (Tells.incomplete d) = cases (completeOf t) (λ e. absurd (d (complete-is-empty t hooks ten e))) (λ e. ap oneIf e)
+  tells-one (Tells.complete e) = ap oneIf (complete-exactly t hooks ten .1 e)
+  tells-one (Tells.incomplete d) = cases (completeOf t) (λ e. absurd (d (complete-exactly t hooks ten .0 e))) (λ e. ap oneIf e)
 
 module _ (s : State) (l : List ℕ) (hooks : length (s .loops) ≡ 500) (ten : length (s .carriers) ≡ 10) where
   -- the state after a step has as many

@@ -23,4 +23,4 @@ steps-so =
 
 pub pieces-so : Each StepsSo pieces
 unfolding panelStep stateOk slotOk attachmentOk carrierOk stepOf emptyState completeOf all inactiveCarrier movedTo attachedAt sameNeedle eqZ columnOf entryOf exitOf sameColumn withinFloat decodeOf readOf fieldsOk recordFrom refusedAs rackOk needleOk workOk signedOf needlesOf carriersOf lookOf seeOf twiceNo parkedNo floatNo carrierNo oppositeNo firstAfter secondAfter firstAsked roomNo decidedNo edit actOf acted moveAttachments numberAt applyOf byKind
-pieces-so = (refl, (refl, (refl, (refl, (refl, (refl, (refl, (refl, (refl, (refl, tt))))))))))
+pieces-so = (refl, (refl, (refl, (refl, (refl, (refl, (refl, (refl, (refl, (refl, (refl, tt)))))))))))

@@ -76,7 +76,8 @@ abbrev pub pieces : List (ℕ × List (List ℕ) × List (ℕ × ℕ))
 pieces =
     -- complete after the last out, and not before
     (8, bring-in right (f 10) 3 ∷ take-out left (f 10) 3 ∷ [], (0, 0) ∷ (0, 1) ∷ [])
-    ∷ (1, bring-in right (f 10) 3 ∷ bring-in right (f 20) 4 ∷ take-out left (f 10) 3 ∷ take-out left (f 20) 4 ∷ [], (0, 0) ∷ (0, 0) ∷ (0, 0) ∷ (0, 1) ∷ [])
+    ∷ (1, bring-in right (f 10) 1 ∷ bring-in right (f 20) 10 ∷ take-out left (f 10) 1 ∷ take-out left (f 20) 10 ∷ [], (0, 0) ∷ (0, 0) ∷ (0, 0) ∷ (0, 1) ∷ [])
+    ∷ (8, bring-in right (f 10) 1 ∷ bring-in right (f 20) 10 ∷ take-out left (f 20) 10 ∷ take-out left (f 10) 1 ∷ [], (0, 0) ∷ (0, 0) ∷ (0, 0) ∷ (0, 1) ∷ [])
     ∷ (8, bring-in right (f 10) 3 ∷ knit right (f 10) 3 ∷ drop (f 10) ∷ take-out right (f 10) 3 ∷ [], (0, 0) ∷ (0, 0) ∷ (0, 0) ∷ (0, 1) ∷ [])
     -- the last is a drop, or a rack; a loop or a carrier that is forgotten
     ∷ (8, bring-in right (b 10) 3 ∷ knit right (b 10) 3 ∷ take-out right (b 10) 3 ∷ drop (b 10) ∷ [], (0, 0) ∷ (0, 0) ∷ (0, 0) ∷ (0, 1) ∷ [])

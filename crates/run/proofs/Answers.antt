@@ -11,7 +11,7 @@ use borrow.Author.Tests.{leb-true, leb-false, le-leb, lt-leb}
 use Rattle.machine.specs.declared.State.{State}
 use Rattle.machine.specs.Machine.{emptyState, completeOf, inactive}
 use Rattle.machine.specs.Range.{LimitInRange}
-use Rattle.machine.proofs.Laws.{complete-is-empty, empty-is-complete}
+use Rattle.machine.proofs.Laws.{empty-is-complete, complete-exactly}
 use Rattle.machine.proofs.Ranges.{limit-exactly, limit-cases, limit-out}
 use Rattle.run.specs.declared.Reached.{Reached}
 use Rattle.run.specs.declared.Answer.{Answer}
@@ -117,7 +117,7 @@ module _ (limit : ℕ) {q : List ℕ} {t : State} (steps : Steps (emptyState lim
 
   -- it is the empty one exactly where it is complete
   complete-at : Complete (completeOf t) t
-  complete-at = (complete-is-empty t (steps-size .loops) (steps-size .carriers), λ e. ap completeOf e ∙ empty-is-complete (t .limit))
+  complete-at = complete-exactly t (steps-size .loops) (steps-size .carriers)
 
 module _ {limit : ℕ} {p : List ℕ} where
   pub answer-size : {a : Answer} → Answered limit p a → FullSize (a .state)
