@@ -4,6 +4,8 @@
 
 #include "banthewig.h"
 
+#include <stdlib.h>
+
 enum {
     RACK = KNITOUT_RACK, DROP = KNITOUT_DROP, XFER = KNITOUT_XFER, IN = KNITOUT_IN, OUT = KNITOUT_OUT,
     MISS = KNITOUT_MISS, TUCK = KNITOUT_TUCK, KNIT = KNITOUT_KNIT, SPLIT = KNITOUT_SPLIT,
@@ -28,6 +30,13 @@ static const uint8_t record_size[KIND_LIMIT] = { 0, 2, 3, 4, 5, 5, 5, 5, 5, 6, 6
 
 /* Can hooks have the limit? */
 static inline int limit_in_range(unsigned limit) { return KNITOUT_LIMIT_LEAST <= limit && limit <= KNITOUT_LIMIT_MOST; }
+
+/* Does a rack stretch a yarn? At racking 0 its attachment, on the back bed, is so many slots right of its carrier. */
+static inline int stretches(int offset, int before, int after)
+{
+    int distance = abs(offset + after);
+    return distance > KNITOUT_STRETCH_MOST && distance > abs(offset + before);
+}
 
 /* Limits in range and out of it. */
 static const uint8_t limits[] = { 0, 1, 2, 3, 4, 5, 6, 7, 8, 9, 255 };

@@ -168,6 +168,14 @@ static int orders_differ(struct program *p, uint32_t seed)
     return order_is_not(p->bytes, p->length, order, "a program after swaps");
 }
 
+/* A program that is refused with 17 writes nothing. */
+static int stretched_differs(void)
+{
+    const struct program *p = find_program("refused-17");
+    return lent_differs(KNITOUT_LIMIT_MOST, p->bytes, p->length, OUTPUT, WORK) || lent[PLAIN].answer != p->answer
+        || lent[PLAIN].output[0] != PAINT;
+}
+
 static int checks(void)
 {
     static struct program generated;
@@ -175,7 +183,7 @@ static int checks(void)
         build_generated(&generated, GENERATED_LENGTH, limits[1 + seed % KNITOUT_LIMIT_MOST], seed);
         if (limits_differ(generated.bytes, generated.length) || orders_differ(&generated, seed)) return 1;
     }
-    return sizes_differ(&generated) || altered_differs(&generated, 1);
+    return sizes_differ(&generated) || altered_differs(&generated, 1) || stretched_differs();
 }
 
 const struct group order_group = { "order", count_orders, build, prepare, call, differs, checks };

@@ -32,14 +32,15 @@ int is_empty(const struct knitout_state *state)
     return states_agree(state, &none);
 }
 
-/* Steps through a program and keeps, for each kind from the first one given, the moment before its last record. */
+/* Steps through a program, up to a refused record, and keeps, for each kind from the first one given, the moment before
+   its last record. */
 static void keep_moments(struct moment *moments, const struct program *p, int first)
 {
     struct knitout_state state = empty;
     for (size_t at = 0; at < p->length;) {
         if (p->bytes[at] >= first) moments[p->bytes[at]] = (struct moment){ p, state, at };
         struct knitout_stepped stepped = plain_step(&state, p->bytes + at, p->length - at);
-        if (stepped.number) abort();
+        if (stepped.number) return;
         at += stepped.length;
     }
 }
@@ -52,6 +53,14 @@ static const struct moment *find_moments(void)
     keep_moments(moments, find_program("mixed"), RACK);
     keep_moments(moments, find_program("plated-mix"), PLATED_TUCK);
     return moments;
+}
+
+/* Of the last rack of a program of racks with ten attachments on the back bed. */
+static const struct moment *find_rack(const char *program)
+{
+    static struct moment moments[KIND_LIMIT];
+    keep_moments(moments, find_program(program), RACK);
+    return &moments[RACK];
 }
 
 static void one_step(const char *name, const struct moment *moment, unsigned number)
@@ -97,7 +106,7 @@ static void step_through(const struct program *p)
 static void make_foul(struct knitout_state *state) { state->carriers[KNITOUT_CARRIERS - 1].needle = KNITOUT_NEEDLES; }
 
 /* The refused steps: a knit with the carrier that the last in brings in, before it does; the last plated knit with its
-   first carrier twice; three foul states. */
+   first carrier twice; a rack that stretches the tenth yarn; three foul states. */
 static void build_refused(int i, const struct moment *moments)
 {
     const struct moment *plated = &moments[PLATED_KNIT];
@@ -106,9 +115,11 @@ static void build_refused(int i, const struct moment *moments)
     } else if (i == 1) {
         altered_step("refused-16", plated, KNITOUT_YARN_TWICE, 5, plated->program->bytes[plated->place + 4]);
     } else if (i == 2) {
+        one_step("refused-17", find_rack("refused-17"), KNITOUT_STRETCHED);
+    } else if (i == 3) {
         one_step("refused-15-racking", &moments[KNIT], KNITOUT_BAD_STATE);
         step.state.racking = KNITOUT_RACKING_MOST + 1;
-    } else if (i == 3) {
+    } else if (i == 4) {
         one_step("refused-15-limit", &moments[KNIT], KNITOUT_BAD_STATE);
         step.state.limit = KNITOUT_LIMIT_LEAST - 1;
     } else {
@@ -151,8 +162,9 @@ const struct step_input *build_step(int i)
     if (i < PLATED_KNIT) one_step(kind_name(i + 1), &moments[i + 1], KNITOUT_DONE);
     else if (i == PLATED_KNIT) step_through(find_program("mixed"));
     else if (i == PLATED_KNIT + 1) step_through(find_program("plated-mix"));
-    else if (i < PLATED_KNIT + 2 + LOOKED) build_looked(i - (PLATED_KNIT + 2));
-    else build_refused(i - (PLATED_KNIT + 2 + LOOKED), moments);
+    else if (i == PLATED_KNIT + 2) one_step("rack-ten", find_rack("rack-ten"), KNITOUT_DONE);
+    else if (i < PLATED_KNIT + 3 + LOOKED) build_looked(i - (PLATED_KNIT + 3));
+    else build_refused(i - (PLATED_KNIT + 3 + LOOKED), moments);
     step.complete = count_complete();
     return &step;
 }

@@ -6,7 +6,7 @@
 #include <stdio.h>
 #include <string.h>
 
-enum { GENERATED = 24, GENERATED_LENGTH = 2048, ALTERED = 4, PLATED = 6, ENTRIES = 12, PAINT = 0x5a };
+enum { GENERATED = 24, GENERATED_LENGTH = 2048, ALTERED = 4, PLATED = 6, RACKS = 4, ENTRIES = 12, PAINT = 0x5a };
 
 /* Values put into each byte of a state, and into slots, beds and needles, in and out of ranges. */
 static const uint8_t byte_values[] = { 0, 1, 2, 3, 4, 5, 6, 7, 8, 9, 127, 128, 247, 248, 249, 250, 255 };
@@ -14,7 +14,7 @@ static const uint16_t word_values[] = { 0, 1, 2, 249, 250, 256, 257, 258, 259, 5
 enum { BYTES = sizeof byte_values, WORDS = sizeof word_values / sizeof word_values[0] };
 
 /* How often each number was given, by the state's limit; and with complete. */
-static unsigned seen[UINT8_MAX + 1][KNITOUT_YARN_TWICE + 1], seen_complete[UINT8_MAX + 1][KNITOUT_YARN_TWICE + 1];
+static unsigned seen[UINT8_MAX + 1][KNITOUT_STRETCHED + 1], seen_complete[UINT8_MAX + 1][KNITOUT_STRETCHED + 1];
 
 static int differ(const char *what, struct knitout_stepped library, struct knitout_stepped plain)
 {
@@ -103,6 +103,21 @@ static int plated_differ(const struct knitout_state *state, uint32_t *seed)
     return 0;
 }
 
+/* Racks where a carrier is parked some 20 slots from its attachment, to the left or to the right. */
+static int racks_differ(const struct knitout_state *state, uint32_t *seed)
+{
+    for (int i = 0; i < RACKS; i++) {
+        struct knitout_state parked = *state, after;
+        struct knitout_carrier *c = &parked.carriers[choose_below(seed, KNITOUT_CARRIERS)];
+        int apart = KNITOUT_STRETCH_MOST - 2 + (int)choose_below(seed, 5);
+        int slot = c->needle + (c->bed ? state->racking : 0) + (choose_below(seed, 2) ? apart : -apart);
+        uint8_t rack[] = { RACK, (uint8_t)(choose_below(seed, 17) - 8u) };
+        if (c->active && KNITOUT_SLOT_LEAST <= slot && slot <= KNITOUT_SLOT_MOST) c->slot = (int16_t)slot;
+        if (step_differs(&parked, rack, sizeof rack, &after)) return 1;
+    }
+    return 0;
+}
+
 /* Records like the next one, with one byte altered and now and then cut short. */
 static int altered_differ(const struct knitout_state *state, const uint8_t *bytes, size_t size, uint32_t *seed)
 {
@@ -125,6 +140,7 @@ static int program_differs(const struct program *p, uint32_t seed, struct knitou
         size_t size = record_size[p->bytes[at]];
         if (altered_differ(state, p->bytes + at, size, &seed)) return 1;
         if (stray_differs(state, p->bytes + at, size, &seed) || plated_differ(state, &seed)) return 1;
+        if (racks_differ(state, &seed)) return 1;
         if (step_differs(state, p->bytes + at, p->length - at, state)) return 1;
         at += size;
     }
@@ -265,7 +281,7 @@ int generated_steps_differ(void)
     }
     if (nearly_empty_differ(GENERATED) || complete_not_seen()) return 1;
     return not_seen("step", KNITOUT_DONE, KNITOUT_DONE) || not_seen("step", KNITOUT_UNKNOWN_KIND, KNITOUT_HOOK_FULL)
-        || not_seen("step", KNITOUT_BAD_STATE, KNITOUT_YARN_TWICE);
+        || not_seen("step", KNITOUT_BAD_STATE, KNITOUT_STRETCHED);
 }
 
 int generated_lists_differ(void)

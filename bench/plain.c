@@ -5,8 +5,8 @@
 
 #include <string.h>
 
-/* Outside the slots -8 to 258 and the hooks 0 to 511. */
-enum { INACTIVE = -32768, UNATTACHED = -1 };
+/* Outside the slots -8 to 258 and the hooks 0 to 511, of which those from 256 on are the back bed's. */
+enum { INACTIVE = -32768, UNATTACHED = -1, BACK_HOOK = 256 };
 
 /* A hook is bed * 256 + needle, so that two bytes name it and a shift gives the bed. */
 struct carrier {
@@ -36,10 +36,22 @@ static inline int column_of(const struct state *s, int hook)
 static inline int entry_slot(const struct stitch *t) { return t->column + (t->right ^ 1); }
 static inline int exit_slot(const struct stitch *t) { return t->column + t->right; }
 
+/* Does a rack stretch some yarn? Only those attached on the back bed: no other attachment moves. */
+static inline int any_stretched(const struct state *s, int racking)
+{
+    for (int i = 0; i < KNITOUT_CARRIERS; i++) {
+        const struct carrier *c = &s->carriers[i];
+        if (c->hook < BACK_HOOK) continue;
+        if (stretches((c->hook & 255) + c->side - c->slot, s->shift[1], racking)) return 1;
+    }
+    return 0;
+}
+
 static inline int rack(struct state *s, const uint8_t *p)
 {
     int racking = (int8_t)p[1];
     if (racking < KNITOUT_RACKING_LEAST || racking > KNITOUT_RACKING_MOST) return KNITOUT_FIELD_RANGE;
+    if (any_stretched(s, racking)) return KNITOUT_STRETCHED;
     s->shift[1] = racking;
     return KNITOUT_DONE;
 }

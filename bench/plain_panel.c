@@ -60,10 +60,21 @@ static inline int column_of(const struct knitout_state *s, int bed, int needle) 
 static inline int entry_slot(const struct stitch *t) { return t->column + (t->right ^ 1); }
 static inline int exit_slot(const struct stitch *t) { return t->column + t->right; }
 
+/* Does a rack stretch some yarn? Only those attached on the back bed: no other attachment moves. */
+static inline int any_stretched(const struct knitout_state *s, int racking)
+{
+    for (const struct knitout_carrier *c = s->carriers; c < s->carriers + KNITOUT_CARRIERS; c++) {
+        if (c->bed != KNITOUT_BACK) continue;
+        if (stretches(c->needle + (c->side == KNITOUT_RIGHT) - c->slot, s->racking, racking)) return 1;
+    }
+    return 0;
+}
+
 static inline int rack(struct knitout_state *s, const uint8_t *p)
 {
     int racking = (int8_t)p[1];
     if (!racking_in_range(racking)) return KNITOUT_FIELD_RANGE;
+    if (any_stretched(s, racking)) return KNITOUT_STRETCHED;
     s->racking = (int8_t)racking;
     return KNITOUT_DONE;
 }

@@ -11,7 +11,7 @@ enum { KIND_LENGTH = 32000 };
 enum { WIDTH = KNITOUT_NEEDLES / KNITOUT_CARRIERS };
 
 struct carrier {
-    int active, slot, attached, bed, needle;
+    int active, slot, attached, bed, needle, side; /* 0 left, 1 right */
 };
 
 /* A program under way and the machine after it. */
@@ -114,13 +114,13 @@ static void stitch(struct builder *b, int kind, int direction, int bed, int need
     if (kind == IN) *c = (struct carrier){ .active = 1, .slot = column + !direction };
     else if (kind == OUT) *c = (struct carrier){ 0 };
     else if (kind == MISS) c->slot = column + direction;
-    else *c = (struct carrier){ 1, column + direction, 1, bed, needle };
+    else *c = (struct carrier){ 1, column + direction, 1, bed, needle, direction };
 }
 
 /* A plated tuck or knit with its two carriers. */
 static void plated(struct builder *b, int kind, int direction, int bed, int needle, int k, int second)
 {
-    struct carrier after = { 1, column_of(b, bed, needle) + direction, 1, bed, needle };
+    struct carrier after = { 1, column_of(b, bed, needle) + direction, 1, bed, needle, direction };
     append(b, (uint8_t[]){ (uint8_t)kind, (uint8_t)direction, (uint8_t)bed, (uint8_t)needle,
                            (uint8_t)k, (uint8_t)second });
     b->loops[bed][needle] = PLATED_LOOPS + (kind == PLATED_TUCK ? b->loops[bed][needle] : 0);
@@ -139,14 +139,70 @@ static void build_drop(struct builder *b)
     for (int i = 0; room(b) >= 3; i++) drop(b, i / KNITOUT_NEEDLES % 2, i % KNITOUT_NEEDLES);
 }
 
+/* Ten carriers come in and tuck once on a bed. */
+static void tuck_ten(struct builder *b, int bed)
+{
+    for (int k = 1; k <= KNITOUT_CARRIERS; k++) {
+        stitch(b, IN, RIGHT, bed, WIDTH * (k - 1), k);
+        stitch(b, TUCK, RIGHT, bed, WIDTH * (k - 1), k);
+    }
+}
+
+/* Leads a carrier to the right by misses. */
+static void lead(struct builder *b, int k, int misses)
+{
+    for (int i = 0; i < misses; i++) stitch(b, MISS, RIGHT, KNITOUT_FRONT, b->carriers[k].slot, k);
+}
+
+/* Racks that look at ten attachments: on the front bed, which stay; on the back bed, up to 8 slots from their carriers. */
+static void build_rack_front(struct builder *b)
+{
+    tuck_ten(b, KNITOUT_FRONT);
+    build_rack(b);
+}
+
+static void build_rack_ten(struct builder *b)
+{
+    tuck_ten(b, KNITOUT_BACK);
+    build_rack(b);
+}
+
+/* The same with each carrier led away: 19 and 20 slots in turn, or over 20, so that both distances decide, with racks to
+   the value in force. */
+static void lead_ten(struct builder *b, int misses)
+{
+    tuck_ten(b, KNITOUT_BACK);
+    for (int k = 1; k <= KNITOUT_CARRIERS; k++) lead(b, k, misses);
+}
+
+static void build_rack_edge(struct builder *b)
+{
+    lead_ten(b, KNITOUT_STRETCH_MOST - 1);
+    for (int i = 0; room(b) >= 2; i++) rack(b, i % 2 - 1);
+}
+
+static void build_rack_far(struct builder *b)
+{
+    lead_ten(b, KNITOUT_STRETCH_MOST + 1);
+    while (room(b) >= 2) rack(b, 0);
+}
+
+/* Ten on the back bed, the last of them led away so that only racking -8, the last record's, stretches its yarn. */
+static void build_refused_17(struct builder *b)
+{
+    struct program *p = b->program;
+    tuck_ten(b, KNITOUT_BACK);
+    lead(b, KNITOUT_CARRIERS, KNITOUT_STRETCH_MOST + 1 + KNITOUT_RACKING_LEAST);
+    for (int i = 0; room(b) >= 2 * 2; i++) rack(b, i * 5 % 16 - 7);
+    p->answer = packed(KNITOUT_STRETCHED, p->length);
+    append(b, (uint8_t[]){ RACK, (uint8_t)KNITOUT_RACKING_LEAST });
+}
+
 /* Ten carriers tuck once; then all front needles go to the back bed and return, in turn:
    one xfer in 25 moves a loop and an attachment. */
 static void build_xfer(struct builder *b)
 {
-    for (int k = 1; k <= KNITOUT_CARRIERS; k++) {
-        stitch(b, IN, RIGHT, KNITOUT_FRONT, WIDTH * (k - 1), k);
-        stitch(b, TUCK, RIGHT, KNITOUT_FRONT, WIDTH * (k - 1), k);
-    }
+    tuck_ten(b, KNITOUT_FRONT);
     for (int i = 0; room(b) >= 4; i++) xfer(b, i / KNITOUT_NEEDLES % 2, i % KNITOUT_NEEDLES);
 }
 
@@ -230,6 +286,25 @@ static int choose_worked(struct builder *b)
     return choose_column(b);
 }
 
+/* Does a rack stretch some yarn? */
+static int any_stretched(const struct builder *b, int racking)
+{
+    for (int k = 1; k <= KNITOUT_CARRIERS; k++) {
+        const struct carrier *c = &b->carriers[k];
+        int back = c->attached && c->bed == KNITOUT_BACK;
+        if (back && stretches(c->needle + c->side - c->slot, b->racking, racking)) return 1;
+    }
+    return 0;
+}
+
+/* Any racking, or the next one that stretches no yarn: at the latest the one in force. */
+static void mixed_rack(struct builder *b)
+{
+    int racking = choose(b, 17) - 8;
+    while (any_stretched(b, racking)) racking = racking == KNITOUT_RACKING_MOST ? KNITOUT_RACKING_LEAST : racking + 1;
+    rack(b, racking);
+}
+
 /* A drop or an xfer; a drop too where there is no room for the loops. */
 static void mixed_hook(struct builder *b, int kind)
 {
@@ -277,7 +352,7 @@ static void mixed_stitch(struct builder *b, int kind)
 static void mixed_record(struct builder *b)
 {
     int part = choose(b, 100);
-    if (part < 4) rack(b, choose(b, 17) - 8);
+    if (part < 4) mixed_rack(b);
     else if (part < 9) mixed_hook(b, DROP);
     else if (part < 19) mixed_hook(b, XFER);
     else if (part < 22) mixed_stitch(b, OUT);
@@ -287,12 +362,12 @@ static void mixed_record(struct builder *b)
     else mixed_stitch(b, KNIT);
 }
 
-/* Exactly up to the length. */
+/* Exactly up to the length; the last rack is to 0, if that stretches no yarn. */
 static void fill(struct builder *b)
 {
-    while (room(b) > 3) rack(b, choose(b, 17) - 8);
+    while (room(b) > 3) mixed_rack(b);
     if (room(b) == 3) drop(b, KNITOUT_FRONT, 0);
-    else rack(b, 0);
+    else rack(b, any_stretched(b, 0) ? b->racking : 0);
     if (room(b) != 0) abort();
 }
 
@@ -382,6 +457,10 @@ static const struct {
     uint8_t at; /* the limit, where it is not 8 */
 } parts[PROGRAMS] = {
     { "rack", KIND_LENGTH, build_rack, 0 },
+    { "rack-front", KIND_LENGTH, build_rack_front, 0 },
+    { "rack-ten", KIND_LENGTH, build_rack_ten, 0 },
+    { "rack-edge", KIND_LENGTH, build_rack_edge, 0 },
+    { "rack-far", KIND_LENGTH, build_rack_far, 0 },
     { "drop", KIND_LENGTH, build_drop, 0 },
     { "xfer", KIND_LENGTH, build_xfer, 0 },
     { "xfer-moved", KIND_LENGTH, build_xfer_moved, 0 },
@@ -401,6 +480,7 @@ static const struct {
     { "plated-mix", KNITOUT_PROGRAM_MOST, build_plated_mix, 0 },
     { "refused-first", KNITOUT_PROGRAM_MOST, build_refused_first, 0 },
     { "refused-last", KNITOUT_PROGRAM_MOST, build_refused_last, 0 },
+    { "refused-17", KIND_LENGTH, build_refused_17, 0 },
 };
 
 void build_generated(struct program *program, size_t length, int limit, uint32_t seed)

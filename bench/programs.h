@@ -4,7 +4,7 @@
 
 #include "kinds.h"
 
-enum { PROGRAMS = 20 };
+enum { PROGRAMS = 25 };
 
 struct program {
     const char *name;

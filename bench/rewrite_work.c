@@ -1,5 +1,6 @@
 /* The rewriter as measured work: all cases of swaps through the library and through plain C. */
 #include "plain_rewrite.h"
+#include "programs.h"
 #include "swaps.h"
 #include "work.h"
 
@@ -183,8 +184,21 @@ static int sizes_differ(void)
     return 0;
 }
 
+/* A program that is refused with 17 writes nothing. */
+static int stretched_differs(void)
+{
+    const struct program *p = find_program("refused-17");
+    struct swap_case refused = { "", p->name, p->records, AT, 0, 1, KNITOUT_STRETCHED, 0 };
+    swap_case = &refused;
+    in = build_swaps(swap_case);
+    limit = 0;
+    prepare(LIBRARY);
+    prepare(PLAIN);
+    return log_differs(in->log, in->log_length) || lent[PLAIN].answer != p->answer || lent[PLAIN].output[0] != PAINT;
+}
+
 /* Each case's first swap alone, since a swap made twice does not show; every swap of the mixed programs; torn logs;
-   limits and sizes. */
+   limits and sizes; a rack that stretches a yarn. */
 static int checks(void)
 {
     for (int i = 0; i < inputs(); i++) {
@@ -197,7 +211,7 @@ static int checks(void)
         use_log(in->log, in->log_length);
         if (limits_differ() || sizes_differ()) return 1;
     }
-    return 0;
+    return stretched_differs();
 }
 
 const struct group rewrite_group = { "rewrite", inputs, build, prepare, call, differs, checks };

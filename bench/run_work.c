@@ -10,8 +10,8 @@
 typedef uint64_t (*run_function)(const uint8_t *program, size_t length);
 typedef uint64_t (*run_at_function)(uint8_t limit, const uint8_t *program, size_t length);
 
-/* Altered programs; a bit for each number that a run of one may give: 0, 1, 3 to 11 and 16. */
-enum { ALTERED = 1000, NUMBERS = 0x10ffb };
+/* Altered programs; a bit for each number that a run of one may give: 0, 1, 3 to 11, 16 and 17. */
+enum { ALTERED = 1000, NUMBERS = 0x30ffb };
 
 static const struct program *program;
 static unsigned seen[LIMITS];
@@ -192,6 +192,33 @@ static int plated_floats_differ(void)
     return 0;
 }
 
+/* A carrier comes in at column 125, tucks and is led away by misses; then two racks, between any two rackings. */
+static int led_racks_differ(uint8_t bed, uint8_t right, uint8_t away, int misses)
+{
+    enum { COLUMN = 125, LENGTH = 512 };
+    uint8_t bytes[LENGTH] = { IN, right, bed, COLUMN, 3, TUCK, right, bed, COLUMN, 3 };
+    size_t length = 2 * record_size[IN];
+    for (int i = 0; i < misses; i++, length += record_size[MISS]) {
+        int column = COLUMN + right + (away == RIGHT ? i : -1 - i);
+        memcpy(bytes + length, (uint8_t[]){ MISS, away, KNITOUT_FRONT, (uint8_t)column, 3 }, record_size[MISS]);
+    }
+    for (int i = 0; i < 17 * 17; i++) {
+        uint8_t racks[] = { RACK, (uint8_t)(i / 17 - 8), RACK, (uint8_t)(i % 17 - 8) };
+        memcpy(bytes + length, racks, sizeof racks);
+        if (versions_differ(bytes, length + sizeof racks)) return 1;
+    }
+    return 0;
+}
+
+/* On both beds, attached at both sides, led away to both sides, up to where no rack comes to 20 slots. */
+static int racks_differ(void)
+{
+    for (int misses = 0; misses <= KNITOUT_STRETCH_MOST + KNITOUT_RACKING_MOST + 2; misses++)
+        for (uint8_t i = 0; i < 8; i++)
+            if (led_racks_differ(i / 4, i / 2 % 2, i % 2, misses)) return 1;
+    return 0;
+}
+
 /* Both versions on altered plated stitches. */
 static int plated_differs(void)
 {
@@ -222,7 +249,7 @@ static int checks(void)
     if (versions_differ(longer, sizeof longer)) return 1;
     if (fronts_differ(find_program("mixed-4096")) || floats_differ(0) || floats_differ(24)) return 1;
     if (bytes_differ(mixed.bytes, mixed.length) || tucks_differ(mixed.bytes, mixed.length)) return 1;
-    return plated_differs() || numbers_missed();
+    return plated_differs() || racks_differ() || numbers_missed();
 }
 
 const struct group run_group = { "run", inputs, build, prepare, call, differs, checks };

@@ -9,7 +9,7 @@ static const char *word(unsigned number)
 {
     static const char *const words[] = {"done", "too long", "no bench", "strange", "cut short", "field",
                                         "already in", "not in", "elsewhere", "float", "not opposite", "hook full",
-                                        [KNITOUT_YARN_TWICE] = "one yarn twice"};
+                                        [KNITOUT_YARN_TWICE] = "one yarn twice", [KNITOUT_STRETCHED] = "stretched"};
     return number < sizeof words / sizeof *words && words[number] ? words[number] : "?";
 }
 

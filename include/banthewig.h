@@ -20,7 +20,7 @@
 extern "C" {
 #endif
 
-/* Numbers of an answer. A record is looked at for 3, 4, 5, 16 and 6 to 11, in this order. */
+/* Numbers of an answer. A record is looked at for 3, 4, 5, 16, 17 and 6 to 11, in this order. */
 enum knitout_number {
     KNITOUT_DONE = 0,
     KNITOUT_TOO_LONG = 1,        /* program or log over its limit */
@@ -40,7 +40,9 @@ enum knitout_number {
     KNITOUT_TORN_LOG = 14,       /* log kind not 40 (hexadecimal), or fewer than three bytes */
     KNITOUT_BAD_STATE = 15,      /* a hook limit out of 1 to 8; a lent machine state with a value out of its range, with more
                                     loops on a hook than its limit, or with not 0 in a field without meaning */
-    KNITOUT_YARN_TWICE = 16      /* one yarn twice: a plated stitch whose two carriers are equal */
+    KNITOUT_YARN_TWICE = 16,     /* one yarn twice: a plated stitch whose two carriers are equal */
+    KNITOUT_STRETCHED = 17       /* a rack that takes the attachment of a parked carrier further from it than it was, to over
+                                    20 slots: from the slot at that side of the needle to the carrier's own */
 };
 
 /* Kinds of records, a record's first byte, which fixes the bytes behind it. */
@@ -63,8 +65,8 @@ enum knitout_kind {
 #define KNITOUT_LOG_MOST 32768u
 
 /* The machine: needles on a bed (0 to 249), hooks on both beds, carriers; the furthest racking, the least and the greatest
-   hook limit, the most loops on a hook at any limit, the outermost slots, the longest float in columns, the longest record
-   in bytes. */
+   hook limit, the most loops on a hook at any limit, the outermost slots, the longest float in columns, the slots over which
+   a rack must not stretch a yarn, the longest record in bytes. */
 #define KNITOUT_NEEDLES 250
 #define KNITOUT_HOOKS 500
 #define KNITOUT_CARRIERS 10
@@ -76,6 +78,7 @@ enum knitout_kind {
 #define KNITOUT_SLOT_LEAST (-8)
 #define KNITOUT_SLOT_MOST 258
 #define KNITOUT_FLOAT_MOST 20
+#define KNITOUT_STRETCH_MOST 20
 #define KNITOUT_RECORD_MOST 6
 
 /* Values of a carrier's fields. (A record's direction byte is another matter: 0 left, 1 right.) */
@@ -121,44 +124,44 @@ struct knitout_served {
 #define KNITOUT_HOOK(bed, needle) ((bed) * KNITOUT_NEEDLES + (needle))
 
 /* Runs a program from the empty state at a hook limit: number times 65,536 plus place. A limit out of 1 to 8 gets 15,
-   before all else. The place is the refused record's start, its kind byte (3 to 11 and 16), else 0. Reads program[0] to
+   before all else. The place is the refused record's start, its kind byte (3 to 11, 16 and 17), else 0. Reads program[0] to
    program[length - 1] at most and writes nothing.
-   Stack 1,176 bytes; worst time 34 ms. */
+   Stack 1,256 bytes; worst time 66 ms. */
 uint64_t knitout_run_at(uint8_t limit, const uint8_t *program, size_t length);
 
-/* The same at limit 8. Stack 1,176 bytes; worst time 34 ms. */
+/* The same at limit 8. Stack 1,256 bytes; worst time 66 ms. */
 uint64_t knitout_run(const uint8_t *program, size_t length);
 
 /* Runs a program at a hook limit and makes a log's swaps in a copy of it: number times 65,536 plus place. A limit out of 1
-   to 8 gets 15, before all else. The place is the start of the refused record in the program (3 to 11 and 16) or in the log
-   (12 to 14), else 0. Lengths are in bytes, work_count in entries; the output needs program_length bytes, work
+   to 8 gets 15, before all else. The place is the start of the refused record in the program (3 to 11, 16 and 17) or in the
+   log (12 to 14), else 0. Lengths are in bytes, work_count in entries; the output needs program_length bytes, work
    program_length / 2 entries. Output and work overlap nothing else that is lent; program and log are only read and may share
    bytes.
    0 writes the program as the swaps made it to the front of the output, and the start of each of its records to the
-   front of work; 12 to 14 the same, as the swaps before the refused one made it (KNITOUT_WRITTEN); 1 to 11, 15 and 16 write
-   nothing. Output past the program's length and work past the last record's start keep their contents.
-   Stack 1,512 bytes; worst time 200 ms. */
+   front of work; 12 to 14 the same, as the swaps before the refused one made it (KNITOUT_WRITTEN); 1 to 11 and 15 to 17
+   write nothing. Output past the program's length and work past the last record's start keep their contents.
+   Stack 1,592 bytes; worst time 230 ms. */
 uint64_t knitout_rewrite_at(uint8_t limit, const uint8_t *program, size_t program_length, const uint8_t *log,
                             size_t log_length, uint8_t *output, size_t output_length, uint16_t *work, size_t work_count);
 
-/* The same at limit 8. Stack 1,512 bytes; worst time 200 ms. */
+/* The same at limit 8. Stack 1,592 bytes; worst time 230 ms. */
 uint64_t knitout_rewrite(const uint8_t *program, size_t program_length, const uint8_t *log, size_t log_length,
                          uint8_t *output, size_t output_length, uint16_t *work, size_t work_count);
 
 /* Runs a program at a hook limit and writes its house order (between racks, always next the record whose bytes come first,
    unsigned, byte by byte, a shorter prefix first, among those not tied to an earlier remaining one): number times 65,536
-   plus place. A limit out of 1 to 8 gets 15, before all else. The place is the refused record's start (3 to 11 and 16),
-   else 0; 12 to 14 do not occur.
+   plus place. A limit out of 1 to 8 gets 15, before all else. The place is the refused record's start (3 to 11, 16 and
+   17), else 0; 12 to 14 do not occur.
    Lengths are in bytes, work_count in entries; the output needs program_length bytes, work program_length / 2 entries.
    Output and work overlap nothing else that is lent.
    0 writes the ordered program to the front of the output, and the start of each of its records to the front of work; every
    other number writes nothing. Output past the program's length and work past the last record's start keep their contents.
    Two programs that are done get equal bytes exactly if swaps that the rewriter accepts lead from one to the other.
-   Stack 1,352 bytes; worst time 83 s, which grows with the square of the length (docs/PERFORMANCE.md). */
+   Stack 1,432 bytes; worst time 83 s, which grows with the square of the length (docs/PERFORMANCE.md). */
 uint64_t knitout_order_at(uint8_t limit, const uint8_t *program, size_t program_length, uint8_t *output,
                           size_t output_length, uint16_t *work, size_t work_count);
 
-/* The same at limit 8. Stack 1,352 bytes; worst time 83 s. */
+/* The same at limit 8. Stack 1,432 bytes; worst time 83 s. */
 uint64_t knitout_order(const uint8_t *program, size_t program_length, uint8_t *output, size_t output_length, uint16_t *work,
                        size_t work_count);
 
@@ -173,11 +176,11 @@ uint64_t knitout_order(const uint8_t *program, size_t program_length, uint8_t *o
 
 /* Makes the step of the first record of bytes[0] to bytes[length - 1] on the lent state, at that state's limit; what follows
    the record is not looked at, and a length of 0 gives 4. 0: the state is the one after the record, its limit the same, and
-   the answer's length the record's. 15 (looked at first), 3 to 11 and 16: length 0, and nothing is written. Which of them it
-   will be is not known beforehand, so the state's memory must be writable.
-   Complete is 1 if the state is the empty one at its own limit (KNITOUT_EMPTY) after the call, else 0. After 3 to 11 and 16
-   that is the state as it was, so it may be 1 then too; after 15 it is always 0.
-   Stack 1,288 bytes; worst time 60 microseconds. */
+   the answer's length the record's. 15 (looked at first), 3 to 11, 16 and 17: length 0, and nothing is written. Which of
+   them it will be is not known beforehand, so the state's memory must be writable.
+   Complete is 1 if the state is the empty one at its own limit (KNITOUT_EMPTY) after the call, else 0. After 3 to 11, 16
+   and 17 that is the state as it was, so it may be 1 then too (not after 6, 8, 9, 11 and 17); after 15 it is always 0.
+   Stack 1,368 bytes; worst time 65 microseconds. */
 struct knitout_stepped knitout_step(struct knitout_state *state, const uint8_t *bytes, size_t length);
 
 /* Lists the carriers of a state. 0 writes carriers 1 to 10 to list[0] to list[9] and gives length 10; entries from list[10]

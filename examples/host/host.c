@@ -42,7 +42,7 @@ static const char *word(unsigned number)
     static const char *const words[] = {
         "done",      "too long", "no bench",     "strange",   "cut short", "field", "already in", "not in",
         "elsewhere", "float",    "not opposite", "hook full", "no pair",   "tied",  "torn log",   "foul state",
-        "one yarn twice"};
+        "one yarn twice", "stretched"};
     return number < sizeof words / sizeof *words ? words[number] : "?";
 }
 
@@ -159,13 +159,19 @@ static void show_stitch(const uint8_t *bytes)
     show_needle(bytes[2], bytes[3]);
 }
 
+/* A rack's racking. */
+static int racking_of(const uint8_t *rack)
+{
+    return rack[1] < 128 ? rack[1] : rack[1] - 256;
+}
+
 /* A record whose bytes are all there and in range. */
 static void show_record(const uint8_t *bytes)
 {
     printf(", %s", kind_name(bytes[0]));
     switch (bytes[0]) {
     case KNITOUT_RACK:
-        printf(" %d", bytes[1] < 128 ? bytes[1] : bytes[1] - 256);
+        printf(" %d", racking_of(bytes));
         break;
     case KNITOUT_DROP:
         show_needle(bytes[1], bytes[2]);
@@ -202,6 +208,7 @@ static bool is_of_record(unsigned number)
     case KNITOUT_NOT_OPPOSITE:
     case KNITOUT_HOOK_FULL:
     case KNITOUT_YARN_TWICE:
+    case KNITOUT_STRETCHED:
         return true;
     default:
         return false;
@@ -218,6 +225,41 @@ static void show_step(size_t place, struct knitout_stepped stepped, const uint8_
     putchar('\n');
 }
 
+/* The slots from an attached carrier's attachment to where it is parked, at a racking. */
+static int distance(const struct knitout_carrier *carrier, int racking)
+{
+    int column = carrier->needle + (carrier->bed == KNITOUT_BACK ? racking : 0);
+
+    return abs(column + (carrier->side == KNITOUT_RIGHT) - carrier->slot);
+}
+
+/* Says of each carrier whose yarn a rack would stretch how far its attachment is and would be; gives how many there are. */
+static unsigned show_stretched(const struct knitout_state *state, int racking)
+{
+    unsigned stretched = 0;
+
+    for (unsigned k = 1; k <= KNITOUT_CARRIERS; k++) {
+        const struct knitout_carrier *carrier = &state->carriers[k - 1];
+        if (carrier->side == KNITOUT_UNATTACHED) /* or not parked */
+            continue;
+        int now = distance(carrier, state->racking), then = distance(carrier, racking);
+        if (then <= KNITOUT_STRETCH_MOST || then <= now)
+            continue;
+        printf("carrier %u would be stretched: its attachment is %d slots away, after the rack %d\n", k, now, then);
+        stretched++;
+    }
+    return stretched;
+}
+
+/* A rack is refused with 17 exactly if it stretches a yarn on the panel as it was before. */
+static void check_rack(unsigned number, const uint8_t *rack)
+{
+    unsigned stretched = show_stretched(&before, racking_of(rack));
+
+    if ((stretched > 0) != (number == KNITOUT_STRETCHED))
+        check(false, "a rack is refused exactly if it stretches a yarn");
+}
+
 /* One record's step on the panel, at a place of a program. */
 static struct knitout_stepped step(const uint8_t *bytes, size_t length, size_t place)
 {
@@ -225,6 +267,8 @@ static struct knitout_stepped step(const uint8_t *bytes, size_t length, size_t p
     struct knitout_stepped stepped = knitout_step(&panel, bytes + place, length - place);
 
     show_step(place, stepped, bytes + place);
+    if (bytes[place] == KNITOUT_RACK && is_of_record(stepped.number))
+        check_rack(stepped.number, bytes + place);
     if (stepped.complete != is_empty(&panel))
         check(false, "complete is said of the state that the step leaves");
     if (panel.limit != limit)

@@ -72,7 +72,7 @@ fn out_of(random: &mut Random, state: &State, carrier: usize, slot: i32) -> Opti
     Some(Record::Out(carrier_move(direction, needle, carrier)))
 }
 
-/// Records each of which takes away one thing in which a state is not the empty one.
+/// Accepted records each of which takes away one thing in which a state is not the empty one.
 fn takings(random: &mut Random, state: &State) -> Vec<Record> {
     let loaded = (0..HOOKS).map(needle_of);
     let loaded = loaded.filter(|&needle| state.loops(needle) > 0);
@@ -84,7 +84,7 @@ fn takings(random: &mut Random, state: &State) -> Vec<Record> {
         });
         takings.extend(out);
     }
-    if state.racking != 0 {
+    if state.racking != 0 && refusal(state, &Record::Rack(0)).is_none() {
         takings.push(Record::Rack(0));
     }
     takings

@@ -3,10 +3,11 @@
 use crate::limit_coverage::{LimitCoverage, RUN};
 use crate::machine::*;
 use crate::plated_coverage::PlatedCoverage;
+use crate::stretch_coverage::StretchCoverage;
 
 /// Kinds and numbers, 0 included.
 pub const KIND_COUNT: usize = 12;
-pub const NUMBERS: usize = 17;
+pub const NUMBERS: usize = 18;
 
 pub const KIND_NAMES: [&str; KIND_COUNT] = [
     "",
@@ -24,11 +25,11 @@ pub const KIND_NAMES: [&str; KIND_COUNT] = [
 ];
 
 /// The numbers that a run can give, in the order of looking.
-const RUN_NUMBERS: [usize; 12] = [0, 1, 3, 4, 5, 16, 6, 7, 8, 9, 10, 11];
+const RUN_NUMBERS: [usize; 13] = [0, 1, 3, 4, 5, 16, 17, 6, 7, 8, 9, 10, 11];
 
 /// For each kind, the numbers it can get at limit 8 besides 0, 4 and 5.
 pub const KIND_NUMBERS: [(u8, &[u8]); 11] = [
-    (RACK, &[]),
+    (RACK, &[17]),
     (DROP, &[]),
     (XFER, &[10, 11]),
     (IN, &[6]),
@@ -102,7 +103,9 @@ events! {
     TooLongFar: "too long at 65536 or more",
     LastUnknown: "unknown kind at place 32767",
     LastCut: "cut short at place 32767",
-    LateRefusal: "16 or 6 to 11 at a place of 32760 or more",
+    LateRefusal: "16, 17 or 6 to 11 at a place of 32760 or more",
+    LastStretched: "17 at place 32766",
+    TooLongStretched: "too long at 32770, otherwise 17 at the end",
     PlatedMoved: "plated stitch by two carriers that a transfer moved",
 }
 
@@ -149,6 +152,7 @@ pub struct Coverage {
     stitched: [u64; STITCHING * 64],
     attached: [u64; STITCHES * WAYS_MOVED * 8],
     plated: PlatedCoverage,
+    stretch: StretchCoverage,
     pub limits: LimitCoverage,
     events: [u64; EVENTS.len()],
     pasts: [Past; CARRIERS],
@@ -177,6 +181,7 @@ impl Coverage {
             stitched: [0; STITCHING * 64],
             attached: [0; STITCHES * WAYS_MOVED * 8],
             plated: PlatedCoverage::new(),
+            stretch: StretchCoverage::new(),
             limits: LimitCoverage::new(RUN),
             events: [0; EVENTS.len()],
             pasts: [NO_PAST; CARRIERS],
@@ -219,8 +224,15 @@ impl Coverage {
             Event::LateRefusal,
             is_of_record(number) && place >= PROGRAM_LIMIT - 8,
         );
+        self.note(
+            Event::LastStretched,
+            number == STRETCHED && place == PROGRAM_LIMIT - 2,
+        );
         if number == TOO_LONG {
-            let valid = run_records(HOOK_LIMIT, program, |_, _, _| {}).number == DONE;
+            let run = run_records(HOOK_LIMIT, program, |_, _, _| {});
+            let valid = run.number == DONE;
+            let stretched = run.number == STRETCHED && run.place == PROGRAM_LIMIT;
+            self.note(Event::TooLongStretched, stretched);
             self.note(Event::OtherwiseValid, valid && length == PROGRAM_LIMIT + 1);
             self.note(Event::TooLongFaulty, !valid);
             self.note(Event::TooLongFar, length >= 65_536);
@@ -236,6 +248,7 @@ impl Coverage {
         }
         self.kinds[kind][usize::from(number)] += 1;
         self.plated.record(state, bytes, number);
+        self.stretch.record(state, bytes, number);
         match number {
             CUT_SHORT => self.cut(state, bytes),
             FIELD_RANGE => self.bad_field(state, bytes),
@@ -272,13 +285,14 @@ impl Coverage {
                 PLATED_KNIT => mended[0] = KNIT,
                 _ => (),
             }
-            self.pairs_besides(state, bytes[0], &mended, CUT_SHORT);
+            let mended = read_record(&mended).ok().map(|(record, _)| record);
+            self.pairs_besides(state, bytes[0], mended, CUT_SHORT);
         }
     }
 
-    /// Counts the reasons that hold for the mended bytes of a record with number 4 or 5.
-    fn pairs_besides(&mut self, state: &State, kind: u8, mended: &[u8], number: u8) {
-        let Ok((record, _)) = read_record(mended) else {
+    /// Counts the reasons that hold for a record with number 4 or 5 when it is mended.
+    fn pairs_besides(&mut self, state: &State, kind: u8, mended: Option<Record>, number: u8) {
+        let Some(record) = mended else {
             return;
         };
         let also = |other: &u8| holds(state, &record, *other);
@@ -287,16 +301,22 @@ impl Coverage {
         }
     }
 
-    /// Counts a value that is the only one out of range, and the reasons that hold besides.
+    /// Counts a value that is the only one out of range, and the reasons that hold besides; for a
+    /// racking out of range, at that racking.
     fn bad_field(&mut self, state: &State, bytes: &[u8]) {
         let kind = bytes[0];
         let fields = 1..=body_length(kind).unwrap_or(0);
         let bad: Vec<usize> = fields.filter(|&f| !in_range(kind, f, bytes[f])).collect();
         let [field] = bad[..] else { return };
         self.out_of_range[usize::from(kind)][field][usize::from(bytes[field])] += 1;
-        let mut mended = bytes.to_vec();
-        mended[field] = 1;
-        self.pairs_besides(state, kind, &mended, FIELD_RANGE);
+        let mended = if kind == RACK {
+            Some(Record::Rack((bytes[field] as i8).into()))
+        } else {
+            let mut mended = bytes.to_vec();
+            mended[field] = 1;
+            read_record(&mended).ok().map(|(record, _)| record)
+        };
+        self.pairs_besides(state, kind, mended, FIELD_RANGE);
     }
 
     fn accepted_fields(&mut self, bytes: &[u8]) {
@@ -554,8 +574,16 @@ impl Coverage {
         self.missing_fields(&mut missing);
         self.missing_classes(&mut missing);
         missing.extend(self.plated.missing("run"));
+        missing.extend(self.stretch.missing("run"));
         missing.extend(self.limits.missing());
         missing
+    }
+
+    /// The names of counts that are not zero, of what cannot occur.
+    pub fn impossible(&self) -> Vec<String> {
+        let mut impossible = self.limits.impossible();
+        impossible.extend(self.stretch.impossible("run"));
+        impossible
     }
 
     fn missing_classes(&self, missing: &mut Vec<String>) {
@@ -647,6 +675,7 @@ impl Coverage {
         println!("unknown    {:>27}", self.unknown.iter().sum::<u64>());
         self.print_pairs();
         self.plated.print("run");
+        self.stretch.print("run");
         for (name, counts) in [
             ("stitch", &self.stitched[..]),
             ("attachment", &self.attached[..]),

@@ -3,6 +3,7 @@
 use crate::draft::*;
 use crate::machine::*;
 use crate::plated::{plated, plated_case, plated_stitches, with_any, with_ready, with_second};
+use crate::stretched::{stretch_case, stretched_racks};
 
 /// Takes each generated program.
 pub type Check<'a> = &'a mut dyn FnMut(&[u8]);
@@ -11,11 +12,12 @@ pub type Check<'a> = &'a mut dyn FnMut(&[u8]);
 type Generator = fn(&mut Random, u8, Check);
 
 /// Name of a group, calls a round, and its generator; one call may give several programs.
-pub const GROUPS: [(&str, usize, Generator); 11] = [
+pub const GROUPS: [(&str, usize, Generator); 12] = [
     ("crowded columns", 200, crowded),
     ("float distances", 300, floats),
     ("hooks and transfers", 30, hooks),
     ("plated stitches", 20, plated_stitches),
+    ("stretched racks", 30, stretched_racks),
     ("fields in and out of range", 20, fields),
     ("cut ends", 30, cut_ends),
     ("damaged bytes", 40, damaged),
@@ -265,7 +267,7 @@ pub fn filled(random: &mut Random, draft: &Draft, needle: Needle) -> Vec<u8> {
 }
 
 /// Up to three stitches attach carriers to a needle; gives a carrier of the last.
-fn attach(random: &mut Random, draft: &mut Draft, needle: Needle) -> Option<usize> {
+pub fn attach(random: &mut Random, draft: &mut Draft, needle: Needle) -> Option<usize> {
     let mut last = None;
     for _ in 0..1 + random.below(3) {
         let carrier = draft.inactive_carrier(random)?;
@@ -594,7 +596,7 @@ fn crowd_case(random: &mut Random, limit: u8) -> (Draft, Record) {
 
 /// A valid draft and a whole record after it, accepted or refused.
 fn any_case(random: &mut Random, limit: u8) -> (Draft, Record) {
-    match random.below(12) {
+    match random.below(13) {
         0 | 1 => float_case(random, limit),
         2 | 3 => plated_case(random, limit),
         4 | 5 => {
@@ -602,6 +604,7 @@ fn any_case(random: &mut Random, limit: u8) -> (Draft, Record) {
             let records = pair_records(random, &draft, &pair);
             (draft, random.pick(&records))
         }
+        6 => stretch_case(random, limit),
         _ => crowd_case(random, limit),
     }
 }

@@ -23,19 +23,19 @@ pub struct Calls {
 
 pub const RUN: Calls = Calls {
     name: "run",
-    numbers: &[0, 1, 3, 4, 5, 16, 6, 7, 8, 9, 10, 11],
+    numbers: &[0, 1, 3, 4, 5, 16, 17, 6, 7, 8, 9, 10, 11],
 };
 pub const REWRITER: Calls = Calls {
     name: "rewriter",
-    numbers: &[0, 1, 2, 3, 4, 5, 16, 6, 7, 8, 9, 10, 11, 14, 12, 13],
+    numbers: &[0, 1, 2, 3, 4, 5, 16, 17, 6, 7, 8, 9, 10, 11, 14, 12, 13],
 };
 pub const ORDER: Calls = Calls {
     name: "order",
-    numbers: &[0, 1, 2, 3, 4, 5, 16, 6, 7, 8, 9, 10, 11],
+    numbers: &[0, 1, 2, 3, 4, 5, 16, 17, 6, 7, 8, 9, 10, 11],
 };
 pub const STEP: Calls = Calls {
     name: "step",
-    numbers: &[0, 15, 3, 4, 5, 16, 6, 7, 8, 9, 10, 11],
+    numbers: &[0, 15, 3, 4, 5, 16, 17, 6, 7, 8, 9, 10, 11],
 };
 pub const LIST: Calls = Calls {
     name: "list",

@@ -22,6 +22,8 @@ mod panel_records;
 mod panel_states;
 mod plated;
 mod plated_coverage;
+mod stretch_coverage;
+mod stretched;
 mod swap_classes;
 mod swap_coverage;
 mod swap_groups;
@@ -282,8 +284,8 @@ fn covered(comparison: &Comparison, rewriter: &Rewriter, orderer: &Orderer, pane
     missing.extend(rewriter.other_limits.missing());
     missing.extend(orderer.coverage.missing());
     missing.extend(panel.coverage.missing());
-    let mut impossible = comparison.coverage.limits.impossible();
-    impossible.extend(rewriter.coverage.limits.impossible());
+    let mut impossible = comparison.coverage.impossible();
+    impossible.extend(rewriter.coverage.impossible());
     impossible.extend(orderer.coverage.impossible());
     impossible.extend(panel.coverage.impossible());
     for name in &missing {
@@ -355,6 +357,7 @@ fn rewriter_calls(seed: u64) -> Rewriter {
     rewriter.coverage.plated.print("rewriter");
     rewriter.coverage.plated_ties.print();
     rewriter.coverage.limits.print();
+    rewriter.coverage.stretch.print("rewriter");
     rewriter.other_limits.print();
     rewriter
 }

@@ -8,6 +8,7 @@ use crate::order_calls::OrderCall;
 use crate::order_moves::OrderMoves;
 use crate::plated_coverage::PlatedCoverage;
 use crate::rewrite::{rewrite_at, Order, NO_BENCH};
+use crate::stretch_coverage::StretchCoverage;
 use crate::swap_classes::{area_class, AREAS};
 
 events! {
@@ -24,6 +25,8 @@ events! {
     FarOver: "too long by 65536 bytes or more",
     TooLongNoBench: "too long while there is no bench",
     NoBenchRefused: "no bench while the program is refused",
+    NoBenchStretched: "no bench while a rack is stretched",
+    StrainedOrdered: "changed with a rack that leaves yarn of 20 or more",
     SameAfterSwaps: "same house order after swaps that change the program",
     OtherAfterTied: "another house order after two tied neighbours changed places",
     Twice: "ordered twice, the first time with a change",
@@ -39,6 +42,7 @@ pub struct OrderCoverage {
     pub numbers: [u64; NUMBERS],
     pub locked: [u64; NUMBERS],
     pub limits: LimitCoverage,
+    pub stretch: StretchCoverage,
     pub plated: PlatedCoverage,
     pub moves: OrderMoves,
     areas: [[u64; 5]; 5],
@@ -55,6 +59,7 @@ impl OrderCoverage {
             numbers: [0; NUMBERS],
             locked: [0; NUMBERS],
             limits: LimitCoverage::new(ORDER),
+            stretch: StretchCoverage::new(),
             plated: PlatedCoverage::new(),
             moves: OrderMoves::new(),
             areas: [[0; 5]; 5],
@@ -82,8 +87,9 @@ impl OrderCoverage {
         match answer.number {
             TOO_LONG => self.too_long(call),
             NO_BENCH => {
-                let faulty = run_at(limit, program).number != DONE;
-                self.note(Event::NoBenchRefused, faulty);
+                let otherwise = run_at(limit, program).number;
+                self.note(Event::NoBenchRefused, otherwise != DONE);
+                self.note(Event::NoBenchStretched, otherwise == STRETCHED);
             }
             _ => self.records(limit, program),
         }
@@ -100,6 +106,7 @@ impl OrderCoverage {
     fn records(&mut self, limit: u8, program: &[u8]) {
         run_watched(limit, program, |state, bytes, number| {
             self.limits.record(state, bytes, number);
+            self.stretch.record(state, bytes, number);
             if limit == HOOK_LIMIT {
                 self.plated.record(state, bytes, number);
             }
@@ -172,6 +179,7 @@ impl OrderCoverage {
         }
         self.missing_areas(&mut missing);
         missing.extend(self.limits.missing());
+        missing.extend(self.stretch.missing("order"));
         missing.extend(self.plated.missing("order"));
         missing.extend(self.moves.missing());
         missing
@@ -194,12 +202,14 @@ impl OrderCoverage {
     /// The names of counts that are not zero, of what cannot occur.
     pub fn impossible(&self) -> Vec<String> {
         let mut impossible = self.limits.impossible();
+        impossible.extend(self.stretch.impossible("order"));
         impossible.extend(self.moves.impossible());
         impossible
     }
 
     pub fn print(&self) {
         self.limits.print();
+        self.stretch.print("order");
         self.plated.print("order");
         self.moves.print();
         for (name, count) in EVENTS.iter().zip(self.events) {

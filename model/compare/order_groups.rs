@@ -14,6 +14,8 @@ use crate::order_pieces::{order_pieces, AREA_PIECES, AREA_PROGRAM};
 use crate::order_reach;
 use crate::rewrite::*;
 use crate::show;
+use crate::stretch_coverage::strained;
+use crate::stretched::{add_drops, stretch_case};
 use crate::swap_groups::{just_enough, length_about, refused_program};
 use crate::swaps::*;
 
@@ -22,11 +24,12 @@ type Group = fn(&mut Random, u8, &mut Orderer);
 
 /// Rounds of a group at limit 8 and at each other one, and its function; one round makes one call or
 /// several.
-const GROUPS: [([usize; 2], Group); 6] = [
+const GROUPS: [([usize; 2], Group); 7] = [
     ([5_000, 400], swapped),
     ([400, 40], near_racks),
     ([200, 20], turned),
     ([24_000, 8_000], refused),
+    ([4_000, 1_500], stretched),
     ([10, 2], long),
     ([120, 30], over),
 ];
@@ -167,7 +170,10 @@ fn order_all(random: &mut Random, limit: u8, orderer: &mut Orderer, program: &[u
         fail(&format!("in a house order {what}"));
     }
     same_order(orderer, limit, &house, &house, true);
-    orderer.coverage.note(Event::Twice, house != program);
+    let changed = house != program;
+    orderer.coverage.note(Event::Twice, changed);
+    let strained = changed && strained(limit, program);
+    orderer.coverage.note(Event::StrainedOrdered, strained);
     let greater = limit + random.below(usize::from(HOOK_LIMIT - limit) + 1) as u8;
     if greater > limit {
         same_order(orderer, greater, &house, program, true);
@@ -222,12 +228,33 @@ fn near_racks(random: &mut Random, limit: u8, orderer: &mut Orderer) {
     order_all(random, limit, orderer, &program);
 }
 
-// Programs with a number from 3 to 11 or with 16, and limits out of range.
+// Programs with a number from 3 to 11, with 16 or with 17, and limits out of range.
 
 fn refused(random: &mut Random, limit: u8, orderer: &mut Orderer) {
     let program = refused_program(random, limit);
     orderer.call(&about(random, limit, &program), "refused programs");
 }
+
+/// A rack about the border: refused, or a program with its order.
+fn stretched(random: &mut Random, limit: u8, orderer: &mut Orderer) {
+    let (mut draft, rack) = stretch_case(random, limit);
+    add_drops(random, &mut draft);
+    let accepted = draft.add(&rack).is_some();
+    if accepted && random.below(STRAINED_EVERY) == 0 {
+        add_drops(random, &mut draft);
+        order_all(random, limit, orderer, &draft.bytes);
+        return;
+    }
+    let program = if accepted {
+        draft.bytes
+    } else {
+        draft.with(&bytes_of(&rack))
+    };
+    orderer.call(&about(random, limit, &program), "stretched racks");
+}
+
+/// One in so many programs with a rack that passes is ordered after swaps too.
+const STRAINED_EVERY: usize = 4;
 
 /// Programs for each limit that comes before every number, and for the others.
 const BAD_ROUNDS: [usize; 2] = [2_000, 4];

@@ -9,6 +9,7 @@ use crate::panel_states::{Change, Field};
 use crate::plated_coverage::PlatedCoverage;
 use crate::raw_state::*;
 use crate::rewrite::NO_BENCH;
+use crate::stretch_coverage::StretchCoverage;
 
 events! {
     StepNull: "step of no bytes at a null pointer",
@@ -90,6 +91,7 @@ pub struct PanelCoverage {
     foul_over: [u64; NUMBERS],
     locked: [[u64; NUMBERS]; 2],
     plated: PlatedCoverage,
+    stretch: StretchCoverage,
     limits: [LimitCoverage; 2],
     pub complete: CompleteCoverage,
     changes: [Changes; 2],
@@ -110,6 +112,7 @@ impl PanelCoverage {
             foul_over: [0; NUMBERS],
             locked: [[0; NUMBERS]; 2],
             plated: PlatedCoverage::new(),
+            stretch: StretchCoverage::new(),
             limits: [LimitCoverage::new(STEP), LimitCoverage::new(LIST)],
             complete: CompleteCoverage::new(),
             changes: [0; 2].map(|_| Changes {
@@ -135,6 +138,7 @@ impl PanelCoverage {
         if given.number != FOUL_STATE {
             let before = states[0].state();
             self.limits[0].record(&before, bytes, given.number);
+            self.stretch.record(&before, bytes, given.number);
             if before.limit == HOOK_LIMIT {
                 self.plated.record(&before, bytes, given.number);
             }
@@ -268,6 +272,7 @@ impl PanelCoverage {
             want(&mut missing, count, 1, || name.to_string());
         }
         missing.extend(self.plated.missing("step"));
+        missing.extend(self.stretch.missing("step"));
         missing.extend(self.limits.iter().flat_map(LimitCoverage::missing));
         missing.extend(self.complete.missing());
         missing
@@ -276,7 +281,11 @@ impl PanelCoverage {
     /// The names of counts that are not zero, of what cannot occur.
     pub fn impossible(&self) -> Vec<String> {
         let limits = self.limits.iter().flat_map(LimitCoverage::impossible);
-        limits.chain(self.complete.impossible()).collect()
+        let stretch = self.stretch.impossible("step");
+        limits
+            .chain(self.complete.impossible())
+            .chain(stretch)
+            .collect()
     }
 
     fn missing_numbers(&self, missing: &mut Vec<String>) {
@@ -412,6 +421,7 @@ impl PanelCoverage {
         println!("panel: {steps} steps agree, {reached} of them on reached states; {cells}");
         self.complete.print();
         self.plated.print("step");
+        self.stretch.print("step");
         self.limits.iter().for_each(LimitCoverage::print);
         let (lists, cells) = numbers(&self.lists);
         println!("panel: {lists} carrier lists agree; {cells}");

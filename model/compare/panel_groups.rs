@@ -1,4 +1,4 @@
-//! The groups of panel calls: programs record by record, foul and random states, carrier lists.
+//! The groups of panel calls: programs record by record, foul, random and stretched states, lists.
 
 use crate::complete_groups;
 use crate::draft::{add_bytes, Draft, Random};
@@ -12,6 +12,7 @@ use crate::panel_records::*;
 use crate::panel_states::*;
 use crate::plated::plated_program;
 use crate::raw_state::*;
+use crate::stretched::stretch_state;
 use crate::{fail, library_run, report_difference};
 
 /// Sweeps over every value of every field.
@@ -27,6 +28,7 @@ pub fn compare(panel: &mut Panel, seed: u64) {
     other_limits(&mut random, panel);
     random_states(&mut random, panel);
     several_values(&mut random, panel);
+    stretched_states(&mut random, panel);
     lists(&mut random, panel);
     complete_groups::compare(panel, seed);
 }
@@ -351,6 +353,33 @@ fn several_values(random: &mut Random, panel: &mut Panel) {
             &bytes,
             "several values changed",
         );
+    }
+}
+
+// Racks that carry yarn off.
+
+const STRETCHED_STATES: usize = 16_000;
+
+/// One in so many is also lent with a value changed, mostly out of range.
+const SPOILED_EVERY: usize = 4;
+
+/// A state with yarn about the border, and a rack that leaves it so; then to the current value, and
+/// back.
+fn stretched_states(random: &mut Random, panel: &mut Panel) {
+    for turn in 0..STRETCHED_STATES {
+        let (sound, after) = stretch_state(random);
+        let rack = |racking: i32| [RACK, racking as u8];
+        if turn % SPOILED_EVERY == 0 {
+            let mut state = sound.clone();
+            change_several(random, &mut state);
+            made(random, panel, &sound, state, &rack(after), "spoiled");
+        }
+        let mut state = sound;
+        let before = i32::from(state.racking);
+        panel.lend_state(&state);
+        for racking in [before, after, after, before] {
+            panel.step(Source::Made, &mut state, &rack(racking), "stretched");
+        }
     }
 }
 

@@ -5,6 +5,7 @@ use crate::generate::{candidate, plated_stitch, CrowdedColumns};
 use crate::machine::*;
 use crate::panel_states::Field;
 use crate::raw_state::*;
+use crate::stretched::stretching;
 
 /// Few columns about the slot of an active carrier, or anywhere.
 fn crowd(random: &mut Random, state: &State) -> CrowdedColumns {
@@ -45,8 +46,11 @@ fn whole(random: &mut Random, state: &State) -> Vec<u8> {
     bytes_of(&found.unwrap_or(Record::Rack(random.racking())))
 }
 
-/// A whole record that is refused with 16 or a number from 6 to 11, if one is found.
+/// A whole record that is refused with 16, 17 or a number from 6 to 11, if one is found.
 pub fn refused(random: &mut Random, state: &State) -> Option<Vec<u8>> {
+    if random.percent(15) {
+        return stretching(random, state).map(|rack| bytes_of(&rack));
+    }
     let crowd = crowd(random, state);
     let wanted = random.pick(&[
         None,

@@ -7,6 +7,7 @@ use crate::limit_coverage::{is_bad, LimitCoverage, REWRITER};
 use crate::machine::*;
 use crate::plated_coverage::{PlatedCoverage, PlatedTies};
 use crate::rewrite::*;
+use crate::stretch_coverage::StretchCoverage;
 use crate::swap_classes::*;
 
 events! {
@@ -50,7 +51,11 @@ events! {
     TooLongRefused: "too long by the log while the program is refused",
     NoBenchRefused: "no bench while the program is refused",
     NoBenchTorn: "no bench while the log is torn",
-    RefusedTorn: "3 to 11 or 16 while the log is torn",
+    NoBenchStretched: "no bench while a rack is stretched",
+    RefusedTorn: "3 to 11, 16 or 17 while the log is torn",
+    StretchedTorn: "17 while the log is torn",
+    StretchedNoPair: "17 while the log has no pair",
+    StrainedSwapped: "swaps kept valid a program with a rack that leaves yarn of 20 or more",
     FullProgram: "swaps made in a program of 32768 bytes",
     FullWork: "done with 16384 records",
     FullFives: "swaps made in a program of 6553 records of 5 bytes",
@@ -75,6 +80,7 @@ pub struct SwapCoverage {
     pub plated: PlatedCoverage,
     pub plated_ties: PlatedTies,
     pub limits: LimitCoverage,
+    pub stretch: StretchCoverage,
     kinds: [[[u64; 2]; KIND_COUNT]; KIND_COUNT],
     lengths: [[u64; 7]; 7],
     classes: Vec<[u64; 2]>,
@@ -107,6 +113,7 @@ impl SwapCoverage {
             plated: PlatedCoverage::new(),
             plated_ties: PlatedTies::new(),
             limits: LimitCoverage::new(REWRITER),
+            stretch: StretchCoverage::new(),
             kinds: [[[0; 2]; KIND_COUNT]; KIND_COUNT],
             lengths: [[0; 7]; 7],
             classes: vec![[0; 2]; PAIR_CLASSES],
@@ -145,6 +152,7 @@ impl SwapCoverage {
         if !matches!(answer.number, TOO_LONG | NO_BENCH) {
             run_watched(limit, program, |state, bytes, number| {
                 self.limits.record(state, bytes, number);
+                self.stretch.record(state, bytes, number);
                 if limit == HOOK_LIMIT {
                     self.plated.record(state, bytes, number);
                 }
@@ -176,7 +184,7 @@ impl SwapCoverage {
         self.null[loan] += u64::from(null);
     }
 
-    fn note(&mut self, event: Event, happened: bool) {
+    pub fn note(&mut self, event: Event, happened: bool) {
         self.events[event as usize] += u64::from(happened);
     }
 
@@ -346,7 +354,8 @@ impl SwapCoverage {
         let (program, log) = (call.program, call.log);
         let over_program = program.len() > PROGRAM_LIMIT;
         let over_log = log.len() > LOG_LIMIT;
-        let faulty = !over_program && run_at(call.limit, program).number != DONE;
+        let otherwise = run_at(call.limit, program).number;
+        let faulty = !over_program && otherwise != DONE;
         match number {
             TOO_LONG => {
                 let just = |length: usize| length == 32_769;
@@ -357,9 +366,16 @@ impl SwapCoverage {
             }
             NO_BENCH => {
                 self.note(Event::NoBenchRefused, faulty);
+                self.note(Event::NoBenchStretched, otherwise == STRETCHED);
                 self.note(Event::NoBenchTorn, torn(log));
             }
-            _ => self.note(Event::RefusedTorn, torn(log)),
+            _ => {
+                let stretched = number == STRETCHED;
+                self.note(Event::RefusedTorn, torn(log));
+                self.note(Event::StretchedTorn, stretched && torn(log));
+                let far = log.starts_with(&[SWAP, 0xff, 0xff]);
+                self.note(Event::StretchedNoPair, stretched && far);
+            }
         }
     }
 }
@@ -372,7 +388,7 @@ impl SwapCoverage {
     /// The names of counts that are zero and should not be.
     pub fn missing(&self) -> Vec<String> {
         let mut missing = Vec::new();
-        for number in DONE..=YARN_TWICE {
+        for number in DONE..=STRETCHED {
             if self.numbers[usize::from(number)] == 0 {
                 missing.push(format!("rewriter number {number}"));
             }
@@ -394,7 +410,15 @@ impl SwapCoverage {
         missing.extend(self.plated.missing("rewriter"));
         missing.extend(self.plated_ties.missing());
         missing.extend(self.limits.missing());
+        missing.extend(self.stretch.missing("rewriter"));
         missing
+    }
+
+    /// The names of counts that are not zero, of what cannot occur.
+    pub fn impossible(&self) -> Vec<String> {
+        let mut impossible = self.limits.impossible();
+        impossible.extend(self.stretch.impossible("rewriter"));
+        impossible
     }
 
     fn missing_kinds(&self, missing: &mut Vec<String>) {

@@ -11,6 +11,9 @@ use crate::machine::*;
 use crate::pieces::swap_pieces;
 use crate::plated::plated_program;
 use crate::rewrite::*;
+use crate::stretch_coverage::strained;
+use crate::stretched::{add_drops, stretch_case};
+use crate::swap_coverage::Event;
 use crate::swaps::*;
 
 /// Makes calls at a hook limit.
@@ -18,11 +21,12 @@ type Group = fn(&mut Random, u8, &mut Rewriter);
 
 /// Rounds of a group at limit 8 and at each other one, and its function; one round makes one call or
 /// several.
-const GROUPS: [([usize; 2], Group); 7] = [
+const GROUPS: [([usize; 2], Group); 8] = [
     ([16_000, 1_000], chain),
     ([20_000, 600], far_pair),
     ([4_000, 250], near_racks),
     ([24_000, 8_000], refused),
+    ([4_000, 1_500], stretched),
     ([60, 4], long),
     ([400, 100], over),
     ([400, 25], log_in_program),
@@ -271,8 +275,11 @@ fn follow_chain(
     if let Some(what) = history::difference(start, &first, &program) {
         fail(&format!("after a chain of rewriter calls {what}"));
     }
+    let changed = program != first;
     rewriter.chains += 1;
-    rewriter.changed_chains += u64::from(program != first);
+    rewriter.changed_chains += u64::from(changed);
+    let strained = changed && strained(start, &first);
+    rewriter.coverage.note(Event::StrainedSwapped, strained);
 }
 
 // Racks near every 64th record.
@@ -291,7 +298,7 @@ fn near_racks(random: &mut Random, limit: u8, rewriter: &mut Rewriter) {
     follow_chain(random, rewriter, limit, program, 30, 2);
 }
 
-// Programs with a number from 3 to 11 or with 16.
+// Programs with a number from 3 to 11, with 16 or with 17.
 
 pub fn refused_program(random: &mut Random, limit: u8) -> Vec<u8> {
     let mut program = if random.percent(25) {
@@ -317,6 +324,24 @@ fn refused(random: &mut Random, limit: u8, rewriter: &mut Rewriter) {
     let log = logs::any_log(random);
     let call = about(random, limit, &program, &log);
     rewriter.call(&call, "refused programs");
+}
+
+/// A rack about the border: refused, or swaps before it and behind it.
+fn stretched(random: &mut Random, limit: u8, rewriter: &mut Rewriter) {
+    let (mut draft, rack) = stretch_case(random, limit);
+    add_drops(random, &mut draft);
+    if draft.add(&rack).is_some() {
+        add_drops(random, &mut draft);
+        follow_chain(random, rewriter, limit, draft.bytes, 10, 2);
+        return;
+    }
+    let program = draft.with(&bytes_of(&rack));
+    let log = match random.below(4) {
+        0 => logs::one_swap(65_535),
+        _ => logs::any_log(random),
+    };
+    let call = about(random, limit, &program, &log);
+    rewriter.call(&call, "stretched racks");
 }
 
 // Limits out of range: 15 before every other number, and nothing is written.

@@ -9,4 +9,5 @@ pub mod panel_pieces;
 pub mod pieces;
 pub mod raw_state;
 pub mod rewrite;
+pub mod stretch_pieces;
 pub mod walk;

@@ -15,10 +15,12 @@ pub const NOT_OPPOSITE: u8 = 10;
 pub const HOOK_FULL: u8 = 11;
 pub const FOUL_STATE: u8 = 15;
 pub const YARN_TWICE: u8 = 16;
+pub const STRETCHED: u8 = 17;
 
 /// The numbers of a record that was read whole, its fields in range, in the order of looking.
-pub const RECORD_NUMBERS: [u8; 7] = [
+pub const RECORD_NUMBERS: [u8; 8] = [
     YARN_TWICE,
+    STRETCHED,
     ALREADY_IN,
     NOT_IN,
     WRONG_SLOT,
@@ -42,6 +44,9 @@ pub const LIMITS: RangeInclusive<u8> = 1..=8;
 pub const HOOK_LIMIT: u8 = 8;
 
 pub const FLOAT_LIMIT: i32 = 20;
+
+/// A rack may leave yarn this long: "ends over 20" (02, W5).
+pub const STRETCH_LIMIT: i32 = 20;
 pub const PROGRAM_LIMIT: usize = 32_768;
 
 pub const RACK: u8 = 0x01;
@@ -405,12 +410,49 @@ impl PlatedMove {
     }
 }
 
-// Refusals 16 and 6 to 11. Each says whether its own reason holds, whatever the others say.
+// Refusals 16, 17 and 6 to 11. Each says whether its own reason holds, whatever the others say.
 
 fn yarn_twice(record: &Record) -> bool {
     record
         .plated()
         .is_some_and(|p| p.first.carrier == p.second_carrier)
+}
+
+impl Attachment {
+    /// "right side: the needle's column + 1, left side: the column" (02, W5), at a racking.
+    pub fn slot(self, racking: i32) -> i32 {
+        let column = self.needle.column(racking);
+        match self.side {
+            Direction::Right => column + 1,
+            Direction::Left => column,
+        }
+    }
+}
+
+impl Parked {
+    /// "the distance from its attachment's slot [..] to its parked slot" (02, W5), at a racking.
+    pub fn yarn(&self, racking: i32) -> Option<i32> {
+        let slot = self.attachment?.slot(racking);
+        Some((slot - self.slot).abs())
+    }
+
+    /// Whether a rack from one racking to another stretches the yarn: its length "ends over 20 and
+    /// is greater than before" (02, W5).
+    pub fn stretched(&self, before: i32, after: i32) -> bool {
+        match (self.yarn(before), self.yarn(after)) {
+            (Some(before), Some(after)) => after > STRETCH_LIMIT && after > before,
+            _ => false,
+        }
+    }
+}
+
+/// "for some parked and attached carrier" (02, W5).
+fn stretched(state: &State, record: &Record) -> bool {
+    let Record::Rack(racking) = *record else {
+        return false;
+    };
+    let mut parked = state.carriers.iter().flatten();
+    parked.any(|parked| parked.stretched(state.racking, racking))
 }
 
 fn already_in(state: &State, record: &Record) -> bool {
@@ -486,6 +528,7 @@ fn hook_full(state: &State, record: &Record) -> bool {
 pub fn holds(state: &State, record: &Record, number: u8) -> bool {
     match number {
         YARN_TWICE => yarn_twice(record),
+        STRETCHED => stretched(state, record),
         ALREADY_IN => already_in(state, record),
         NOT_IN => not_in(state, record),
         WRONG_SLOT => wrong_slot(state, record),
@@ -496,13 +539,13 @@ pub fn holds(state: &State, record: &Record, number: u8) -> bool {
     }
 }
 
-/// The first number in the order of looking that holds, of 16 and 6 to 11.
+/// The first number in the order of looking that holds, of 16, 17 and 6 to 11.
 pub fn refusal(state: &State, record: &Record) -> Option<u8> {
     let mut numbers = RECORD_NUMBERS.into_iter();
     numbers.find(|&number| holds(state, record, number))
 }
 
-/// The first record of the bytes and its length, or the first of 3, 4, 5, 16, 6 to 11 that holds.
+/// The first record of the bytes and its length, or the first of 3, 4, 5, 16, 17, 6 to 11 that holds.
 pub fn look(state: &State, bytes: &[u8]) -> Result<(Record, usize), u8> {
     let (record, length) = read_record(bytes)?;
     match refusal(state, &record) {

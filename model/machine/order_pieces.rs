@@ -2,6 +2,7 @@
 
 use crate::machine::*;
 use crate::rewrite::NO_BENCH;
+use crate::stretch_pieces::stretch_order_pieces;
 
 /// A program's records at a limit; for a done call, the positions in which they must come.
 pub struct OrderPiece {
@@ -29,9 +30,9 @@ impl OrderPiece {
     }
 }
 
-type Records<'a> = &'a [&'a [u8]];
+pub(crate) type Records<'a> = &'a [&'a [u8]];
 
-fn ordered(name: &'static str, records: Records, positions: &[usize]) -> OrderPiece {
+pub(crate) fn ordered(name: &'static str, records: Records, positions: &[usize]) -> OrderPiece {
     OrderPiece {
         name,
         limit: HOOK_LIMIT,
@@ -42,7 +43,7 @@ fn ordered(name: &'static str, records: Records, positions: &[usize]) -> OrderPi
     }
 }
 
-fn refused(
+pub(crate) fn refused(
     name: &'static str,
     limit: u8,
     records: Records,
@@ -251,6 +252,7 @@ pub fn order_pieces() -> Vec<OrderPiece> {
     pieces.extend(rack_pieces());
     pieces.extend(plated_pieces());
     pieces.extend(refused_pieces());
+    pieces.extend(stretch_order_pieces());
     pieces
 }
 

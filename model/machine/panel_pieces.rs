@@ -2,6 +2,7 @@
 
 use crate::machine::*;
 use crate::raw_state::*;
+use crate::stretch_pieces::stretch_step_pieces;
 use crate::walk::Walk;
 
 /// A lent state, the bytes of a step, and its answer.
@@ -13,7 +14,13 @@ pub struct StepPiece {
 }
 
 /// A row on a state that stays as it is if the number is not 0.
-fn row(name: &'static str, state: RawState, bytes: &[u8], number: u8, complete: u8) -> StepPiece {
+pub(crate) fn row(
+    name: &'static str,
+    state: RawState,
+    bytes: &[u8],
+    number: u8,
+    complete: u8,
+) -> StepPiece {
     let length = if number == DONE { bytes.len() } else { 0 };
     StepPiece {
         name,
@@ -36,6 +43,7 @@ pub fn step_pieces() -> Vec<StepPiece> {
         pieces.extend(one_kept(limit));
     }
     pieces.extend(foul_pieces());
+    pieces.extend(stretch_step_pieces());
     pieces
 }
 

@@ -1,7 +1,8 @@
-//! Paper 01's pieces for run and rewriter with the answers it gives, and rows for 02's W1 and W2.
+//! Paper 01's pieces for run and rewriter with the answers it gives, and rows for 02's W1, W2 and W5.
 
 use crate::machine::*;
 use crate::rewrite::*;
+use crate::stretch_pieces::*;
 
 /// A program at a limit, its number and its place.
 pub struct Piece {
@@ -12,7 +13,7 @@ pub struct Piece {
     pub place: usize,
 }
 
-fn piece(name: &'static str, program: Vec<u8>, number: u8, place: usize) -> Piece {
+pub(crate) fn piece(name: &'static str, program: Vec<u8>, number: u8, place: usize) -> Piece {
     piece_at(HOOK_LIMIT, name, program, (number, place))
 }
 
@@ -74,6 +75,7 @@ pub fn pieces() -> Vec<Piece> {
     pieces.extend(stitch_limit_pieces());
     pieces.extend(transfer_limit_pieces());
     pieces.extend(bad_limit_pieces());
+    pieces.extend(stretch_pieces());
     pieces
 }
 
@@ -270,7 +272,8 @@ fn bad_limit_pieces() -> Vec<Piece> {
 }
 
 /// Whether the model ends P in the state that the paper lists and a plated knit with both carriers
-/// attached, completes piece 9's in and out, and has the empty state's limit as W2 says.
+/// attached, completes piece 9's in and out, has the empty state's limit as W2 says, and keeps or
+/// racks the state as W5 says.
 pub fn states_agree() -> bool {
     let parked = |bed| {
         let needle = Needle { bed, number: 10 };
@@ -294,7 +297,7 @@ pub fn states_agree() -> bool {
     let p = run(&program_p());
     let complete = run(&in_out()).complete() && run(&[]).complete();
     let ends = p.state == listed && run(&plated_knit()).state == plated;
-    ends && !p.complete() && complete && limits_agree()
+    ends && !p.complete() && complete && limits_agree() && stretch_states_agree()
 }
 
 /// The limit of the states that W2 names: the given one, and 8 with 15; all of these are complete.
@@ -333,7 +336,7 @@ pub struct SwapPiece {
     pub output: Option<Vec<u8>>,
 }
 
-fn swap_piece(
+pub(crate) fn swap_piece(
     name: &'static str,
     program: &[u8],
     log: &[u8],
@@ -469,6 +472,7 @@ pub fn swap_pieces() -> Vec<SwapPiece> {
     let mut pieces = tie_pieces();
     pieces.extend(plated_tie_pieces());
     pieces.extend(limit_swap_pieces());
+    pieces.extend(stretch_swap_pieces());
     pieces.extend([
         swap_piece("1, empty program", &[], &[], (DONE, 0), Some(&[])),
         swap_piece("1, empty log", &p, &[], (DONE, 0), Some(&p)),

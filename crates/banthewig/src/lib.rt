@@ -35,7 +35,7 @@ pub extern "C" fn knitout_run(program: &[u8]) -> u64
 }
 
 // Rewrites a program by a log at a hook limit: number times 65,536 plus place. The output begins with the program as the
-// swaps left it, the work area with its records' starts; numbers 1 to 11, 15 and 16 write nothing.
+// swaps left it, the work area with its records' starts; numbers 1 to 11 and 15 to 17 write nothing.
 #[no_mangle]
 pub extern "C" fn knitout_rewrite_at(
     limit: u8,

@@ -226,6 +226,18 @@ fn limit_calls() {
     case_at(3, b"complete_at_3");
 }
 
+// Racks of document 02, W5: yarn carried off, and what passes.
+fn stretches() {
+    case(b"stretched");
+    case(b"stretched_not_at_20");
+    case(b"stretched_left_side");
+    case(b"stretched_to_the_right");
+    case(b"stretched_nearer");
+    case(b"stretched_from_8");
+    case(b"stretched_on_the_back");
+    case_at(1, b"stretched_one_of_three");
+}
+
 fn main() {
     files();
     pieces();
@@ -237,4 +249,5 @@ fn main() {
     plated_ties();
     limits();
     limit_calls();
+    stretches();
 }

@@ -13,10 +13,11 @@ use Rattle.machine.specs.Limits.{limitMost}
 use Rattle.machine.specs.Range.{LimitInRange}
 use Rattle.machine.proofs.Laws.{and-two}
 use Rattle.machine.specs.Geometry.{eqZ, columnOf, entryOf, exitOf, sameColumn, withinFloat}
+use Rattle.machine.specs.Stretch.{slotBeside, distanceOf, stretches}
 use Rattle.record.specs.Kinds.{byKind}
 use Rattle.record.specs.Format.{decodeOf, readOf, fieldsOk, recordFrom, refusedAs, rackOk, needleOk, workOk, signedOf}
 use Rattle.record.specs.Names.{needlesOf, carriersOf}
-use Rattle.run.specs.Step.{lookOf, seeOf, twiceNo, parkedNo, floatNo, carrierNo, oppositeNo, firstAfter, secondAfter, firstAsked, roomNo, decidedNo, edit, actOf, acted, moveAttachments, numberAt, applyOf}
+use Rattle.run.specs.Step.{lookOf, seeOf, twiceNo, stretchNo, parkedNo, floatNo, carrierNo, oppositeNo, firstAfter, secondAfter, firstAsked, roomNo, decidedNo, edit, actOf, acted, moveAttachments, numberAt, applyOf}
 use Rattle.run.specs.Run.{stepOf, turn, runFrom, startNo, answerLimit, answerOf, runOf}
 use Rattle.rewrite.specs.Extents.{halfColumn, layerOf, extentOf, meets, member, common}
 use Rattle.rewrite.specs.Programs.{cut, startsOf, sameBytes, recordsOf}
@@ -59,7 +60,7 @@ each (r ∷ l) e = (
 )
 
 computed : (output work : List ℕ) → every output work listings ≡ true
-unfolding test bytesIn text digitsOf letterOf signOf flagOf lines hookLine attachmentOf carrierLine programLine bedsOf stateOf shownOf listingOf writes replayFrom cut startsOf sameBytes halfColumn layerOf extentOf meets member common byKind runOf runFrom turn stepOf startNo answerLimit answerOf emptyState completeOf all inactiveCarrier movedTo attachedAt sameNeedle eqZ columnOf entryOf exitOf sameColumn withinFloat decodeOf readOf fieldsOk recordFrom refusedAs rackOk needleOk workOk signedOf needlesOf carriersOf lookOf seeOf twiceNo parkedNo floatNo carrierNo oppositeNo firstAfter secondAfter firstAsked roomNo decidedNo edit actOf acted moveAttachments numberAt applyOf
+unfolding test bytesIn text digitsOf letterOf signOf flagOf lines hookLine attachmentOf carrierLine programLine bedsOf stateOf shownOf listingOf writes replayFrom cut startsOf sameBytes halfColumn layerOf extentOf meets member common byKind runOf runFrom turn stepOf startNo answerLimit answerOf emptyState completeOf all inactiveCarrier movedTo attachedAt sameNeedle eqZ columnOf entryOf exitOf sameColumn withinFloat decodeOf readOf fieldsOk recordFrom refusedAs rackOk needleOk workOk signedOf needlesOf carriersOf lookOf seeOf twiceNo stretchNo stretches distanceOf slotBeside parkedNo floatNo carrierNo oppositeNo firstAfter secondAfter firstAsked roomNo decidedNo edit actOf acted moveAttachments numberAt applyOf
 computed output work = refl
 
 pub listings-printed : ListingsPrinted

@@ -115,7 +115,7 @@ ListsPRead =
 abbrev pub ListingsPrinted : Type 0
 ListingsPrinted = Each Printed listings
 
--- '"p" alone after 1 to 11 and for an empty program', and so after 16 (02, W1: 'handled like' 5) and 15: after a number that writes nothing, the listing of no bytes
+-- '"p" alone after 1 to 11 and for an empty program', and so after 16 and 17 (02: 'handled like' 5) and 15: after a number that writes nothing, the listing of no bytes
 abbrev pub PAloneRefused : Type 0
 PAloneRefused =
     (limit : ℕ) (program log output work : List ℕ) → let w = rewriteOf limit program log output work in

@@ -95,7 +95,7 @@ bedsOf loops = hookLines 0 (take bedNeedles loops) ++ hookLines 1 (drop bedNeedl
 unfoldable pub stateOf : State → List ℕ
 stateOf s = rackingLine (s .racking .0) ++ (bedsOf (s .loops) ++ carrierLines (s .carriers))
 
--- how many bytes of the output are listed: the program's length after a number that writes, none after the others (1 to 11, 15 and 16)
+-- how many bytes of the output are listed: the program's length after a number that writes, none after the others (1 to 11 and 15 to 17)
 unfoldable pub shownOf : ℕ → ℕ → ℕ
 shownOf number length = cond (writes number) length 0
 

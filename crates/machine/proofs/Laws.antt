@@ -1,6 +1,6 @@
 -- Laws of the machine's definitions: columns and slots as code reads them back, walks along a list, attachments, the empty state, the most loops. Assumes nothing.
 use borrow.Table.Steps.{cases}
-use Prim.Native.Nat.{ℕ, _+_, _<_, _≤_}
+use Prim.Native.Nat.{ℕ, zero, suc, _+_, _-_, _<_, _≤_}
 use mathlib.Core.Path.{_≡_, refl, sym, ap, subst, _∙_}
 use mathlib.Core.Bool.{Bool, true, false, _&&_, not, cond, and-true, and-false, and-assoc, false≢true}
 use mathlib.Core.List.{List, [], _∷_, map}
@@ -9,7 +9,7 @@ use native.Mathlib.Omega.{arith}
 use lib.IntN.{ℤ, pos, negsuc, _+ℤ_, _-ℤ_}
 use lib.Signed.{leZ, mag}
 use lib.Dec.{eqb, leb, ltb}
-use lib.ListN.{getD, length, drop, replicate}
+use lib.ListN.{getD, length, take, drop, replicate}
 use lib.Seq.{drop-cons, drop-length}
 use native.Mathlib.Numerals.{add-one}
 use borrow.Author.Tests.{eqb-true, not-true, ltb-true, ltb-false, leb-true, le-leb}
@@ -85,6 +85,21 @@ module _ {A : Type 0} (p : A → Bool) where
   pub all-end : (l : List A) (i : ℕ) → i ≡ length l → all p (drop i l) ≡ true
   unfolding all
   all-end l i h = rw (h, drop-length l)
+
+-- and downwards
+module _ {A : Type 0} (p : A → Bool) where
+  last : (l : List A) (i : ℕ) (d : A) → i < length l → all p (take (suc i) l) ≡ (all p (take i l) && p (getD l i d))
+  unfolding all
+  last [] i d h = absurd (omega arith)
+  last (x ∷ l) zero d h = and-true (p x)
+  last (x ∷ l) (suc i) d h = ap (λ (b : Bool). p x && b) (last l i d (omega arith)) ∙ sym (and-assoc (p x) (all p (take i l)) (p (getD l i d)))
+
+  pub all-last : (l : List A) (k : ℕ) (d : A) → 0 < k → k ≤ length l → all p (take k l) ≡ (all p (take (k - 1) l) && p (getD l (k - 1) d))
+  all-last l k d h m = let e : k ≡ suc (k - 1) = omega arith in ap (λ (n : ℕ). all p (take n l)) e ∙ last l (k - 1) d (omega arith)
+
+  pub all-none : (l : List A) (k : ℕ) → k ≡ 0 → all p (take k l) ≡ true
+  unfolding all
+  all-none l k e = rw e refl
 
 and-left : (a b : Bool) → (a && b) ≡ true → a ≡ true
 and-left true b e = refl

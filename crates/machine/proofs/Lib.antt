@@ -4,3 +4,4 @@ pub mod Lists
 pub mod Laws
 pub mod Ranges
 pub mod Walks
+pub mod Stretches

@@ -3,10 +3,11 @@ use borrow.Table.Steps.{cases}
 use Prim.Native.Nat.{ℕ, zero, suc, _+_, _-_, _≤_, _<_, _^_}
 use mathlib.Core.Path.{_≡_, refl, sym, ap, subst, _∙_}
 use mathlib.Core.Bool.{true, false, _&&_, not, and-true, true≢false, false≢true}
+use mathlib.Core.Logic.{_↔_, _⊎_, inl, inr, ⊎-elim}
 use native.Mathlib.Omega.{arith}
 use lib.IntN.{ℤ, pos, negsuc, _+ℤ_, _-ℤ_, negℤ, subℕ, natAbs}
-use lib.Signed.{leZ, ltZ, mag}
-use lib.Dec.{eqb, leb, ltb, leb·suc-suc}
+use lib.Signed.{leZ, ltZ, mag, nonNeg}
+use lib.Dec.{T, eqb, leb, ltb, leb·suc-suc}
 use borrow.Author.Tests.{eq-eqb, ne-eqb, eqb-true, eqb-false, ltb-true, ltb-false, leb-true, leb-false, lt-ltb, le-ltb, not-true, not-false}
 use mir.Syntax.{Width}
 use mir.Facts.{toZ-ofZ}
@@ -125,13 +126,55 @@ neg-mag a = go (negℤ a) (up-neg a) (dn-neg a)
     go (pos n) p q = omega (arith, dn-mag a)
     go (negsuc n) p q = omega (arith, up-mag a)
 
-mag-difference : (a b : ℤ) → mag (a -ℤ b) ≤ mag a + mag b + 2
+pub mag-difference : (a b : ℤ) → mag (a -ℤ b) ≤ mag a + mag b + 2
 mag-difference a b = omega (arith, mag-sum a (negℤ b), neg-mag b)
 
 -- a magnitude of at most k + 1, as two comparisons
 pub abs-in : (k : ℕ) (d : ℤ) → leb (natAbs d) (suc k) ≡ (leZ (negsuc k) d && leZ d (pos (suc k)))
 abs-in k (pos n) = refl
 abs-in k (negsuc n) = leb·suc-suc n k ∙ sym (and-true (leb n k))
+
+-- a number below 0, negated, and one that is not, as unsigned ones
+pub below : (y : ℤ) → ltZ y (pos 0) ≡ true → T (nonNeg (pos 0 -ℤ y)) × (natAbs (pos 0 -ℤ y) ≡ natAbs y)
+below (pos n) t = absurd (no n (ltb-true n 0 t))
+  where
+    no : (n : ℕ) → n < 0 → ⊥
+    no n h = omega arith
+below (negsuc n) t = (tt, omega arith)
+
+pub not-below : (y : ℤ) → ltZ y (pos 0) ≡ false → T (nonNeg y)
+not-below (pos n) t = tt
+not-below (negsuc n) t = absurd (true≢false t)
+
+pub abs-mag : (y : ℤ) → natAbs y ≤ mag y + 1
+abs-mag (pos n) = omega arith
+abs-mag (negsuc n) = omega arith
+
+-- two numbers are d apart exactly if one of them is d more than the other
+more : (a b : ℤ) (d : ℕ) → a ≡ b +ℤ pos d → up a + dn b ≡ dn a + (up b + d)
+more a b d e = subst (λ (z : ℤ). up z + dn b ≡ dn z + (up b + d)) (sym e) (omega (arith, sum b (pos d)))
+
+module _ (a b : ℤ) (d : ℕ) where
+  abbrev Between : ℤ → Type 0
+  Between z = up z + (dn a + up b) ≡ dn z + (up a + dn b)
+
+  split : (z : ℤ) → Between z → natAbs z ≡ d → (a ≡ b +ℤ pos d) ⊎ (b ≡ a +ℤ pos d)
+  split (pos n) h e = inl (eq-of a (b +ℤ pos d) (omega (arith, sum b (pos d))))
+  split (negsuc n) h e = inr (eq-of b (a +ℤ pos d) (omega (arith, sum a (pos d))))
+
+  right : (z : ℤ) → Between z → up a + dn b ≡ dn a + (up b + d) → natAbs z ≡ d
+  right (pos n) h e = omega arith
+  right (negsuc n) h e = omega arith
+
+  left : (z : ℤ) → Between z → up b + dn a ≡ dn b + (up a + d) → natAbs z ≡ d
+  left (pos n) h e = omega arith
+  left (negsuc n) h e = omega arith
+
+  pub apart-by : (natAbs (a -ℤ b) ≡ d) ↔ ((a ≡ b +ℤ pos d) ⊎ (b ≡ a +ℤ pos d))
+  apart-by = (
+    split (a -ℤ b) (difference a b),
+    ⊎-elim {C = natAbs (a -ℤ b) ≡ d} (λ e. right (a -ℤ b) (difference a b) (more a b d e)) (λ e. left (a -ℤ b) (difference a b) (more b a d e)),
+  )
 
 -- what a width holds, and comes back from its bits
 module _ (w : Width) where

@@ -4,4 +4,5 @@ pub mod Machine
 pub mod Geometry
 pub mod Range
 pub mod Walk
+pub mod Stretch
 pub mod Looks

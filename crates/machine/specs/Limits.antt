@@ -33,6 +33,10 @@ limitMost = 8
 abbrev pub floatMost : ℕ
 floatMost = 20
 
+-- 02, W5: 'ends over 20', slots between an attachment and its parked carrier
+abbrev pub stretchMost : ℕ
+stretchMost = 20
+
 -- 'at most 32,768 bytes': a program, a log
 abbrev pub programMost : ℕ
 programMost = 32768

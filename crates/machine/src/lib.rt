@@ -1,13 +1,17 @@
 // The knitting machine: needles, columns, slots, racking, carriers, and the machine state by value.
 ghost use mathlib.Core.Path.{_≡_};
-ghost use Prim.Native.Nat.{ℕ};
+ghost use Prim.Native.Nat.{ℕ, _<_};
 ghost use mathlib.Core.Bool.{cond};
 ghost use mathlib.Core.List.{map};
+ghost use lib.IntN.{_-ℤ_, natAbs};
+ghost use lib.Signed.{mag};
 ghost use lib.Dec.{leb, ltb};
 ghost use Rattle.machine.specs.Machine.{OnBed, inactive, emptyState, hookOf, sameNeedle, attachedAt, movedTo, all, inactiveCarrier, completeOf};
 ghost use Rattle.machine.specs.Walk.{walkOf};
 ghost use Rattle.machine.specs.Geometry.{columnOf, entryOf, exitOf, sameColumn, withinFloat};
-ghost use Rattle.machine.specs.Looks.{Most, bedsEmpty, parkedOk, carrierPasses, anyBeside};
+ghost use Rattle.machine.specs.Limits.{stretchMost};
+ghost use Rattle.machine.specs.Stretch.{slotBeside, distanceOf, anyStretched};
+ghost use Rattle.machine.specs.Looks.{Most, bedsEmpty, parkedOk, carrierPasses, anyBeside, anyBack, carriedOff};
 ghost use Rattle.machine.specs.Range.{rackingOk, limitOk, slotOk, onBed, attachmentOk, stateOk};
 
 // The numbers of refusals.
@@ -78,6 +82,10 @@ impl State {
     pub const FLOAT_LEAST: i64 = -20;
 
     pub const FLOAT_MOST: i64 = 20;
+    // the slots from a parked carrier to its attachment over which a rack must not add to them, counted to the left and to the right
+    pub const STRETCH_LEAST: i32 = -20;
+
+    pub const STRETCH_MOST: i32 = 20;
     // the least and the greatest hook limit
     pub const LIMIT_LEAST: u8 = 1;
 
@@ -158,6 +166,17 @@ impl Needle {
         } else {
             Column(n + (r.0 as i32))
         }
+    }
+
+    // The slot beside it on its right side (2) or its left (1), given by the column just right of that slot.
+    fn beside(self, r: Racking, side: u8) -> Column
+        ensures { λ y. ⌜ (y .0 ≡ slotBeside (columnOf self r) side .0) × (mag (y .0) < 66000) ⌝ }
+    {
+        let z = self.column(r);
+        if 1 < side {
+            return Column(z.0 + 1);
+        }
+        z
     }
 
     // Where a carrier stands before it moves over the needle.
@@ -319,6 +338,40 @@ impl Carrier {
         self.is_inactive()
     }
 
+    // Whether a slot, given by the column just right of it, is too far from the slot where the carrier is parked.
+    fn far_from(self, y: Column) -> bool
+        requires { ⌜ mag (y .0) < 66000 ⌝ }
+        ensures { λ b. ⌜ b ≡ ltb stretchMost (natAbs (y .0 -ℤ self .slot .0)) ⌝ }
+    {
+        let here = self.slot;
+        let d = y.0 - (here.0 as i32);
+        d < State::STRETCH_LEAST || State::STRETCH_MOST < d
+    }
+
+    // How far its attachment's slot is from the slot where it is parked.
+    fn distance(self, r: Racking) -> u32
+        ensures { λ d. ⌜ d ≡ distanceOf r self ⌝ }
+    {
+        let n = self.needle;
+        let y = n.beside(r, self.side);
+        let here = self.slot;
+        let d = y.0 - (here.0 as i32);
+        if d < 0 { (0 - d) as u32 } else { d as u32 }
+    }
+
+    // Whether it is parked and attached, and a rack from one racking to another takes its attachment further off.
+    fn carried_off(self, before: Racking, after: Racking) -> bool
+        ensures { λ b. ⌜ b ≡ carriedOff before after self ⌝ }
+    {
+        if self.active == 0 {
+            return false;
+        }
+        if self.side == 0 {
+            return false;
+        }
+        self.distance(before) < self.distance(after)
+    }
+
     // Whether the carrier is attached at the needle.
     fn attached_at(self, n: Needle) -> bool
         ensures { λ b. ⌜ b ≡ attachedAt n self ⌝ }
@@ -431,6 +484,43 @@ pub fn any_beside(carriers: [Carrier; State::CARRIERS], n: Needle) -> bool
             return true;
         }
         k += 1;
+    }
+    false
+}
+
+// Whether a carrier names a needle of the back bed: else a rack carries no attachment off. (One comparison a carrier.)
+pub fn any_back(carriers: [Carrier; State::CARRIERS]) -> bool
+    ensures { λ b. ⌜ b ≡ anyBack carriers ⌝ }
+{
+    let mut k = 0;
+    while k < State::CARRIERS {
+        if carriers[k].needle.0 != 0 {
+            return true;
+        }
+        k += 1;
+    }
+    false
+}
+
+// Whether a rack from one racking to another stretches some carrier's yarn. (Only a carrier that is too far off afterwards is
+// looked at in full; its fields are read in the array before it is copied, and the walk goes down to carrier 1: both are
+// fewer instructions a carrier.)
+pub fn any_stretched(carriers: [Carrier; State::CARRIERS], before: Racking, after: Racking) -> bool
+    ensures { λ b. ⌜ b ≡ anyStretched before after carriers ⌝ }
+{
+    let mut k = State::CARRIERS;
+    while 0 < k {
+        k -= 1;
+        if carriers[k].needle.0 != 0 {
+            let n = Needle(carriers[k].needle.0, carriers[k].needle.1);
+            let y = n.beside(after, carriers[k].side);
+            let c = carriers[k];
+            if c.far_from(y) {
+                if c.carried_off(before, after) {
+                    return true;
+                }
+            }
+        }
     }
     false
 }

@@ -32,3 +32,5 @@ pub const TORN_LOG: u8 = 14;
 pub const BAD_STATE: u8 = 15;
 // one yarn twice
 pub const YARN_TWICE: u8 = 16;
+// stretched: a rack that carries a yarn's attachment too far off
+pub const STRETCHED: u8 = 17;

@@ -1,28 +1,34 @@
 -- The claims of the panel's step, and the rows at the edges of the ranges. Assumes nothing.
 use borrow.Table.Steps.{cases}
-use Prim.Native.Nat.{ℕ}
-use mathlib.Core.Path.{_≡_, refl, sym, ap, subst, _∙_}
+use Prim.Native.Nat.{ℕ, _≤_}
+use mathlib.Core.Path.{_≡_, refl, sym, ap, subst, subst⁻¹, _∙_}
 use mathlib.Core.Bool.{true, false}
-use mathlib.Core.List.{List, _++_}
+use mathlib.Core.List.{List, [], _∷_, _++_}
+use mathlib.Core.Logic.{_↔_}
+use lib.IntN.{ℤ, natAbs}
 use native.Mathlib.Omega.{arith}
 use lib.ListN.{length, take}
 use lib.Seq.{take-append-seam}
+use Rattle.machine.specs.declared.Racking.{Racking}
 use Rattle.machine.specs.declared.State.{State}
+use Rattle.machine.specs.Limits.{rackingMost}
 use Rattle.machine.specs.Geometry.{eqZ}
 use Rattle.machine.specs.Machine.{emptyState, all, inactiveCarrier, completeOf}
 use Rattle.machine.specs.Range.{StateInRange, slotOk, attachmentOk, carrierOk, stateOk}
 use Rattle.machine.proofs.Ranges.{range-exactly}
-use Rattle.record.specs.Format.{refusedAs, decodeOf}
+use Rattle.record.specs.Kinds.{RACK}
+use Rattle.record.specs.Format.{Encodes, signedOf, rackRecord, refusedAs, decodeOf}
 use Rattle.run.specs.declared.Stepped.{Stepped}
 use Rattle.run.specs.Relation.{Steps}
 use Rattle.run.specs.Run.{oneIf, runOf, answerOf, stay, stepOf}
 use Rattle.record.proofs.Shapes.{is}
 use Rattle.run.proofs.Refusals.{reason-other}
-use Rattle.run.proofs.Demand.{final, step-accepts, step-done, step-refused, step-keeps-limit, run-in-range, step-in-range}
+use Rattle.run.proofs.Demand.{final, step-accepts, step-done, step-refused, step-keeps-limit, run-in-range, step-in-range, current-rack-steps, stretched-exactly}
+use Rattle.run.specs.Claims.{BeginsStretching}
 use Rattle.run.proofs.Runs.{steps-on}
 use Rattle.run.proofs.Stepwise.{steps-are-the-run, steps-are-one}
 use Rattle.panel.specs.Panel.{panelStep}
-use Rattle.panel.specs.Claims.{ServiceIsStep, RunNotFoul, ServiceNotFoul, ServiceKeepsLimit, ServedAsRun, ServedOneWay, TellsAsRun, RefusedTellsAsRun, TellsAgain}
+use Rattle.panel.specs.Claims.{ServiceIsStep, RunNotFoul, ServiceNotFoul, ServiceKeepsLimit, ServedAsRun, ServedOneWay, TellsAsRun, RefusedTellsAsRun, TellsAgain, ServesCurrentRack, ServedStretchedExactly}
 use Rattle.panel.specs.Rows.{RangeRows}
 use Rattle.panel.proofs.Services.{foul-step, fine-step}
 
@@ -132,3 +138,14 @@ tells-again s l m d k = either s fair (λ f. absurd (d (sym (ap (λ (t : Stepped
         let e = service-is-step s l h in
         refused-tells (panelStep s l .state) m (subst (λ (t : Stepped). StateInRange (t .state)) (sym e) (step-in-range s l h)) k
         ∙ ap (λ (a : Stepped). oneIf (completeOf (a .state))) e ∙ sym (left-tells s l) ∙ sym (ap (λ (a : Stepped). a .complete) e)
+
+-- ---- racks
+pub serves-current-rack : ServesCurrentRack
+serves-current-rack s b rest h e =
+    let x = rackRecord (signedOf b) in
+    let here : x .racking ≡ s .racking = ap {B = Racking} (λ (z : ℤ). record { 0 = z }) e in
+    let near : natAbs (signedOf b) ≤ rackingMost = subst⁻¹ (λ (z : ℤ). natAbs z ≤ rackingMost) e (h .racking) in
+    service-is-step s (RACK ∷ b ∷ rest) h ∙ step-done s (RACK ∷ b ∷ []) rest x s (Encodes.rack near) (current-rack-steps s x refl here)
+
+pub served-stretched : ServedStretchedExactly
+served-stretched s l h = subst⁻¹ (λ (t : Stepped). (t .number ≡ 17) ↔ BeginsStretching s l) (service-is-step s l h) (stretched-exactly s l)

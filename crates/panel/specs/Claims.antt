@@ -1,15 +1,18 @@
--- What is claimed of the panel's step besides what each call gives: that it is the run's step, that it tells after each record what the run so far tells, and
--- that 15 tells of a fault.
+-- What is claimed of the panel's step besides what each call gives: that it is the run's step, that it tells after each record what the run so far tells,
+-- that 15 tells of a fault, and what it does with a rack.
 use Prim.Native.Nat.{ℕ, _≤_}
 use mathlib.Core.Path.{_≡_}
-use mathlib.Core.List.{List, _++_}
+use mathlib.Core.List.{List, _∷_, _++_}
+use mathlib.Core.Logic.{_↔_}
 use lib.ListN.{length}
 use Rattle.machine.specs.declared.State.{State}
 use Rattle.machine.specs.Limits.{programMost}
 use Rattle.machine.specs.Range.{StateInRange}
+use Rattle.record.specs.Kinds.{RACK}
+use Rattle.record.specs.Format.{signedOf}
 use Rattle.run.specs.Relation.{Valid}
-use Rattle.run.specs.Run.{oneIf, runOf, stepOf}
-use Rattle.run.specs.Claims.{StepsAreTheRun, StepsAreOne}
+use Rattle.run.specs.Run.{oneIf, told, runOf, stepOf}
+use Rattle.run.specs.Claims.{BeginsStretching, StepsAreTheRun, StepsAreOne}
 use Rattle.panel.specs.Panel.{panelStep}
 
 -- from a state in range the service is the step that the run makes
@@ -50,3 +53,12 @@ abbrev pub TellsAgain : Type 0
 TellsAgain =
     (s : State) (l m : List ℕ) → (panelStep s l .number ≡ 15 → ⊥) → (panelStep (panelStep s l .state) m .number ≡ 0 → ⊥)
     → panelStep (panelStep s l .state) m .complete ≡ panelStep s l .complete
+
+-- 02, W5: 'A rack to the current value therefore always passes': from every state that is not foul, also where a distance is over 20 already, it is done and
+-- leaves the state as it is
+abbrev pub ServesCurrentRack : Type 0
+ServesCurrentRack = (s : State) (b : ℕ) (rest : List ℕ) → StateInRange s → signedOf b ≡ s .racking .0 → panelStep s (RACK ∷ b ∷ rest) ≡ told 0 2 s
+
+-- and from every such state 17 comes of a rack that stretches a yarn, and of nothing else
+abbrev pub ServedStretchedExactly : Type 0
+ServedStretchedExactly = (s : State) (l : List ℕ) → StateInRange s → (panelStep s l .number ≡ 17) ↔ BeginsStretching s l

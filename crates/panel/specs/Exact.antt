@@ -24,7 +24,7 @@ pub data Tells (t : State) : ℕ → Type 0 where
   complete : t ≡ emptyState (t .limit) → Tells t 1
   incomplete : (t ≡ emptyState (t .limit) → ⊥) → Tells t 0
 
--- 01: '15 is looked at first, then 3 to 11', 02: 16 'after 5'; refused, it leaves its loan untouched and gives length 0; 'no after 15'
+-- 01: '15 is looked at first, then 3 to 11', 02: 16 and 17 'after 5'; refused, it leaves its loan untouched and gives length 0; 'no after 15'
 pub data Serves (s : State) (l : List ℕ) : Stepped → Type 0 where
   -- a foul state, whatever the bytes
   foul : (StateInRange s → ⊥) → Serves s l (record { number = 15; complete = 0; length = 0; state = s })

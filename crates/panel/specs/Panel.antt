@@ -16,7 +16,7 @@ use Rattle.panel.specs.declared.Served.{Served}
 abbrev pub fouled : State → Stepped
 fouled s = record { number = 15; complete = 0; length = 0; state = s }
 
--- 15 (foul state) is looked at first, then 3 to 11 and 16 by the step that the run makes; a refused call keeps the state
+-- 15 (foul state) is looked at first, then 3 to 11, 16 and 17 by the step that the run makes; a refused call keeps the state
 unfoldable pub panelStep : State → List ℕ → Stepped
 panelStep s l = cond (stateOk s) (stepOf s l) (fouled s)
 

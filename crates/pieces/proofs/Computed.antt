@@ -13,10 +13,11 @@ use Rattle.machine.specs.declared.Carrier.{Carrier}
 use Rattle.machine.specs.declared.State.{State}
 use Rattle.machine.specs.Machine.{loopsOn, carrierOf, emptyState, completeOf, all, inactiveCarrier, movedTo, attachedAt, sameNeedle, Each}
 use Rattle.machine.specs.Geometry.{eqZ, columnOf, entryOf, exitOf, sameColumn, withinFloat}
+use Rattle.machine.specs.Stretch.{slotBeside, distanceOf, stretches}
 use Rattle.record.specs.Kinds.{byKind}
 use Rattle.record.specs.Format.{decodeOf, readOf, fieldsOk, recordFrom, refusedAs, rackOk, needleOk, workOk, signedOf}
 use Rattle.record.specs.Names.{needlesOf, carriersOf}
-use Rattle.run.specs.Step.{lookOf, seeOf, twiceNo, parkedNo, floatNo, carrierNo, oppositeNo, firstAfter, secondAfter, firstAsked, roomNo, decidedNo, edit, actOf, acted, moveAttachments, numberAt, applyOf}
+use Rattle.run.specs.Step.{lookOf, seeOf, twiceNo, stretchNo, parkedNo, floatNo, carrierNo, oppositeNo, firstAfter, secondAfter, firstAsked, roomNo, decidedNo, edit, actOf, acted, moveAttachments, numberAt, applyOf}
 use Rattle.run.specs.declared.Answer.{Answer}
 use Rattle.run.specs.Run.{stepOf, turn, runFrom, startNo, answerLimit, answerOf, runOf}
 use Rattle.trace.specs.Records.{tied}
@@ -31,7 +32,7 @@ use Rattle.pieces.specs.Edges.{Pair, pairs, edges}
 use Rattle.pieces.specs.Houses.{houses, firsts}
 use Rattle.pieces.specs.Pieces.{Says, Holds, front, rewritten, ordered, Leaves, Rewrites, Orders, Firsts, inForce, Ties, PiecesHold}
 use Rattle.pieces.proofs.Orders.{orders}
-use Rattle.pieces.proofs.Steps.{walks-so, steps-so, pieces-so}
+use Rattle.pieces.proofs.Steps.{walks-so, steps-so, pieces-so, racks-so}
 
 -- the test that is computed, and that it says so
 sameBool : Bool → Bool → Bool
@@ -152,15 +153,15 @@ pair-says r e =
 
 -- the tests, computed: rows, swaps, orders, bytes and ties apart, since a declaration is checked in fifty million steps at most
 rows-computed : every rowTest rows ≡ true
-unfolding rowTest saysTest stateTest hooksTest carriersTest sameBool sameCarrier runOf runFrom turn stepOf startNo answerLimit answerOf emptyState completeOf all inactiveCarrier movedTo attachedAt sameNeedle eqZ columnOf entryOf exitOf sameColumn withinFloat decodeOf readOf fieldsOk recordFrom refusedAs rackOk needleOk workOk signedOf needlesOf carriersOf lookOf seeOf twiceNo parkedNo floatNo carrierNo oppositeNo firstAfter secondAfter firstAsked roomNo decidedNo edit actOf acted moveAttachments numberAt applyOf byKind
+unfolding rowTest saysTest stateTest hooksTest carriersTest sameBool sameCarrier runOf runFrom turn stepOf startNo answerLimit answerOf emptyState completeOf all inactiveCarrier movedTo attachedAt sameNeedle eqZ columnOf entryOf exitOf sameColumn withinFloat decodeOf readOf fieldsOk recordFrom refusedAs rackOk needleOk workOk signedOf needlesOf carriersOf lookOf seeOf twiceNo stretchNo stretches distanceOf slotBeside parkedNo floatNo carrierNo oppositeNo firstAfter secondAfter firstAsked roomNo decidedNo edit actOf acted moveAttachments numberAt applyOf byKind
 rows-computed = refl
 
 swaps-computed : every swapTest swaps ≡ true
-unfolding swapTest leavesTest saysTest rewriteOf lentNo replayFrom cut startsOf sameBytes halfColumn layerOf extentOf meets member common byKind stateTest hooksTest carriersTest sameBool sameCarrier runOf runFrom turn stepOf startNo answerLimit answerOf emptyState completeOf all inactiveCarrier movedTo attachedAt sameNeedle eqZ columnOf entryOf exitOf sameColumn withinFloat decodeOf readOf fieldsOk recordFrom refusedAs rackOk needleOk workOk signedOf needlesOf carriersOf lookOf seeOf twiceNo parkedNo floatNo carrierNo oppositeNo firstAfter secondAfter firstAsked roomNo decidedNo edit actOf acted moveAttachments numberAt applyOf
+unfolding swapTest leavesTest saysTest rewriteOf lentNo replayFrom cut startsOf sameBytes halfColumn layerOf extentOf meets member common byKind stateTest hooksTest carriersTest sameBool sameCarrier runOf runFrom turn stepOf startNo answerLimit answerOf emptyState completeOf all inactiveCarrier movedTo attachedAt sameNeedle eqZ columnOf entryOf exitOf sameColumn withinFloat decodeOf readOf fieldsOk recordFrom refusedAs rackOk needleOk workOk signedOf needlesOf carriersOf lookOf seeOf twiceNo stretchNo stretches distanceOf slotBeside parkedNo floatNo carrierNo oppositeNo firstAfter secondAfter firstAsked roomNo decidedNo edit actOf acted moveAttachments numberAt applyOf
 swaps-computed = refl
 
 orders-computed : every orderTest houses ≡ true
-unfolding orderTest leavesTest orderOf taken leastOf freeOf without bytesFirst saysTest rewriteOf lentNo replayFrom cut startsOf sameBytes halfColumn layerOf extentOf meets member common byKind stateTest hooksTest carriersTest sameBool sameCarrier runOf runFrom turn stepOf startNo answerLimit answerOf emptyState completeOf all inactiveCarrier movedTo attachedAt sameNeedle eqZ columnOf entryOf exitOf sameColumn withinFloat decodeOf readOf fieldsOk recordFrom refusedAs rackOk needleOk workOk signedOf needlesOf carriersOf lookOf seeOf twiceNo parkedNo floatNo carrierNo oppositeNo firstAfter secondAfter firstAsked roomNo decidedNo edit actOf acted moveAttachments numberAt applyOf
+unfolding orderTest leavesTest orderOf taken leastOf freeOf without bytesFirst saysTest rewriteOf lentNo replayFrom cut startsOf sameBytes halfColumn layerOf extentOf meets member common byKind stateTest hooksTest carriersTest sameBool sameCarrier runOf runFrom turn stepOf startNo answerLimit answerOf emptyState completeOf all inactiveCarrier movedTo attachedAt sameNeedle eqZ columnOf entryOf exitOf sameColumn withinFloat decodeOf readOf fieldsOk recordFrom refusedAs rackOk needleOk workOk signedOf needlesOf carriersOf lookOf seeOf twiceNo stretchNo stretches distanceOf slotBeside parkedNo floatNo carrierNo oppositeNo firstAfter secondAfter firstAsked roomNo decidedNo edit actOf acted moveAttachments numberAt applyOf
 orders-computed = refl
 
 firsts-computed : every firstTest firsts ≡ true
@@ -186,4 +187,5 @@ pieces =
       walks-so,
       steps-so,
       pieces-so,
+      racks-so,
     )

@@ -6,7 +6,7 @@ use lib.IntN.{ℤ, pos, negsuc}
 use lib.ListN.{replicate}
 use Rattle.rewrite.specs.Programs.{flat}
 use Rattle.pieces.specs.Spelled.{f, b, left, right, rack, drop, xfer, bring-in, take-out, miss, tuck, knit, split, plated-tuck, plated-knit}
-use Rattle.pieces.specs.Rows.{expected, empty, on-right, Swap, lending, swap, unmade, swap-given, swap-bad}
+use Rattle.pieces.specs.Rows.{expected, empty, on-right, led-at-8, Swap, lending, swap, unmade, swap-given, swap-bad}
 
 -- a call that is made, with room to spare: the program, whether its state is complete, its racking, and what is written
 abbrev ordered : List (List ℕ) → Bool → ℤ → List (List ℕ) → List ℕ → Swap
@@ -73,6 +73,11 @@ houses =
     ∷ lending (two-drops ++ 12 ∷ []) [] 7 3 (empty 3 6) [] []
     ∷ lending (two-drops ++ drop (f 250)) [] 9 4 (empty 5 6) [] []
     ∷ lending (two-drops ++ plated-knit right (f 10) 3 3) [] 12 6 (empty 16 6) [] []
+    -- 02, W5: a rack that takes an attachment to 21, and to 20
+    ∷ lending (led-at-8 5 ++ two-drops ++ rack 248) [] 45 22 (expected 17 43 false (pos 8) [] ((3, on-right 24 (b 10)) ∷ [])) [] []
+    ∷ lending (led-at-8 4 ++ two-drops ++ rack 248) [] 40 20 (expected 0 0 false (negsuc 7) [] ((3, on-right 23 (b 10)) ∷ []))
+    (rack 8 ++ drop (f 1) ++ drop (f 2) ++ bring-in right (b 10) 3 ++ tuck right (b 10) 3 ++ miss right (f 19) 3 ++ miss right (f 20) 3 ++ miss right (f 21) 3 ++ miss right (f 22) 3 ++ rack 248)
+    (0 ∷ 2 ∷ 5 ∷ 8 ∷ 13 ∷ 18 ∷ 23 ∷ 28 ∷ 33 ∷ 38 ∷ [])
     ∷ []
 
 -- bytes, and whether the first come first: 'unsigned, byte by byte, a shorter prefix first'

@@ -5,4 +5,5 @@ pub mod Edges
 pub mod Orders
 pub mod Houses
 pub mod Steps
+pub mod Racks
 pub mod Pieces

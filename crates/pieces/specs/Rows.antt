@@ -31,7 +31,7 @@ abbrev pub empty : ℕ → ℕ → Expected
 empty n at = expected n at true (pos 0) [] []
 
 -- a carrier parked at slot z, attached to a needle on a side, or to none
-abbrev parked : ℤ → ℕ → Needle → Carrier
+abbrev pub parked : ℤ → ℕ → Needle → Carrier
 parked z side n = record { active = 1; side = side; slot = record { 0 = z }; needle = n }
 
 abbrev pub on-left : ℕ → Needle → Carrier
@@ -582,8 +582,57 @@ limits =
     ∷ bad 9 P
     ∷ []
 
+-- ---- 02, W5: a rack that stretches a yarn
+-- carrier 3 attached on the right of b.10 (slot 11 at racking 0) and led right by so many slots; on the left of b.40 (slot 40) and led left
+abbrev led-right : ℕ → List ℕ
+led-right n = bring-in right (b 10) 3 ++ tuck right (b 10) 3 ++ misses-right f 11 n
+
+abbrev led-left : ℕ → List ℕ
+led-left n = bring-in left (b 40) 3 ++ tuck left (b 40) 3 ++ misses-left 39 n
+
+-- the same at racking 8, where b.10 has column 18
+abbrev pub led-at-8 : ℕ → List ℕ
+led-at-8 n = rack 8 ++ bring-in right (b 10) 3 ++ tuck right (b 10) 3 ++ misses-right f 19 n
+
+abbrev carried-off : List Row
+carried-off =
+    -- carried off to 20, and to 21, at once and by a second rack; to the current value, nearer
+    racked (led-right 19 ++ rack 255) 0 0 (negsuc 0) ((b 10, 1) ∷ []) ((3, on-right 30 (b 10)) ∷ [])
+    ∷ knitted (led-right 19 ++ rack 254) 17 105 ((b 10, 1) ∷ []) ((3, on-right 30 (b 10)) ∷ [])
+    ∷ racked (led-right 19 ++ rack 255 ++ rack 254) 17 107 (negsuc 0) ((b 10, 1) ∷ []) ((3, on-right 30 (b 10)) ∷ [])
+    ∷ racked (led-right 19 ++ rack 255 ++ rack 255 ++ rack 0 ++ rack 8) 0 0 (pos 8) [] ((3, on-right 30 (b 10)) ∷ [])
+    ∷ knitted (led-right 20 ++ rack 255) 17 110 ((b 10, 1) ∷ []) ((3, on-right 31 (b 10)) ∷ [])
+    ∷ knitted (led-right 20 ++ rack 0) 0 0 [] ((3, on-right 31 (b 10)) ∷ [])
+    -- misses led it on to 30: it comes nearer and stays, and then is not carried back
+    ∷ racked (led-right 30 ++ rack 1 ++ rack 1) 0 0 (pos 1) [] ((3, on-right 41 (b 10)) ∷ [])
+    ∷ racked (led-right 30 ++ rack 1 ++ rack 0) 17 162 (pos 1) [] ((3, on-right 41 (b 10)) ∷ [])
+    ∷ racked (led-right 30 ++ rack 8) 0 0 (pos 8) [] ((3, on-right 41 (b 10)) ∷ [])
+    -- on the left, carried off to the right
+    ∷ racked (led-left 19 ++ rack 1) 0 0 (pos 1) ((b 40, 1) ∷ []) ((3, on-left 21 (b 40)) ∷ [])
+    ∷ knitted (led-left 20 ++ rack 1) 17 110 ((b 40, 1) ∷ []) ((3, on-left 20 (b 40)) ∷ [])
+    ∷ racked (led-left 20 ++ rack 255) 0 0 (negsuc 0) [] ((3, on-left 20 (b 40)) ∷ [])
+    -- from racking 8 to −8: 4 to 20, 5 to 21
+    ∷ racked (led-at-8 4 ++ rack 248) 0 0 (negsuc 7) [] ((3, on-right 23 (b 10)) ∷ [])
+    ∷ racked (led-at-8 5 ++ rack 248) 17 37 (pos 8) [] ((3, on-right 24 (b 10)) ∷ [])
+    ∷ racked (led-at-8 5 ++ rack 249) 0 0 (negsuc 6) [] ((3, on-right 24 (b 10)) ∷ [])
+    -- in front it stays; xfer takes an attachment to the back bed, and from there
+    ∷ racked (in-3 ++ tuck right (f 10) 3 ++ misses-right f 11 30 ++ rack 248 ++ rack 8) 0 0 (pos 8) [] ((3, on-right 41 (f 10)) ∷ [])
+    ∷ knitted (led-21 ++ xfer (f 10) 10 ++ rack 255) 17 114 ((f 10, 0) ∷ (b 10, 1) ∷ []) ((3, on-right 31 (b 10)) ∷ [])
+    ∷ racked (led-right 20 ++ xfer (b 10) 10 ++ rack 255) 0 0 (negsuc 0) ((f 10, 1) ∷ (b 10, 0) ∷ []) ((3, on-right 31 (f 10)) ∷ [])
+    -- an unattached carrier, and one that went out
+    ∷ racked (bring-in right (b 10) 3 ++ misses-right f 10 30 ++ rack 248) 0 0 (negsuc 7) [] ((3, unattached 40) ∷ [])
+    ∷ racked (led-right 20 ++ take-out right (f 30) 3 ++ rack 255) 0 0 (negsuc 0) ((b 10, 1) ∷ []) ((3, inactive) ∷ [])
+    -- two carriers, one by one and plated: only the one that is led on is stretched
+    ∷ knitted (bring-in right (b 10) 4 ++ tuck right (b 10) 4 ++ led-right 20 ++ rack 255) 17 120 ((b 10, 2) ∷ []) ((3, on-right 31 (b 10)) ∷ (4, on-right 11 (b 10)) ∷ [])
+    ∷ knitted (bring-in right (b 10) 2 ++ bring-in right (b 10) 3 ++ plated-tuck right (b 10) 3 2 ++ misses-right f 11 20 ++ rack 255) 17 116 ((b 10, 2) ∷ []) ((2, on-right 11 (b 10)) ∷ (3, on-right 31 (b 10)) ∷ [])
+    -- at limit 1 as at 8; 4 and 5 come first
+    ∷ given 1 (knitted (led-right 20 ++ rack 255) 17 110 ((b 10, 1) ∷ []) ((3, on-right 31 (b 10)) ∷ []))
+    ∷ knitted (led-right 20 ++ rack 247) 5 110 [] ((3, on-right 31 (b 10)) ∷ [])
+    ∷ knitted (led-right 20 ++ (1 ∷ [])) 4 110 [] ((3, on-right 31 (b 10)) ∷ [])
+    ∷ []
+
 abbrev pub rows : List Row
-rows = pieces ++ steps ++ floats ++ refusals ++ fields ++ plated ++ plated-bytes 10 ++ plated-bytes 11 ++ limits
+rows = pieces ++ steps ++ floats ++ refusals ++ fields ++ plated ++ plated-bytes 10 ++ plated-bytes 11 ++ limits ++ carried-off
 
 -- ---- the rewriter: limit, program, log, the lengths of output and work area; its answer, the program at the front of the output and the starts at the front of the work area
 pub record Swap : Type 0 where
@@ -725,10 +774,16 @@ swaps =
     ∷ swap P (at 2 ++ (66 ∷ 0 ∷ 2 ∷ [])) (of-P 14 3) swapped-P fives
     ∷ swap P (at 2 ++ (64 ∷ 0 ∷ [])) (of-P 14 3) swapped-P fives
     ∷ swap P (63 ∷ 0 ∷ 3 ∷ []) (of-P 14 0) P fives
-    -- 3 to 11 and 16: a program that is refused is not written; before 14
+    -- 3 to 11, 16 and 17: a program that is refused is not written; before 14
     ∷ swap (1 ∷ 9 ∷ []) (at 0) (empty 5 0) [] []
     ∷ swap (in-3 ++ knit left (f 10) 3) (63 ∷ []) (expected 8 5 false (pos 0) ((f 10, 0) ∷ []) ((3, unattached 10) ∷ [])) [] []
     ∷ swap (both-in ++ plated-knit right (f 10) 3 3) (63 ∷ []) (expected 16 10 false (pos 0) ((f 10, 0) ∷ []) ((3, unattached 10) ∷ (4, unattached 10) ∷ [])) [] []
+    ∷ swap (led-at-8 5 ++ drop (f 200) ++ drop (f 201) ++ rack 248) (63 ∷ []) (expected 17 43 false (pos 8) ((b 10, 1) ∷ []) ((3, on-right 24 (b 10)) ∷ [])) [] []
+    -- a swap before a rack that takes an attachment to 20; the rack itself is tied
+    ∷ swap (led-at-8 4 ++ drop (f 200) ++ drop (f 201) ++ rack 248) (at 7) (expected 0 0 false (negsuc 7) ((b 10, 1) ∷ []) ((3, on-right 23 (b 10)) ∷ []))
+    (led-at-8 4 ++ drop (f 201) ++ drop (f 200) ++ rack 248) (0 ∷ 2 ∷ 7 ∷ 12 ∷ 17 ∷ 22 ∷ 27 ∷ 32 ∷ 35 ∷ 38 ∷ [])
+    ∷ swap (led-at-8 4 ++ drop (f 200) ++ drop (f 201) ++ rack 248) (at 8) (expected 13 0 false (negsuc 7) ((b 10, 1) ∷ []) ((3, on-right 23 (b 10)) ∷ []))
+    (led-at-8 4 ++ drop (f 200) ++ drop (f 201) ++ rack 248) (0 ∷ 2 ∷ 7 ∷ 12 ∷ 17 ∷ 22 ∷ 27 ∷ 32 ∷ 35 ∷ 38 ∷ [])
     -- 1: program or log; before 2. One byte fewer is not too long
     ∷ unmade (replicate 32769 0) [] 32769 16384 1
     ∷ unmade (replicate 32769 0) [] 0 0 1

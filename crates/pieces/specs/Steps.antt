@@ -1,4 +1,4 @@
--- Complete after every record (02, W4) as rows: the walk over the hooks, single steps from a state, and programs stepped record by record.
+-- The walk over the hooks (02, W4), single steps from a state and programs stepped record by record, as rows.
 use Prim.Native.Nat.{ℕ}
 use mathlib.Core.Path.{_≡_}
 use mathlib.Core.Bool.{Bool, true, false}
@@ -62,7 +62,9 @@ steps =
     ∷ (withRacking (pos 1), rack 0, 0, 1, 2) ∷ (withRacking (negsuc 7), rack 0, 0, 1, 2) ∷ (withRacking (pos 1), rack 2, 0, 0, 2) ∷ (withRacking (pos 1), drop (f 0), 0, 0, 3) ∷ (withRacking (negsuc 0), [], 4, 0, 0)
     -- the last carrier goes out, or passes by; refused, it is still in
     ∷ (parked (pos 10), take-out right (f 9) 10, 0, 1, 5) ∷ (attached, take-out right (f 9) 10, 0, 1, 5) ∷ (parked (pos 0), take-out left (f 0) 10, 0, 1, 5) ∷ (parked (pos 10), miss left (f 9) 10, 0, 0, 5)
-    ∷ (parked (pos 10), take-out left (f 9) 10, 8, 0, 0) ∷ (parked (pos 10), take-out right (f 9) 9, 7, 0, 0) ∷ (parked (pos 0), bring-in right (f 0) 10, 6, 0, 0) ∷ (parked (pos 10), rack 0, 0, 0, 2) ∷ []
+    ∷ (parked (pos 10), take-out left (f 9) 10, 8, 0, 0) ∷ (parked (pos 10), take-out right (f 9) 9, 7, 0, 0) ∷ (parked (pos 0), bring-in right (f 0) 10, 6, 0, 0) ∷ (parked (pos 10), rack 0, 0, 0, 2)
+    -- 02, W5: refused with 17, it is still in; as far as that, and no further
+    ∷ (with 1 2 (pos 31) 1 10, rack 255, 17, 0, 0) ∷ (with 1 2 (pos 30) 1 10, rack 255, 0, 0, 2) ∷ (with 1 2 (pos 31) 1 10, rack 255 ++ rack 0, 17, 0, 0) ∷ (with 1 2 (pos 31) 1 10, rack 0 ++ rack 255, 0, 0, 2) ∷ []
 
 abbrev pub Shows : State × List ℕ × ℕ × ℕ × ℕ → Type 0
 Shows (s, l, n, c, k) = (panelStep s l .number ≡ n) × (panelStep s l .complete ≡ c) × (panelStep s l .length ≡ k)
@@ -87,6 +89,13 @@ pieces =
     ∷ (8, bring-in right (f 10) 3 ∷ take-out left (f 10) 4 ∷ take-out left (f 10) 3 ∷ take-out left (f 10) 3 ∷ bring-in right (f 10) 3 ∷ take-out left (f 10) 3 ∷ [], (0, 0) ∷ (7, 0) ∷ (0, 1) ∷ (7, 1) ∷ (0, 0) ∷ (0, 1) ∷ [])
     -- at limit 1 a second loop is refused with 11, and the machine is as it was
     ∷ (1, bring-in right (f 10) 3 ∷ tuck right (f 10) 3 ∷ tuck left (f 10) 3 ∷ take-out left (f 11) 3 ∷ [], (0, 0) ∷ (0, 0) ∷ (11, 0) ∷ (0, 0) ∷ [])
+    -- 02, W5: a rack is refused with 17 and one that does not go so far is done; with the carrier out the first is done too
+    ∷ (
+      8,
+      rack 8 ∷ bring-in right (b 10) 3 ∷ tuck right (b 10) 3 ∷ miss right (f 19) 3 ∷ miss right (f 20) 3 ∷ miss right (f 21) 3 ∷ miss right (f 22) 3 ∷ miss right (f 23) 3
+          ∷ rack 248 ∷ rack 249 ∷ rack 8 ∷ take-out right (f 23) 3 ∷ rack 248 ∷ drop (b 10) ∷ rack 0 ∷ [],
+      (0, 0) ∷ (0, 0) ∷ (0, 0) ∷ (0, 0) ∷ (0, 0) ∷ (0, 0) ∷ (0, 0) ∷ (0, 0) ∷ (17, 0) ∷ (0, 0) ∷ (0, 0) ∷ (0, 0) ∷ (0, 0) ∷ (0, 0) ∷ (0, 1) ∷ [],
+    )
     -- a limit out of range: 15 every time, and not complete
     ∷ (0, rack 0 ∷ drop (f 10) ∷ [], (15, 0) ∷ (15, 0) ∷ []) ∷ (9, rack 0 ∷ [], (15, 0) ∷ []) ∷ []
 

@@ -21,7 +21,7 @@ use Rattle.record.specs.declared.Record.{Record}
 use Rattle.record.specs.Kinds.{IN, OUT, MISS, hooksWorked, carriersNamed, loopsFormed, isPlated, tucks}
 use Rattle.record.specs.Names.{isRack, rackingAfter}
 use Rattle.record.proofs.Ranges.{InRange}
-use Rattle.run.specs.Step.{lookOf, Seen, seeOf, orNumber, twiceNo, carrierNo, oppositeNo, firstAfter, secondAfter, firstAsked, roomNo, decidedNo, edit, stored, Act, actOf, acted, moveAttachments, numberAt, applyOf}
+use Rattle.run.specs.Step.{lookOf, Seen, seeOf, orNumber, twiceNo, stretchNo, carrierNo, oppositeNo, firstAfter, secondAfter, firstAsked, roomNo, decidedNo, edit, stored, Act, actOf, acted, moveAttachments, numberAt, applyOf}
 use Rattle.record.proofs.Shapes.{is, uncarried, formed-works, tuck-works}
 use Rattle.trace.specs.Machine.{andThen}
 use Rattle.rewrite.specs.Extents.{extentOf, meets, shareCarrier}
@@ -37,6 +37,7 @@ record Agree (x : Record) (a b : Seen) : Type 0 where
   there : hooksWorked (x .kind) ≡ 2 → a .there ≡ b .there
   look : 1 ≤ carriersNamed (x .kind) → a .look ≡ b .look
   other : carriersNamed (x .kind) ≡ 2 → a .other ≡ b .other
+  stretched : isRack x ≡ true → a .stretched ≡ b .stretched
 
 -- a record that names no carrier asks nothing of one
 unasked : (x : Record) (v : Seen) → carriersNamed (x .kind) ≡ 0 → carrierNo x (v .racking) (v .look) (v .other) ≡ 0
@@ -54,6 +55,10 @@ module _ (x : Record) (a b : Seen) (g : Agree x a b) where
       cases (isPlated (x .kind))
       (λ t. let o = g .other (eqb-true (carriersNamed (x .kind)) 2 t) in rw (t, l, o, g .racking))
       (λ t. rw (t, l, g .racking)))
+
+  same-stretch : stretchNo x (a .stretched) ≡ stretchNo x (b .stretched)
+  unfolding stretchNo
+  same-stretch = cases (isRack x) (λ t. let h = g .stretched t in rw (t, h)) (λ t. rw t)
 
   same-first : firstAfter (x .kind) (a .here) ≡ firstAfter (x .kind) (b .here)
   unfolding firstAfter
@@ -73,7 +78,7 @@ module _ (x : Record) (a b : Seen) (g : Agree x a b) where
 
   same-number : decidedNo x a ≡ decidedNo x b
   unfolding decidedNo roomNo
-  same-number = cc (same-carrier, same-asked, same-second, g .racking, g .limit)
+  same-number = cc (same-stretch, same-carrier, same-asked, same-second, g .racking, g .limit)
 
 -- the state after a record, by what it saw
 abbrev after : State → Record → Seen → State
@@ -143,6 +148,7 @@ inactive-moved a b = refl
 
 -- ---- records apart at a racking
 record Clear (r : Racking) (x y : Record) : Type 0 where
+  no-rack : isRack x ≡ false
   racking : rackingAfter r y ≡ r
   opposite : hooksWorked (y .kind) ≡ 2 → columnOf (y .at) r ≡ columnOf (y .to) r
   hooks : Apart (hooksOf x) (hooksOf y)
@@ -179,6 +185,8 @@ module _ (s : State) (x y : Record) (C : Clear (s .racking) x y) where
         there = λ t. edit-other stored 0 (hooksOf y) _ (s .loops) (hookOf (x .to)) (second-away t);
         look = λ t. seen-again (x .carrier - 1) (first-place (λ (i : ℕ). Away i (placesOf y)) x (C .carriers) t);
         other = λ t. seen-again (x .second - 1) (second-place (λ (i : ℕ). Away i (placesOf y)) x (C .carriers) t);
+        -- a rack looks at all carriers, but none is apart from another record
+        stretched = λ t. absurd (true≢false (sym t ∙ C .no-rack));
       }
     where
       seen-again : (i : ℕ) → Away i (placesOf y)
@@ -285,7 +293,7 @@ or-right a b e = cases (eqb a 0) (λ h. sym (simp h) ∙ e) (λ h. absurd (eqb-f
 number-opposite : (s : State) (x : Record) → numberAt s x ≡ 0 → oppositeNo x (s .racking) ≡ 0
 unfolding numberAt decidedNo seeOf
 number-opposite s x e =
-    or-left (oppositeNo x (s .racking)) _ (or-right (carrierNo x (s .racking) (seeOf s x .look) (seeOf s x .other)) _ (or-right (twiceNo x) _ e))
+    or-left (oppositeNo x (s .racking)) _ (or-right (carrierNo x (s .racking) (seeOf s x .look) (seeOf s x .other)) _ (or-right (stretchNo x (seeOf s x .stretched)) _ (or-right (twiceNo x) _ e)))
 
 opposite-columns : (x : Record) (r : Racking) → oppositeNo x r ≡ 0 → hooksWorked (x .kind) ≡ 2 → columnOf (x .at) r ≡ columnOf (x .to) r
 unfolding oppositeNo sameColumn
@@ -329,7 +337,7 @@ untied-commute s x y g h a b c d =
     (λ p. is (oppositeNo y r) 0
     (λ q. let S = settled r x g p in let T = settled r y h q in
     let hooks = hooks-apart r x y S T d in let carriers = carriers-apart x y g h c in
-    both-stepped s x y (record { racking = keep-y; opposite = T .opposite; hooks = hooks; carriers = carriers })
-    (record { racking = keep-x; opposite = S .opposite; hooks = apart-sym (hooksOf x) (hooksOf y) hooks; carriers = apart-sym (placesOf x) (placesOf y) carriers }))
+    both-stepped s x y (record { no-rack = a; racking = keep-y; opposite = T .opposite; hooks = hooks; carriers = carriers })
+    (record { no-rack = b; racking = keep-x; opposite = S .opposite; hooks = apart-sym (hooksOf x) (hooksOf y) hooks; carriers = apart-sym (placesOf x) (placesOf y) carriers }))
     (λ q. sym (refused-both s y x keep-x q)))
     (λ p. refused-both s x y keep-y p)

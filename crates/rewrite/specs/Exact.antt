@@ -111,13 +111,13 @@ module _ (limit : ℕ) (program log output work : List ℕ) where
     pub log-is : log ≡ front ++ rest
     pub swaps : Swapped front records m
 
-  -- a call, by the ways in which it ends; 'Order: 15, 1, 2; then each record 3 to 11 by number; then each log record 14, 12, 13', and 16 behind 5
+  -- a call, by the ways in which it ends; 'Order: 15, 1, 2; then each record 3 to 11 by number; then each log record 14, 12, 13', and 16 and 17 behind 5
   pub data Rewrites : Rewritten → Type 0 where
     -- 02, W2: 'a run or rewrite started with a bad limit gets 15 too, before everything else, with the empty state of limit 8, complete'
     bad-limit : (LimitInRange limit → ⊥) → Rewrites (unlooked program log output work limitMost 15)
     too-long : LimitInRange limit → Long program log output work → Rewrites (unlooked program log output work limit 1)
     no-bench : LimitInRange limit → (Long program log output work → ⊥) → Short program log output work → Rewrites (unlooked program log output work limit 2)
-    -- 3 to 11 and 16, as the run answers; nothing is written
+    -- 3 to 11, 16 and 17, as the run answers; nothing is written
     not-valid : {a : Answer} → LimitInRange limit → Lent program log output work → FirstRefusal limit program a → Complete (a .complete) (a .state) → Rewrites (refused a output work)
     gone-through : {t : State} {c : Bool} {front : List ℕ} {m : List (List ℕ)} → Followed t c front [] m → Rewrites (leaving program log output work 0 0 t c m)
     torn : {t : State} {c : Bool} {front rest : List ℕ} {m : List (List ℕ)} → Followed t c front rest m → Torn rest → Rewrites (leaving program log output work 14 (length front) t c m)

@@ -74,7 +74,7 @@ pub record Rewritten : Type 0 where
   pub output : List ℕ
   pub work : List ℕ
 
--- the numbers that write (01: 'Numbers 1 to 11 and 15 write nothing', 02: nor does 16): done, no pair, tied, torn log
+-- the numbers that write (01: 'Numbers 1 to 11 and 15 write nothing', 02: nor do 16 and 17): done, no pair, tied, torn log
 unfoldable pub writes : ℕ → Bool
 writes n = eqb n 0 || (eqb n 12 || (eqb n 13 || eqb n 14))
 

@@ -458,7 +458,7 @@ pub fn writes(number: u8) -> bool
 }
 
 // Runs the program, copies it to the front of the output, writes its records' starts into the front of the work area
-// and makes the log's swaps there. Numbers 1 to 11, 15 and 16 write nothing; 12 to 14 leave what the swaps before made.
+// and makes the log's swaps there. Numbers 1 to 11 and 15 to 17 write nothing; 12 to 14 leave what the swaps before made.
 pub fn rewrite(limit: u8, program: &[u8], log: &[u8], output: &mut [u8], work: &mut [u16]) -> Answer
     ensures answer { λ a. ⌜ a ≡ rewriteOf limit (now (program .entry)) (now (log .entry)) (now (output .entry)) (now (work .entry)) .answer ⌝ }
     ensures bytes { λ _. ⌜ now (output .exit) ≡ rewriteOf limit (now (program .entry)) (now (log .entry)) (now (output .entry)) (now (work .entry)) .output ⌝ }

@@ -1,7 +1,7 @@
 -- The arms of the run's loop: from what the small functions promise, the number of a record and the state after it. Assumes nothing.
 use Prim.Native.Nat.{ℕ, _+_, _-_, _≤_}
 use mathlib.Core.Path.{_≡_, refl, sym, ap, _∙_}
-use mathlib.Core.Bool.{false, cond}
+use mathlib.Core.Bool.{Bool, true, false, cond}
 use mathlib.Core.List.{List, map}
 use lib.ListN.{getD, set}
 use lib.Dec.{eqb}
@@ -12,6 +12,7 @@ use Rattle.machine.specs.declared.Carrier.{Carrier}
 use Rattle.machine.specs.declared.State.{State}
 use Rattle.machine.specs.Machine.{inactive, changed, hookOf, loopsOn, carrierOf, movedTo}
 use Rattle.machine.specs.Looks.{anyBeside}
+use Rattle.machine.specs.Stretch.{anyStretched}
 use Rattle.machine.proofs.Laws.{none-moved}
 use Rattle.record.specs.declared.Record.{Record}
 use Rattle.record.specs.Kinds.{RACK, DROP, XFER, IN, OUT, MISS, TUCK, KNIT, SPLIT, PLATED-TUCK, PLATED-KNIT, byKind}
@@ -52,8 +53,15 @@ module _ (s : State) (x : Record) where
   abbrev pub parts : List ℕ → List Carrier → State
   parts l cs = changed s (s .racking) l cs
 
-  pub rack-made : x .kind ≡ RACK → Made (racked s (x .racking))
-  rack-made e = (rack-number s x e, rack-state s x e)
+  -- a rack: whether it stretches a yarn was looked at
+  abbrev stretched : Bool
+  stretched = anyStretched (s .racking) (x .racking) (s .carriers)
+
+  pub rack-stopped : x .kind ≡ RACK → stretched ≡ true → 17 ≡ numberAt s x
+  rack-stopped e t = sym (rack-number s x e ∙ simp t)
+
+  pub rack-made : x .kind ≡ RACK → stretched ≡ false → Made (racked s (x .racking))
+  rack-made e t = (rack-number s x e ∙ simp t, rack-state s x e)
 
   pub drop-made : x .kind ≡ DROP → (l : List ℕ) → l ≡ set (s .loops) (hookOf (x .at)) 0 → Made (parts l (s .carriers))
   drop-made e l p = (drop-number s x e, drop-state s x e ∙ simp p)

@@ -13,11 +13,12 @@ use Rattle.machine.specs.declared.Slot.{Slot}
 use Rattle.machine.specs.declared.State.{State}
 use Rattle.machine.specs.Machine.{inactive, changed, hookOf, loopsOn, carrierOf, movedTo}
 use Rattle.machine.specs.Geometry.{columnOf, sameColumn}
+use Rattle.machine.specs.Stretch.{anyStretched}
 use Rattle.record.specs.declared.Record.{Record}
 use Rattle.record.specs.Kinds.{RACK, DROP, XFER, IN, OUT, MISS, TUCK, KNIT, SPLIT, PLATED-TUCK, PLATED-KNIT, byKind}
 use Rattle.record.specs.Names.{needlesOf, carriersOf}
 use Rattle.run.specs.Relation.{racked, withLoops, withCarrier, transferred, entrySlot, exitSlot, unattached, reparked, attached, bothAttached}
-use Rattle.run.specs.Step.{Look, lookOf, seeOf, orNumber, twiceNo, parkedNo, floatNo, bothNo, carrierNo, oppositeNo, firstAfter, secondAfter, firstAsked, roomNo, decidedNo, edit, actOf, acted, moveAttachments, numberAt, applyOf}
+use Rattle.run.specs.Step.{Look, lookOf, seeOf, orNumber, twiceNo, stretchNo, parkedNo, floatNo, bothNo, carrierNo, oppositeNo, firstAfter, secondAfter, firstAsked, roomNo, decidedNo, edit, actOf, acted, moveAttachments, numberAt, applyOf}
 use Rattle.run.specs.Loops.{tuckNo, transferNo}
 
 -- a number and nothing after it
@@ -53,16 +54,20 @@ module _ (s : State) (x : Record) where
   abbrev pub pairNo : ℕ
   pairNo = bothNo (entrySlot s x) (columnOf (x .at) (s .racking)) (seen (x .carrier)) (seen (x .second))
 
-  pub rack-number : x .kind ≡ RACK → numberAt s x ≡ 0
-  unfolding numberAt decidedNo twiceNo carrierNo oppositeNo byKind roomNo firstAsked firstAfter secondAfter seeOf
-  rack-number e = simp (e, none-fits (s .limit))
+  -- 17, for rack
+  abbrev pub rackNo : ℕ
+  rackNo = cond (anyStretched (s .racking) (x .racking) (s .carriers)) 17 0
+
+  pub rack-number : x .kind ≡ RACK → numberAt s x ≡ rackNo
+  unfolding numberAt decidedNo twiceNo stretchNo carrierNo oppositeNo byKind roomNo firstAsked firstAfter secondAfter seeOf
+  rack-number e = simp (e, none-fits (s .limit)) (or-zero rackNo)
 
   pub rack-state : x .kind ≡ RACK → applyOf s x ≡ racked s (x .racking)
   unfolding applyOf edit needlesOf carriersOf byKind moveAttachments
   rack-state e = simp e
 
   pub drop-number : x .kind ≡ DROP → numberAt s x ≡ 0
-  unfolding numberAt decidedNo twiceNo carrierNo oppositeNo byKind roomNo firstAsked firstAfter secondAfter seeOf
+  unfolding numberAt decidedNo twiceNo stretchNo carrierNo oppositeNo byKind roomNo firstAsked firstAfter secondAfter seeOf
   drop-number e = simp (e, none-fits (s .limit))
 
   pub drop-state : x .kind ≡ DROP → applyOf s x ≡ withLoops s (x .at) 0
@@ -70,7 +75,7 @@ module _ (s : State) (x : Record) where
   drop-state e = simp e
 
   pub xfer-number : x .kind ≡ XFER → numberAt s x ≡ transferNo (s .limit) (s .loops) (x .at) (x .to) (s .racking)
-  unfolding numberAt decidedNo twiceNo carrierNo oppositeNo byKind roomNo firstAsked firstAfter secondAfter seeOf transferNo
+  unfolding numberAt decidedNo twiceNo stretchNo carrierNo oppositeNo byKind roomNo firstAsked firstAfter secondAfter seeOf transferNo
   xfer-number e = simp (e, none-fits (s .limit)) (apart-first (sameColumn (columnOf (x .at) (s .racking)) (columnOf (x .to) (s .racking))) _)
 
   pub xfer-state : x .kind ≡ XFER → applyOf s x ≡ transferred s (x .at) (x .to)
@@ -78,7 +83,7 @@ module _ (s : State) (x : Record) where
   xfer-state e = simp e
 
   pub in-number : x .kind ≡ IN → numberAt s x ≡ cond (seen (x .carrier) .active) 6 0
-  unfolding numberAt decidedNo twiceNo carrierNo oppositeNo byKind roomNo firstAsked firstAfter secondAfter seeOf
+  unfolding numberAt decidedNo twiceNo stretchNo carrierNo oppositeNo byKind roomNo firstAsked firstAfter secondAfter seeOf
   in-number e = simp (e, none-fits (s .limit)) (or-zero (cond (seen (x .carrier) .active) 6 0))
 
   pub in-state : x .kind ≡ IN → applyOf s x ≡ withCarrier s (x .carrier) (unattached (entrySlot s x))
@@ -86,7 +91,7 @@ module _ (s : State) (x : Record) where
   in-state e = simp e
 
   pub out-number : x .kind ≡ OUT → numberAt s x ≡ slotNo (x .carrier) (exitSlot s x)
-  unfolding numberAt decidedNo twiceNo carrierNo oppositeNo byKind roomNo firstAsked firstAfter secondAfter seeOf
+  unfolding numberAt decidedNo twiceNo stretchNo carrierNo oppositeNo byKind roomNo firstAsked firstAfter secondAfter seeOf
   out-number e = simp (e, none-fits (s .limit)) (or-zero (slotNo (x .carrier) (exitSlot s x)))
 
   pub out-state : x .kind ≡ OUT → applyOf s x ≡ withCarrier s (x .carrier) inactive
@@ -94,7 +99,7 @@ module _ (s : State) (x : Record) where
   out-state e = simp e
 
   pub miss-number : x .kind ≡ MISS → numberAt s x ≡ slotNo (x .carrier) (entrySlot s x)
-  unfolding numberAt decidedNo twiceNo carrierNo oppositeNo byKind roomNo firstAsked firstAfter secondAfter seeOf
+  unfolding numberAt decidedNo twiceNo stretchNo carrierNo oppositeNo byKind roomNo firstAsked firstAfter secondAfter seeOf
   miss-number e = simp (e, none-fits (s .limit)) (or-zero (slotNo (x .carrier) (entrySlot s x)))
 
   pub miss-state : x .kind ≡ MISS → applyOf s x ≡ withCarrier s (x .carrier) (reparked (carrierOf s (x .carrier)) (exitSlot s x))
@@ -102,7 +107,7 @@ module _ (s : State) (x : Record) where
   miss-state e = simp e
 
   pub tuck-number : x .kind ≡ TUCK → numberAt s x ≡ orNumber readyNo (tuckNo (s .limit) (loopsOn s (x .at)) 1)
-  unfolding numberAt decidedNo twiceNo carrierNo oppositeNo byKind roomNo firstAsked firstAfter secondAfter seeOf tuckNo
+  unfolding numberAt decidedNo twiceNo stretchNo carrierNo oppositeNo byKind roomNo firstAsked firstAfter secondAfter seeOf tuckNo
   tuck-number e = simp (e, none-fits (s .limit))
 
   pub tuck-state : x .kind ≡ TUCK → applyOf s x ≡ withCarrier (withLoops s (x .at) (loopsOn s (x .at) + 1)) (x .carrier) (attached (exitSlot s x) (x .at) (x .right))
@@ -110,7 +115,7 @@ module _ (s : State) (x : Record) where
   tuck-state e = simp e
 
   pub knit-number : x .kind ≡ KNIT → numberAt s x ≡ readyNo
-  unfolding numberAt decidedNo twiceNo carrierNo oppositeNo byKind roomNo firstAsked firstAfter secondAfter seeOf
+  unfolding numberAt decidedNo twiceNo stretchNo carrierNo oppositeNo byKind roomNo firstAsked firstAfter secondAfter seeOf
   knit-number e = simp (e, none-fits (s .limit)) (or-zero readyNo)
 
   pub knit-state : x .kind ≡ KNIT → applyOf s x ≡ withCarrier (withLoops s (x .at) 1) (x .carrier) (attached (exitSlot s x) (x .at) (x .right))
@@ -118,11 +123,11 @@ module _ (s : State) (x : Record) where
   knit-state e = simp e
 
   pub split-number : x .kind ≡ SPLIT → numberAt s x ≡ orNumber readyNo (transferNo (s .limit) (s .loops) (x .at) (x .to) (s .racking))
-  unfolding numberAt decidedNo twiceNo carrierNo oppositeNo byKind roomNo firstAsked firstAfter secondAfter seeOf transferNo
+  unfolding numberAt decidedNo twiceNo stretchNo carrierNo oppositeNo byKind roomNo firstAsked firstAfter secondAfter seeOf transferNo
   split-number e = simp (e, none-fits (s .limit)) (ap (orNumber readyNo) (apart-first (sameColumn (columnOf (x .at) (s .racking)) (columnOf (x .to) (s .racking))) _))
 
   pub plated-tuck-number : x .kind ≡ PLATED-TUCK → numberAt s x ≡ orNumber (twiceNo x) (orNumber pairNo (tuckNo (s .limit) (loopsOn s (x .at)) 2))
-  unfolding numberAt decidedNo carrierNo oppositeNo byKind roomNo firstAsked firstAfter secondAfter seeOf tuckNo
+  unfolding numberAt decidedNo stretchNo carrierNo oppositeNo byKind roomNo firstAsked firstAfter secondAfter seeOf tuckNo
   plated-tuck-number e = simp (e, none-fits (s .limit))
 
   pub plated-tuck-state : x .kind ≡ PLATED-TUCK → applyOf s x ≡ bothAttached s x (withLoops s (x .at) (loopsOn s (x .at) + 2))
@@ -130,7 +135,7 @@ module _ (s : State) (x : Record) where
   plated-tuck-state e = simp e
 
   pub plated-knit-number : x .kind ≡ PLATED-KNIT → numberAt s x ≡ orNumber (twiceNo x) (orNumber pairNo (tuckNo (s .limit) 0 2))
-  unfolding numberAt decidedNo carrierNo oppositeNo byKind roomNo firstAsked firstAfter secondAfter seeOf tuckNo
+  unfolding numberAt decidedNo stretchNo carrierNo oppositeNo byKind roomNo firstAsked firstAfter secondAfter seeOf tuckNo
   plated-knit-number e = simp (e, none-fits (s .limit))
 
   pub plated-knit-state : x .kind ≡ PLATED-KNIT → applyOf s x ≡ bothAttached s x (withLoops s (x .at) 2)

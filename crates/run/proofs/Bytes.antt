@@ -113,6 +113,10 @@ unfolding stepOf
 step-gives s bytes rest x t form step =
     let (z, u) = step-only s x (form-in form) step in simp (form-decode form rest) (simp (z, u))
 
+pub step-number : (s : State) (bytes rest : List ℕ) (x : Record) → Encodes bytes x → (n : ℕ) → numberAt s x ≡ n → (n ≡ 0 → ⊥) → stepOf s (bytes ++ rest) .number ≡ n
+unfolding stepOf
+step-number s bytes rest x form n e h = simp (form-decode form rest) (simp (e, ne-eqb n 0 h))
+
 pub step-refuses : (s : State) (l : List ℕ) → (stepOf s l .number ≡ 0 → ⊥) → StepRefusal s l (stepOf s l)
 unfolding stepOf
 step-refuses s l h =

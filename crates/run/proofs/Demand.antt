@@ -1,16 +1,32 @@
 -- Demand 2: the run's answer against the validity relation, for every program. Assumes nothing.
 use mathlib.Core.Path.{_≡_, refl, sym, ap, _∙_}
-use mathlib.Core.List.{[], _∷_}
+use borrow.Table.Steps.{cases}
+use borrow.Author.Tests.{leb-true, leb-false}
+use Prim.Native.Nat.{ℕ, _≤_}
+use lib.Dec.{leb}
+use mathlib.Core.Bool.{true, false}
+use mathlib.Core.List.{List, [], _∷_}
+use mathlib.Core.Logic.{_⊎_, inl, inr, ⊎-elim}
 use native.Mathlib.Omega.{arith}
+use Rattle.machine.specs.declared.State.{State}
+use Rattle.machine.specs.Machine.{emptyState, carrierOf}
+use Rattle.machine.specs.Geometry.{exitOf}
+use Rattle.machine.specs.Stretch.{slotBeside, distanceOf}
+use Rattle.record.specs.Kinds.{RACK}
 use Rattle.machine.specs.Range.{LimitInRange}
+use Rattle.machine.proofs.Stretches.{front-stays as front-as-far}
+use Rattle.record.specs.declared.Record.{Record}
 use Rattle.record.specs.Format.{Encodes, signedOf}
 use Rattle.run.specs.declared.Answer.{Answer}
 use Rattle.run.specs.declared.Reached.{Reached}
-use Rattle.run.specs.Relation.{Step, Steps}
+use Rattle.run.specs.Relation.{Active, Attached, Unstretched, Step, Steps}
+use Rattle.run.specs.Reason.{Stretched, RecordReason, Reason}
 use Rattle.run.specs.Run.{answerOf, runOf, stepOf}
 use Rattle.run.specs.Claims.{AcceptsExactlyValid, GivesFinalState, BadLimitExactly, TooLongExactly, TooLongAnswer, RefusesFirst, RefusalIsOne, PlaceIsSmall, CompleteIsEmpty, StepKeepsLimit, RunKeepsLimit, ReasonExactlyNoStep, StepAcceptsExactly, StepGives, StepRefuses}
-use Rattle.run.specs.Claims.{RunInRange, StepInRange, StepsAreTheRun, StepsAreOne, RefuserIsNotTheRun}
-use Rattle.run.proofs.Bytes.{reason-no-step, no-step-reason, step-exact, step-gives, step-refuses}
+use Rattle.run.specs.Claims.{CurrentRackSteps, RackExactly, LoopAtItsSlot, FrontStays, BeginsStretching, StretchedExactly, RunInRange, StepInRange, StepsAreTheRun, StepsAreOne, RefuserIsNotTheRun}
+use Rattle.run.proofs.Bytes.{reason-no-step, no-step-reason, step-exact, step-gives, step-number, step-refuses}
+use Rattle.run.proofs.ByKind.{rack-number}
+use Rattle.run.proofs.Racks.{rack-seventeen, current-rack}
 use Rattle.run.proofs.Runs.{step-frame}
 use Rattle.run.proofs.Unique.{one-refusal}
 use Rattle.run.proofs.Answers.{long-run, bad-run, valid-run, answered, accepted, one-long, fifteen-bad, first-refusal, place-small, answer-limit, complete-empty}
@@ -78,15 +94,78 @@ steps-are-the-run = service-is-the-run stepOf (λ s l h. refl)
 pub steps-are-one : StepsAreOne stepOf
 steps-are-one = service-is-one stepOf (λ s l h. refl)
 
+-- ---- racks
+pub current-rack-steps : CurrentRackSteps
+current-rack-steps = current-rack
+
+-- the step of a rack is by its rule
+by-rule : {s t : State} {x : Record} → x .kind ≡ RACK → Step s x t → Unstretched s (x .racking)
+by-rule k (Step.rack e u) = u
+by-rule k (Step.drop e) = absurd (omega arith)
+by-rule k (Step.xfer e o r) = absurd (omega arith)
+by-rule k (Step.carrier-in e c) = absurd (omega arith)
+by-rule k (Step.carrier-out e p) = absurd (omega arith)
+by-rule k (Step.miss e p) = absurd (omega arith)
+by-rule k (Step.tuck e p f r) = absurd (omega arith)
+by-rule k (Step.knit e p f) = absurd (omega arith)
+by-rule k (Step.split e p f o r) = absurd (omega arith)
+by-rule k (Step.plated-tuck e two p q f g r) = absurd (omega arith)
+by-rule k (Step.plated-knit e two p q f g r) = absurd (omega arith)
+
+pub rack-exactly : RackExactly
+rack-exactly s x e = (
+  λ (t, step). kept (by-rule e step),
+  λ h. (_, Step.rack e (λ k u. ⊎-elim (λ near. omega (arith, near, u .over)) (λ less. omega (arith, less, u .greater)) (h k (u .parked) (u .attached)))),
+)
+  where
+    kept : Unstretched s (x .racking) → (k : ℕ) → Active (carrierOf s k) → Attached (carrierOf s k)
+        → (distanceOf (x .racking) (carrierOf s k) ≤ 20) ⊎ (distanceOf (x .racking) (carrierOf s k) ≤ distanceOf (s .racking) (carrierOf s k))
+    kept u k a b =
+        cases (leb (distanceOf (x .racking) (carrierOf s k)) 20) (λ t. inl (leb-true _ 20 t))
+        (λ t. cases (leb (distanceOf (x .racking) (carrierOf s k)) (distanceOf (s .racking) (carrierOf s k))) (λ v. inr (leb-true _ _ v))
+        (λ v. absurd (u k (record { parked = a; attached = b; over = leb-false _ 20 t; greater = leb-false _ _ v }))))
+
+pub loop-at-its-slot : LoopAtItsSlot
+unfolding slotBeside exitOf
+loop-at-its-slot r n true = refl
+loop-at-its-slot r n false = refl
+
+pub front-stays : FrontStays
+front-stays r z c e = let d = front-as-far r z c e in (d, λ u. omega (arith, d, u .greater))
+
+-- of the reasons only a stretched yarn has the number 17
+record-seventeen : {n : ℕ} {s : State} {x : Record} → RecordReason n s x → n ≡ 17 → Stretched s x
+record-seventeen (RecordReason.yarn-twice e a) q = absurd (omega arith)
+record-seventeen (RecordReason.stretched e a) q = a
+record-seventeen (RecordReason.already-in e a) q = absurd (omega arith)
+record-seventeen (RecordReason.not-in e a) q = absurd (omega arith)
+record-seventeen (RecordReason.wrong-slot e a) q = absurd (omega arith)
+record-seventeen (RecordReason.float-too-long e a) q = absurd (omega arith)
+record-seventeen (RecordReason.not-opposite e a) q = absurd (omega arith)
+record-seventeen (RecordReason.hook-full e a) q = absurd (omega arith)
+
+seventeen : {n : ℕ} {s : State} {l : List ℕ} → Reason n s l → n ≡ 17 → BeginsStretching s l
+seventeen (Reason.unknown-kind e a) q = absurd (omega arith)
+seventeen (Reason.cut-short e a) q = absurd (omega arith)
+seventeen (Reason.field-range e a) q = absurd (omega arith)
+seventeen (Reason.of-record bytes rest x e form r) q = (bytes, rest, x, e, form, record-seventeen r q)
+
+pub stretched-exactly : StretchedExactly
+stretched-exactly s l = (
+  λ q. seventeen (step-refuses s l (λ z. omega (arith, q, z)) .first .reason) q,
+  λ (bytes, rest, x, e, form, a). ap (λ (p : List ℕ). stepOf s p .number) e
+      ∙ step-number s bytes rest x form 17 (rack-number s x (a .kind) ∙ rack-seventeen s x (a .carrier) (a .stretches)) (λ z. omega arith),
+)
+
 -- a rack of racking 0 is done at limit 1, whatever a service says
 one : LimitInRange 1
 one = record { least = omega arith; most = omega arith }
 
-rack-number : (r : Reached) → runOf 1 (1 ∷ 0 ∷ []) ≡ answerOf r → r .number ≡ 0
-unfolding answerOf signedOf
-rack-number r e =
+zero-rack : (r : Reached) → runOf 1 (1 ∷ 0 ∷ []) ≡ answerOf r → r .number ≡ 0
+unfolding answerOf signedOf emptyState
+zero-rack r e =
     sym (ap (λ (a : Answer). a .number) e)
-    ∙ accepts 1 (1 ∷ 0 ∷ []) .1 (_, record { limit-in = one; short = omega arith; steps = Steps.next {rest = []} (Encodes.rack {b = 0} (omega arith)) (Step.rack refl) Steps.none })
+    ∙ accepts 1 (1 ∷ 0 ∷ []) .1 (_, record { limit-in = one; short = omega arith; steps = Steps.next {rest = []} (Encodes.rack {b = 0} (omega arith)) (current-rack (emptyState 1) _ refl refl) Steps.none })
 
 pub refuser-is-not-the-run : RefuserIsNotTheRun
-refuser-is-not-the-run h = let (r, w, e) = h 1 (1 ∷ 0 ∷ []) one (omega arith) in omega (arith, refuser-stops (omega arith) w, rack-number r e)
+refuser-is-not-the-run h = let (r, w, e) = h 1 (1 ∷ 0 ∷ []) one (omega arith) in omega (arith, refuser-stops (omega arith) w, zero-rack r e)

@@ -17,9 +17,10 @@ use Rattle.record.proofs.Ranges.{InRange}
 use Rattle.run.specs.Relation.{Inactive, entrySlot, exitSlot}
 use Rattle.run.specs.Reason.{NamesCarrier, HookFull, RecordReason}
 use Rattle.run.specs.Step.{orNumber, twiceNo, notInNo, numberAt}
-use Rattle.run.proofs.ByKind.{or-zero, seen, slotNo, reachNo, readyNo, pairNo, xfer-number, in-number, out-number, miss-number, tuck-number, knit-number, split-number, plated-tuck-number, plated-knit-number}
+use Rattle.run.proofs.ByKind.{or-zero, seen, slotNo, reachNo, readyNo, pairNo, rack-number, xfer-number, in-number, out-number, miss-number, tuck-number, knit-number, split-number, plated-tuck-number, plated-knit-number}
 use Rattle.run.proofs.Premises.{or-next, or-first, parked-zero, parked-off, parked-elsewhere, parked-cases, in-six, not-in-zero, not-in-seven, twice-zero, twice-sixteen}
 use Rattle.run.proofs.Premises.{float-zero, float-over, float-cases, tuck-full, carrier, sum, moveNo, opposite-cases, move-full, move-apart}
+use Rattle.run.proofs.Racks.{rack-seventeen}
 use Rattle.run.proofs.Refusals.{rank}
 
 -- ---- the tests go by the order of the list: two yarns before all carriers, in before parking, parking before the float, the float before the
@@ -241,6 +242,7 @@ module _ (s : State) (x : Record) (f : InRange x) where
     where
       twice : Plated (x .kind) → NoLater 16 (numberAt s x)
       twice p = let (rest, q) = plated-first p p in rw q (at-first 16 (twiceNo x) _ (itself 16 _ (λ z. omega arith) (twice-sixteen x (a .two) (a .equal))))
+  number-earliest (RecordReason.stretched e a) = rw e (itself 17 _ (λ z. omega arith) (rack-number s x (a .kind) ∙ rack-seventeen s x (a .carrier) (a .stretches)))
   number-earliest (RecordReason.already-in e a) =
       rw e (itself 6 _ (λ z. omega arith) (in-number s x (a .kind) ∙ in-six (s .racking) (carrier s x) (a .active)))
   number-earliest (RecordReason.not-in e a) = rw e (not-in-first (a .named) (uses (f .known) (carried (a .named)) (a .other)) (a .carrier-off))

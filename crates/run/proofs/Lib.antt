@@ -5,6 +5,7 @@ pub mod Arms
 pub mod Turns
 pub mod Alone
 pub mod Premises
+pub mod Racks
 pub mod Refusals
 pub mod Sound
 pub mod Earliest

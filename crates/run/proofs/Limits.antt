@@ -27,7 +27,7 @@ use Rattle.run.proofs.Demand.{final}
 -- ---- greater
 -- only the room asked for looks at the limit, and a greater one has it
 raised : {s t : State} {x : Record} (n : ℕ) → s .limit ≤ n → Step s x t → Step (atLimit n s) x (atLimit n t)
-raised n h (Step.rack e) = Step.rack e
+raised n h (Step.rack e u) = Step.rack e u
 raised n h (Step.drop e) = Step.drop e
 raised n h (Step.xfer e o r) = Step.xfer e o (omega arith)
 raised n h (Step.carrier-in e c) = Step.carrier-in e c
@@ -55,6 +55,7 @@ valid-at-greater m n p t v h k =
 -- every reason but a full hook holds at another limit too
 same-reason : {n : ℕ} {s : State} {x : Record} (m : ℕ) → RecordReason n s x → (n ≡ 11) ⊎ RecordReason n (atLimit m s) x
 same-reason m (RecordReason.yarn-twice e a) = inr (RecordReason.yarn-twice e a)
+same-reason m (RecordReason.stretched e a) = inr (RecordReason.stretched e (record { kind = a .kind; carrier = a .carrier; stretches = a .stretches }))
 same-reason m (RecordReason.already-in e a) = inr (RecordReason.already-in e (record { kind = a .kind; active = a .active }))
 same-reason m (RecordReason.not-in e a) = inr (RecordReason.not-in e (record { carrier = a .carrier; named = a .named; other = a .other; carrier-off = a .carrier-off }))
 same-reason m (RecordReason.wrong-slot e a) =

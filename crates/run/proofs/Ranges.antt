@@ -65,7 +65,7 @@ module _ {s : State} {x : Record} (h : StateInRange s) (f : InRange x) where
   worked = attached-in (exitSlot s x) (x .at) (x .right) exit (f .at-bed)
 
   step-keeps : natAbs (x .racking .0) ≤ rackingMost → {t : State} → Step s x t → StateInRange t
-  step-keeps r (Step.rack e) = record { racking = r; limit = h .limit; loops = h .loops; carriers = h .carriers }
+  step-keeps r (Step.rack e u) = record { racking = r; limit = h .limit; loops = h .loops; carriers = h .carriers }
   step-keeps r (Step.drop e) = loops-in h (x .at) 0 (omega arith)
   step-keeps r (Step.xfer e o k) = transferred-in h x (f .to-bed) k
   step-keeps r (Step.carrier-in e c) = carrier-in h (x .carrier) _ (CarrierInRange.unattached refl entry refl refl)

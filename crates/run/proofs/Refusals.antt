@@ -33,6 +33,7 @@ Stands n = rank n < length refusals
 
 record-stands : {n : ℕ} {s : State} {x : Record} → RecordReason n s x → Stands n
 record-stands (RecordReason.yarn-twice e a) = rw e (omega arith)
+record-stands (RecordReason.stretched e a) = rw e (omega arith)
 record-stands (RecordReason.already-in e a) = rw e (omega arith)
 record-stands (RecordReason.not-in e a) = rw e (omega arith)
 record-stands (RecordReason.wrong-slot e a) = rw e (omega arith)

@@ -90,7 +90,7 @@ pub record SameFrame (s t : State) : Type 0 where
   pub carriers : length (t .carriers) ≡ length (s .carriers)
 
 pub step-frame : {s t : State} {x : Record} → Step s x t → SameFrame s t
-step-frame (Step.rack e) = record { loops = refl; limit = refl; carriers = refl }
+step-frame (Step.rack e u) = record { loops = refl; limit = refl; carriers = refl }
 step-frame (Step.drop e) = record { loops = simp length-set; limit = refl; carriers = refl }
 step-frame (Step.xfer e o r) = record { loops = simp length-set; limit = refl; carriers = simp length-map }
 step-frame (Step.carrier-in e c) = record { loops = refl; limit = refl; carriers = simp length-set }

@@ -12,18 +12,19 @@ use Rattle.machine.specs.declared.State.{State}
 use Rattle.machine.specs.Machine.{hookOf, loopsOn, carrierOf}
 use Rattle.machine.specs.Geometry.{columnOf}
 use Rattle.record.specs.declared.Record.{Record}
-use Rattle.record.specs.Kinds.{IN, OUT, SPLIT}
+use Rattle.record.specs.Kinds.{RACK, IN, OUT, SPLIT}
 use Rattle.record.specs.Kinds.{byKind, hooksWorked, carriersNamed}
 use Rattle.record.proofs.Shapes.{Known, Forms, Plated, Loop, is, loop, plated-two}
 use Rattle.record.proofs.Ranges.{InRange}
-use Rattle.run.specs.Relation.{Active, Inactive, ParkedAt, FloatInReach, Opposite, Room, TwoYarns, Step, entrySlot, exitSlot}
+use Rattle.run.specs.Relation.{Active, Inactive, ParkedAt, FloatInReach, Opposite, Room, TwoYarns, Unstretched, Step, entrySlot, exitSlot}
 use Rattle.run.specs.Reason.{NamesCarrier, HookFull, RecordReason}
 use Rattle.run.specs.Step.{orNumber, twiceNo, notInNo, numberAt, applyOf}
 use Rattle.run.specs.Loops.{tuckNo}
-use Rattle.run.proofs.ByKind.{seen, slotNo, reachNo, readyNo, pairNo, rack-number, rack-state, drop-number, drop-state, xfer-number, xfer-state, in-number, in-state, out-number, out-state}
+use Rattle.run.proofs.ByKind.{seen, slotNo, reachNo, readyNo, pairNo, rackNo, rack-number, rack-state, drop-number, drop-state, xfer-number, xfer-state, in-number, in-state, out-number, out-state}
 use Rattle.run.proofs.ByKind.{miss-number, miss-state, tuck-number, tuck-state, knit-number, knit-state, split-number, split-state, split-said, plated-tuck-number, plated-tuck-state, plated-knit-number, plated-knit-state}
 use Rattle.run.proofs.Premises.{or-next, or-first, parked-zero, parked-off, parked-elsewhere, parked-cases, in-zero, in-six, not-in-zero, not-in-seven, twice-zero, twice-sixteen}
 use Rattle.run.proofs.Premises.{float-zero, float-over, float-cases, tuck-zero, tuck-full, carrier, sum, moveNo, opposite-cases, move-zero, move-full, move-apart}
+use Rattle.run.proofs.Racks.{rack-cases, rack-seventeen, rack-zero}
 use Rattle.run.proofs.Refusals.{record-other}
 
 -- ---- a step of the relation is the code's
@@ -48,7 +49,7 @@ module _ (s : State) (x : Record) where
   split-hooks f e = f .beds-differ (simp e)
 
   pub step-only : InRange x → {t : State} → Step s x t → (numberAt s x ≡ 0) × (applyOf s x ≡ t)
-  step-only f (Step.rack e) = (rack-number s x e, rack-state s x e)
+  step-only f (Step.rack e u) = (rack-number s x e ∙ rack-zero s x u, rack-state s x e)
   step-only f (Step.drop e) = (drop-number s x e, drop-state s x e)
   step-only f (Step.xfer e o h) = (xfer-number s x e ∙ move-zero s x o h, xfer-state s x e)
   step-only f (Step.carrier-in e c) = (in-number s x e ∙ in-zero (s .racking) (carrier s x) c, in-state s x e)
@@ -151,6 +152,11 @@ module _ (s : State) (x : Record) where
       cases (leb (n + v) (s .limit)) (λ t. let h = leb-true (n + v) (s .limit) t in Judged.fine (tuck-zero (s .limit) n v h) h)
       (λ t. let h = leb-false (n + v) (s .limit) t in Judged.refused (RecordReason.hook-full (tuck-full (s .limit) n v h) (full h)))
 
+  rack-judged : x .kind ≡ RACK → Judged s x (Unstretched s (x .racking)) (rackNo s x)
+  rack-judged e =
+      rack-cases s x (λ k h. Judged.refused (RecordReason.stretched (rack-seventeen s x k h) (record { kind = e; carrier = k; stretches = h })))
+      (λ u. Judged.fine (rack-zero s x u) u)
+
   move-judged : hooksWorked (x .kind) ≡ 2 → Judged s x (Opposite s x × Room s (sum s x)) (moveNo s x)
   move-judged two =
       opposite-cases s x
@@ -163,7 +169,7 @@ module _ (s : State) (x : Record) where
   judged f = go (f .known)
     where
       go : Known (x .kind) → Judged s x (Step s x (applyOf s x)) (numberAt s x)
-      go (Known.rack e) = Judged.fine (rack-number s x e) (rw (rack-state s x e) (Step.rack e))
+      go (Known.rack e) = stepped (rack-number s x e) (rack-state s x e) (Step.rack e) (rack-judged e)
       go (Known.drop e) = Judged.fine (drop-number s x e) (rw (drop-state s x e) (Step.drop e))
       go (Known.xfer e) = stepped (xfer-number s x e) (xfer-state s x e) (λ (o, h). Step.xfer e o h) (move-judged (simp e))
       go (Known.carrier-in e) = stepped (in-number s x e) (in-state s x e) (Step.carrier-in e) (in-judged e)

@@ -6,18 +6,23 @@ use mathlib.Core.Bool.{Bool, true, false}
 use mathlib.Core.List.{List, [], _∷_, _++_}
 use mathlib.Core.Logic.{_↔_, _⊎_}
 use lib.ListN.{length, take, drop}
+use Rattle.machine.specs.declared.Needle.{Needle}
+use Rattle.machine.specs.declared.Racking.{Racking}
+use Rattle.machine.specs.declared.Carrier.{Carrier}
 use Rattle.machine.specs.declared.State.{State}
 use Rattle.machine.specs.Limits.{limitMost, programMost}
-use Rattle.machine.specs.Machine.{emptyState, completeOf}
+use Rattle.machine.specs.Machine.{emptyState, carrierOf, completeOf}
 use Rattle.machine.specs.Range.{LimitInRange, StateInRange}
+use Rattle.machine.specs.Geometry.{columnOf, exitOf}
+use Rattle.machine.specs.Stretch.{attachmentSlot, distanceOf}
 use Rattle.record.specs.declared.Record.{Record}
-use Rattle.record.specs.Kinds.{sizeOf}
+use Rattle.record.specs.Kinds.{RACK, sizeOf}
 use Rattle.record.specs.Format.{Encodes, byte, fieldsOk}
 use Rattle.run.specs.declared.Answer.{Answer}
 use Rattle.run.specs.declared.Reached.{Reached}
 use Rattle.run.specs.declared.Stepped.{Stepped}
-use Rattle.run.specs.Relation.{Step, Steps, Valid}
-use Rattle.run.specs.Reason.{Whole, Reason, First}
+use Rattle.run.specs.Relation.{Active, Attached, Step, Steps, Valid, Stretches, attached}
+use Rattle.run.specs.Reason.{Whole, Stretched, Reason, First}
 use Rattle.run.specs.Run.{reached, oneIf, told, stay, stepOf, runOf, answerOf}
 
 -- ---- the run in one statement
@@ -39,7 +44,7 @@ abbrev pub Complete : Bool → State → Type 0
 Complete c t = (c ≡ true) ↔ (t ≡ emptyState (t .limit))
 
 -- what is an answer to a limit and a program, by the ways in which a run ends: 15, 'before everything else, with the empty state of limit 8, complete';
--- 1 (too long); 0 (done), with the relation's final state; 3 to 11 and 16
+-- 1 (too long); 0 (done), with the relation's final state; 3 to 11, 16 and 17
 pub data Answers (limit : ℕ) (p : List ℕ) : Answer → Type 0 where
   bad-limit : (LimitInRange limit → ⊥) → Answers limit p (record { number = 15; place = 0; complete = true; state = emptyState limitMost })
   too-long : LimitInRange limit → programMost < length p → Answers limit p (record { number = 1; place = 0; complete = true; state = emptyState limit })
@@ -133,6 +138,36 @@ ValidAtGreater = (m n : ℕ) (p : List ℕ) (t : State) → Valid m p t → m �
 -- and at a smaller one it is valid or stops at a full hook: no other number comes of the limit
 abbrev pub AtAnotherLimit : Type 0
 AtAnotherLimit = (m n : ℕ) (p : List ℕ) (t : State) → Valid m p t → LimitInRange n → (runOf n p .number ≡ 0) ⊎ ((runOf n p .number ≡ 11) × (n < m))
+
+-- ---- racks
+-- 02, W5: 'A rack to the current value therefore always passes': from every state it has its step, which changes nothing
+abbrev pub CurrentRackSteps : Type 0
+CurrentRackSteps = (s : State) (x : Record) → x .kind ≡ RACK → x .racking ≡ s .racking → Step s x s
+
+-- the rule said of what passes: from every state a rack has its step exactly if each parked and attached carrier's attachment ends at most 20 slots away, or no
+-- further than it was, also where that is over 20 already
+abbrev pub RackExactly : Type 0
+RackExactly =
+    (s : State) (x : Record) → x .kind ≡ RACK
+    → ((t : State) × Step s x t)
+    ↔ ((k : ℕ) → Active (carrierOf s k) → Attached (carrierOf s k)
+    → (distanceOf (x .racking) (carrierOf s k) ≤ 20) ⊎ (distanceOf (x .racking) (carrierOf s k) ≤ distanceOf (s .racking) (carrierOf s k)))
+
+-- a carrier that has formed a loop is parked at its attachment's slot
+abbrev pub LoopAtItsSlot : Type 0
+LoopAtItsSlot = (r : Racking) (n : Needle) (right : Bool) → attachmentSlot r (attached (exitOf (columnOf n r) right) n right) ≡ exitOf (columnOf n r) right
+
+-- a carrier that is attached in front is as far at every racking, and no rack stretches its yarn
+abbrev pub FrontStays : Type 0
+FrontStays = (r z : Racking) (c : Carrier) → c .needle .0 ≡ 0 → (distanceOf r c ≡ distanceOf z c) × (Stretches r z c → ⊥)
+
+-- the bytes begin with a rack that stretches a yarn
+abbrev pub BeginsStretching : State → List ℕ → Type 0
+BeginsStretching s l = (bytes : List ℕ) × (rest : List ℕ) × (x : Record) × (l ≡ bytes ++ rest) × Encodes bytes x × Stretched s x
+
+-- from every state the step is refused with 17 exactly then
+abbrev pub StretchedExactly : Type 0
+StretchedExactly = (s : State) (l : List ℕ) → (stepOf s l .number ≡ 17) ↔ BeginsStretching s l
 
 -- ---- the step of one record
 -- the bytes begin with a record that has a step

@@ -1,4 +1,4 @@
--- Why a record has no step: the rows 3 to 11 of document 01's table and 16 of 02, W1, each said by itself, and which of them is the first.
+-- Why a record has no step: the rows 3 to 11 of document 01's table, 16 of 02, W1, and 17 of W5, each said by itself, and which of them is the first.
 use Prim.Native.Nat.{ℕ, _+_, _≤_, _<_}
 use mathlib.Core.Path.{_≡_}
 use mathlib.Core.Bool.{false, cond}
@@ -9,9 +9,9 @@ use Rattle.machine.specs.declared.State.{State}
 use Rattle.machine.specs.Limits.{floatMost}
 use Rattle.machine.specs.Machine.{loopsOn, carrierOf, Each}
 use Rattle.record.specs.declared.Record.{Record}
-use Rattle.record.specs.Kinds.{IN, OUT, TUCK, PLATED-TUCK, PLATED-KNIT, sizeOf, hooksWorked, carriersNamed, loopsFormed}
+use Rattle.record.specs.Kinds.{RACK, IN, OUT, TUCK, PLATED-TUCK, PLATED-KNIT, sizeOf, hooksWorked, carriersNamed, loopsFormed}
 use Rattle.record.specs.Format.{Encodes, byte, fieldsOk}
-use Rattle.run.specs.Relation.{Active, Inactive, Attached, Opposite, entrySlot, exitSlot, floatOf}
+use Rattle.run.specs.Relation.{Active, Inactive, Attached, Opposite, Stretches, entrySlot, exitSlot, floatOf}
 
 -- a known kind with all its bytes there
 pub record Whole (l : List ℕ) : Type 0 where
@@ -45,6 +45,12 @@ pub record YarnTwice (x : Record) : Type 0 where
   pub equal : x .carrier ≡ x .second
 
 module _ (s : State) (x : Record) where
+  -- 17, stretched: 'for rack only', 'for some parked and attached carrier'
+  pub record Stretched : Type 0 where
+    pub kind : x .kind ≡ RACK
+    pub carrier : ℕ
+    pub stretches : Stretches (s .racking) (x .racking) (carrierOf s carrier)
+
   -- 6, already in: in for an active carrier
   pub record AlreadyIn : Type 0 where
     pub kind : x .kind ≡ IN
@@ -89,6 +95,7 @@ module _ (s : State) (x : Record) where
 -- a reason by its number: of a record
 pub data RecordReason (n : ℕ) (s : State) (x : Record) : Type 0 where
   yarn-twice : n ≡ 16 → YarnTwice x → RecordReason n s x
+  stretched : n ≡ 17 → Stretched s x → RecordReason n s x
   already-in : n ≡ 6 → AlreadyIn s x → RecordReason n s x
   not-in : n ≡ 7 → NotIn s x → RecordReason n s x
   wrong-slot : n ≡ 8 → WrongSlot s x → RecordReason n s x
@@ -104,9 +111,9 @@ pub data Reason (n : ℕ) (s : State) (l : List ℕ) : Type 0 where
   of-record : (bytes rest : List ℕ) (x : Record) → l ≡ bytes ++ rest → Encodes bytes x → RecordReason n s x → Reason n s l
 
 -- ---- the first reason that holds
--- 'Order: 15, 1, 2; then each record 3 to 11 by number', 16 'after 5': the refusals of a record, in the order in which they are looked at
+-- 'Order: 15, 1, 2; then each record 3 to 11 by number', 16 'after 5', 17 'after 5' and behind 16: the refusals of a record, in the order in which they are looked at
 abbrev pub refusals : List ℕ
-refusals = 3 ∷ 4 ∷ 5 ∷ 16 ∷ 6 ∷ 7 ∷ 8 ∷ 9 ∷ 10 ∷ 11 ∷ []
+refusals = 3 ∷ 4 ∷ 5 ∷ 16 ∷ 17 ∷ 6 ∷ 7 ∷ 8 ∷ 9 ∷ 10 ∷ 11 ∷ []
 
 -- of the list the number n is the first whose reason holds: none that stands earlier does
 pub record First (n : ℕ) (s : State) (l : List ℕ) : Type 0 where

@@ -1,5 +1,5 @@
--- The validity relation, in the shape of 000 (Definition 5.4, Figure 11): one rule for each kind of record, with the premises of document 01, 'Steps', and of 02, W1 and W2.
-use Prim.Native.Nat.{ℕ, _+_, _-_, _≤_}
+-- The validity relation, in the shape of 000 (Definition 5.4, Figure 11): one rule for each kind of record, with the premises of document 01, 'Steps', and of 02, W1, W2 and W5.
+use Prim.Native.Nat.{ℕ, _+_, _-_, _≤_, _<_}
 use mathlib.Core.Path.{_≡_}
 use mathlib.Core.Bool.{Bool, cond}
 use mathlib.Core.List.{List, [], _++_, map}
@@ -10,10 +10,11 @@ use Rattle.machine.specs.declared.Racking.{Racking}
 use Rattle.machine.specs.declared.Slot.{Slot}
 use Rattle.machine.specs.declared.Carrier.{Carrier}
 use Rattle.machine.specs.declared.State.{State}
-use Rattle.machine.specs.Limits.{floatMost, programMost}
+use Rattle.machine.specs.Limits.{floatMost, stretchMost, programMost}
 use Rattle.machine.specs.Machine.{inactive, emptyState, changed, hookOf, loopsOn, carrierOf, movedTo}
 use Rattle.machine.specs.Geometry.{columnOf, entryOf, exitOf}
 use Rattle.machine.specs.Range.{LimitInRange}
+use Rattle.machine.specs.Stretch.{distanceOf}
 use Rattle.record.specs.declared.Record.{Record}
 use Rattle.record.specs.Kinds.{RACK, DROP, XFER, IN, OUT, MISS, TUCK, KNIT, SPLIT, PLATED-TUCK, PLATED-KNIT}
 use Rattle.record.specs.Format.{Encodes}
@@ -88,9 +89,21 @@ TwoYarns x = x .carrier ≡ x .second → ⊥
 abbrev pub bothAttached : State → Record → State → State
 bothAttached s x t = withCarrier (withCarrier t (x .carrier) (attached (exitSlot s x) (x .at) (x .right))) (x .second) (attached (exitSlot s x) (x .at) (x .right))
 
+-- a rack from r to z stretches a carrier's yarn: 'for some parked and attached carrier, the distance from its attachment's slot .. to its parked slot ends
+-- over 20 and is greater than before'
+pub record Stretches (r z : Racking) (c : Carrier) : Type 0 where
+  pub parked : Active c
+  pub attached : Attached c
+  pub over : stretchMost < distanceOf z c
+  pub greater : distanceOf r c < distanceOf z c
+
+-- it stretches none
+abbrev pub Unstretched : State → Racking → Type 0
+Unstretched s z = (k : ℕ) → Stretches (s .racking) z (carrierOf s k) → ⊥
+
 -- executing x on s produces t
 pub data Step (s : State) (x : Record) : State → Type 0 where
-  rack : x .kind ≡ RACK → Step s x (racked s (x .racking))
+  rack : x .kind ≡ RACK → Unstretched s (x .racking) → Step s x (racked s (x .racking))
   drop : x .kind ≡ DROP → Step s x (withLoops s (x .at) 0)
   xfer : x .kind ≡ XFER → Opposite s x → Room s (loopsOn s (x .at) + loopsOn s (x .to))
       → Step s x (transferred s (x .at) (x .to))

@@ -14,10 +14,11 @@ use Rattle.machine.specs.declared.Carrier.{Carrier}
 use Rattle.machine.specs.declared.State.{State}
 use Rattle.machine.specs.Machine.{inactive, changed, hookOf, loopsOn, carrierOf, movedTo}
 use Rattle.machine.specs.Geometry.{eqZ, columnOf, entryOf, exitOf, sameColumn, withinFloat}
+use Rattle.machine.specs.Stretch.{anyStretched}
 use Rattle.record.specs.declared.Record.{Record}
 use Rattle.record.specs.Kinds.{IN, OUT, MISS, loopsFormed, moves, isPlated, tucks}
 use Rattle.record.specs.Format.{noNeedle}
-use Rattle.record.specs.Names.{needlesOf, carriersOf, rackingAfter}
+use Rattle.record.specs.Names.{needlesOf, carriersOf, isRack, rackingAfter}
 
 -- ---- see: a carrier shows the column of its attachment and not the needle
 pub record Look : Type 0 where
@@ -34,13 +35,15 @@ pub record Seen : Type 0 where
   -- of the first carrier and of the second
   pub look : Look
   pub other : Look
+  -- of all carriers: whether a rack to the record's racking stretches one's yarn
+  pub stretched : Bool
 
 unfoldable pub lookOf : Racking → Carrier → Look
 lookOf r c = record { active = not (eqb (c .active) 0); slot = c .slot; attached = not (eqb (c .side) 0); column = columnOf (c .needle) r }
 
 unfoldable pub seeOf : State → Record → Seen
 seeOf s x =
-    record { racking = s .racking; limit = s .limit; here = loopsOn s (x .at); there = loopsOn s (x .to); look = lookOf (s .racking) (carrierOf s (x .carrier)); other = lookOf (s .racking) (carrierOf s (x .second)) }
+    record { racking = s .racking; limit = s .limit; here = loopsOn s (x .at); there = loopsOn s (x .to); look = lookOf (s .racking) (carrierOf s (x .carrier)); other = lookOf (s .racking) (carrierOf s (x .second)); stretched = anyStretched (s .racking) (x .racking) (s .carriers) }
 
 -- ---- decide: the number is the first that holds, 0 for none
 abbrev pub orNumber : ℕ → ℕ → ℕ
@@ -49,6 +52,10 @@ orNumber a b = cond (eqb a 0) b a
 -- 16: one yarn twice
 unfoldable pub twiceNo : Record → ℕ
 twiceNo x = cond (isPlated (x .kind) && eqb (x .carrier) (x .second)) 16 0
+
+-- 17: a rack that stretches a yarn
+unfoldable pub stretchNo : Record → Bool → ℕ
+stretchNo x b = cond (isRack x && b) 17 0
 
 -- 7: not in; 7 and 8: parked at a slot
 abbrev pub notInNo : Look → ℕ
@@ -102,8 +109,8 @@ roomNo limit kind here there = cond (leb (firstAsked kind here) limit) (cond (le
 
 unfoldable pub decidedNo : Record → Seen → ℕ
 decidedNo x s =
-    orNumber (twiceNo x) (orNumber (carrierNo x (s .racking) (s .look) (s .other))
-    (orNumber (oppositeNo x (s .racking)) (roomNo (s .limit) (x .kind) (s .here) (s .there))))
+    orNumber (twiceNo x) (orNumber (stretchNo x (s .stretched)) (orNumber (carrierNo x (s .racking) (s .look) (s .other))
+    (orNumber (oppositeNo x (s .racking)) (roomNo (s .limit) (x .kind) (s .here) (s .there)))))
 
 -- ---- apply: edits at listed places
 module _ {A W : Type 0} (act : W → A → A) (d : A) where

@@ -1,4 +1,4 @@
-// The step of a record and the run of a program, with the refusals 1, 3 to 11, 15 of a limit, and 16.
+// The step of a record and the run of a program, with the refusals 1, 3 to 11, 15 of a limit, 16 and 17.
 ghost use mathlib.Core.Path.{_≡_};
 ghost use Prim.Native.Nat.{_≤_, _<_};
 ghost use lib.ListN.{getD, set};
@@ -23,6 +23,7 @@ use machine::numbers::FLOAT_TOO_LONG;
 use machine::numbers::HOOK_FULL;
 use machine::numbers::NOT_IN;
 use machine::numbers::NOT_OPPOSITE;
+use machine::numbers::STRETCHED;
 use machine::numbers::TOO_LONG;
 use machine::numbers::WRONG_SLOT;
 use machine::numbers::YARN_TWICE;
@@ -332,6 +333,9 @@ fn run_from(
         match kind {
             RACK => {
                 let z = x.racking;
+                if r.0 != z.0 && machine::any_back(cs) && machine::any_stretched(cs, r, z) {
+                    return halt(STRETCHED, at, r, cs);
+                }
                 r = z;
             }
             DROP => put(loops, n, 0),

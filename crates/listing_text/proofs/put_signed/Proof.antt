@@ -11,7 +11,7 @@ use lib.IntN.{ℤ, pos, negsuc, natAbs, _-ℤ_}
 use lib.Signed.{nonNeg, ltZ}
 use lib.Dec.{T}
 use borrow.Author.Tests.{ltb-true}
-use Rattle.machine.proofs.Signed.{cast-back}
+use Rattle.machine.proofs.Signed.{below, not-below, abs-mag, fits-difference, cast-back}
 use Rattle.listing_text.proofs.Grow.{then, like}
 use Rattle.listing_text.specs.Text.{figures, signed}
 use borrow.Author.Needs.{needs}
@@ -33,15 +33,13 @@ read {z} {b} f t = subst (λ (y : ℤ). ltZ y (pos 0) ≡ b) (toZ-ofZ f) t
 
 -- a number that is not below 0, as an unsigned one; one below 0, negated
 plain : (y : ℤ) → SFits w16 y → ltZ y (pos 0) ≡ false → T (nonNeg y) × Fits w64 (natAbs y)
-plain (pos a) f t = (tt, fits-natAbs {w = w16} {z = pos a} tt f)
-plain (negsuc a) f t = absurd (subst T t tt)
+plain y f t = (not-below y t, fits-natAbs {w = w16} {z = y} tt f)
 
 never : (a : ℕ) → a < 0 → ⊥
 never a h = omega arith
 
 turned : (y : ℤ) → SFits w16 y → ltZ y (pos 0) ≡ true → SFits w64 (pos 0 -ℤ y) × (T (nonNeg (pos 0 -ℤ y)) × Fits w64 (natAbs (pos 0 -ℤ y)))
-turned (pos a) f t = absurd (never a (ltb-true a 0 t))
-turned (negsuc a) f t = (record { sfits = omega (arith, f .sfits) }, (tt, record { fits = omega (arith, f .sfits) }))
+turned y f t = let (p, q) = below y t in (fits-difference w64 (pos 0) y (omega (arith, f .sfits)), (p, record { fits = omega (arith, q, abs-mag y, f .sfits) }))
 
 -- the texts
 hyphen : (y : ℤ) → ltZ y (pos 0) ≡ true → 45 ∷ figures (natAbs (pos 0 -ℤ y)) ≡ signed y

@@ -2,6 +2,7 @@
 -- Assumes nothing.
 use Prim.Native.Nat.{ℕ, _+_, _-_, _≤_, _<_}
 use mathlib.Core.Path.{_≡_, refl, sym, ap, _∙_}
+use mathlib.Core.Bool.{false}
 use mathlib.Core.List.{List, map}
 use mathlib.Core.Logic.{⊎-elim}
 use native.Mathlib.Omega.{arith}
@@ -9,6 +10,8 @@ use borrow.Author.Needs.{needs}
 use lib.ListN.{length, drop}
 use Rattle.machine.specs.Limits.{carrierCount}
 use Rattle.machine.specs.Machine.{stateWith, movedTo}
+use Rattle.machine.specs.Stretch.{anyStretched}
+use Rattle.machine.proofs.Stretches.{same-unstretched, no-back-unstretched}
 use Rattle.machine.specs.declared.State.{State}
 use Rattle.machine.specs.declared.Racking.{Racking}
 use Rattle.machine.specs.declared.Carrier.{Carrier}
@@ -22,7 +25,7 @@ use Rattle.run.specs.declared.Halted.{Halted}
 use Rattle.run.specs.Step.{numberAt}
 use Rattle.run.specs.Run.{reached, halted, runFrom}
 use Rattle.run.proofs.Turns.{Turn, ended, turned, refused, in-range, sized, stopped, goes}
-use Rattle.run.proofs.Arms.{Made, transfer-kept, unmoved, rack-made, drop-made, xfer-stopped, xfer-made, in-out-stopped, in-out-made, miss-stopped, miss-made}
+use Rattle.run.proofs.Arms.{Made, transfer-kept, unmoved, rack-stopped, rack-made, drop-made, xfer-stopped, xfer-made, in-out-stopped, in-out-made, miss-stopped, miss-made}
 use Rattle.run.proofs.Arms.{form-kept, loop-unready, loop-stopped, loop-made, split-unready, split-stopped, split-made, plated-twice, plated-unready, plated-stopped, plated-made}
 use Rattle.run.proofs.run_from.Statement.{statement}
 use Rattle.run.proofs.run_from.Tie as tie
@@ -93,7 +96,7 @@ split-carrier : (m : tie.At-match-keys5 Inv-loop μ-loop) → Carried (m .before
 split-carrier m = carried (m .before .before .before .before) (omega (arith, m .match .keys5))
 
 -- the arm of in and out
-module _ (t : tie.Then9 Inv-loop μ-loop) where
+module _ (t : tie.Then12 Inv-loop μ-loop) where
   abbrev in-out : tie.Else1 Inv-loop μ-loop
   in-out = t .before .before .before .before .before .before
 
@@ -102,35 +105,35 @@ module _ (t : tie.Then9 Inv-loop μ-loop) where
       above-bare (x in-out .kind) (known-least (known in-out .known)) (no .0 .0 .0 .0 .1) (no .0 .0 .0 .1) (no .0 .0 .1)
 
   in-out-high : x in-out .kind ≤ OUT
-  in-out-high = omega (arith, t .if9 .taken, t .before .before .match .rest .0 .1)
+  in-out-high = omega (arith, t .if12 .taken, t .before .before .match .rest .0 .1)
 
   in-out-carrier : Carried in-out
   in-out-carrier = carried in-out in-out-low
 
 -- the arm of tuck and knit
-module _ (t : tie.Then11 Inv-loop μ-loop) where
+module _ (t : tie.Then14 Inv-loop μ-loop) where
   abbrev loop : tie.Else1 Inv-loop μ-loop
   loop = t .before .before .before .before .before .before .before
 
   loop-low : TUCK ≤ x loop .kind
-  loop-low = omega (arith, t .before .if9 .left, t .before .before .before .match .rest .0 .1)
+  loop-low = omega (arith, t .before .if12 .left, t .before .before .before .match .rest .0 .1)
 
   loop-high : x loop .kind ≤ KNIT
-  loop-high = omega (arith, t .if11 .taken, t .before .before .before .match .rest .1)
+  loop-high = omega (arith, t .if14 .taken, t .before .before .before .match .rest .1)
 
   loop-carrier : Carried loop
   loop-carrier = carried loop (omega (arith, loop-low))
 
 -- the arm of the plated stitches
-module _ (t : tie.Then14 Inv-loop μ-loop) where
+module _ (t : tie.Then17 Inv-loop μ-loop) where
   abbrev plate : tie.Else1 Inv-loop μ-loop
   plate = t .before .before .before .before .before .before .before .before
 
   plate-low : PLATED-TUCK ≤ x plate .kind
-  plate-low = omega (arith, t .before .if11 .left, t .before .before .before .before .match .rest .1)
+  plate-low = omega (arith, t .before .if14 .left, t .before .before .before .before .match .rest .1)
 
   plate-high : x plate .kind ≤ PLATED-KNIT
-  plate-high = omega (arith, t .if14 .taken)
+  plate-high = omega (arith, t .if17 .taken)
 
   plate-first : Carried plate
   plate-first = carried plate (omega (arith, plate-low))
@@ -164,18 +167,31 @@ returns c = ends (c .halt .ensures) (refused (turned (c .before .before .before 
 add-next : tie.Need-add-next Inv-loop μ-loop
 add-next c = let z = size (c .before) in omega (arith, z .1, c .before .before .before .before .before .loop-test .taken, c .before .before .before .before .before .before .before .before .good)
 
+any-back-requires : tie.Need-any-back-requires Inv-loop μ-loop
+any-back-requires c κs = search needs
+
+any-stretched-requires : tie.Need-any-stretched-requires Inv-loop μ-loop
+any-stretched-requires c κs = search needs
+
+halt-requires-2 : tie.Need-halt-requires-2 Inv-loop μ-loop
+halt-requires-2 c κs = search needs
+
+returns-2 : tie.Need-returns-2 Inv-loop μ-loop
+returns-2 c = let b = c .before .before .before .before .before .before .before .before .before .before .before .before .before .before .before in
+    ends (c .halt2 .ensures) (stop b (rack-stopped (s b) (x b) (c .before .before .before .before .before .before .before .before .before .before .before .match .keys1) (sym (c .before .before .any-stretched .ensures) ∙ c .before .if4 .taken)) (λ z. omega arith))
+
 put-requires : tie.Need-put-requires Inv-loop μ-loop
 put-requires c κs = known (c .before .before .before .before .before) .at-bed
 
 transfer-requires : tie.Need-transfer-requires Inv-loop μ-loop
 transfer-requires c κs = let b = c .before .before .before .before .before .before in (known b .at-bed, known b .to-bed)
 
-halt-requires-2 : tie.Need-halt-requires-2 Inv-loop μ-loop
-halt-requires-2 c κs = search needs
+halt-requires-3 : tie.Need-halt-requires-3 Inv-loop μ-loop
+halt-requires-3 c κs = search needs
 
-returns-2 : tie.Need-returns-2 Inv-loop μ-loop
-returns-2 c = let b = c .before .before .before .before .before .before .before .before .before in let told = c .before .before .transfer .ensures in
-    ends (c .halt2 .ensures) (simp (told .1, transfer-kept (s b .limit) (s b .loops) (x b .at) (x b .to) (s b .racking) 0 _ (told .0) (c .before .if2 .taken)) (stop b (xfer-stopped (s b) (x b) (c .before .before .before .before .before .match .keys3) _ (told .0)) (c .before .if2 .taken)))
+returns-3 : tie.Need-returns-3 Inv-loop μ-loop
+returns-3 c = let b = c .before .before .before .before .before .before .before .before .before in let told = c .before .before .transfer .ensures in
+    ends (c .halt3 .ensures) (simp (told .1, transfer-kept (s b .limit) (s b .loops) (x b .at) (x b .to) (s b .racking) 0 _ (told .0) (c .before .if5 .taken)) (stop b (xfer-stopped (s b) (x b) (c .before .before .before .before .before .match .keys3) _ (told .0)) (c .before .if5 .taken)))
 
 any-beside-requires : tie.Need-any-beside-requires Inv-loop μ-loop
 any-beside-requires c κs = search needs
@@ -198,12 +214,12 @@ array-copy-out-c c = omega (arith, miss-carrier (c .before))
 asked-requires : tie.Need-asked-requires Inv-loop μ-loop
 asked-requires c κs = known (c .before .before .before .before .before .before) .at-bed
 
-halt-requires-3 : tie.Need-halt-requires-3 Inv-loop μ-loop
-halt-requires-3 c κs = search needs
+halt-requires-4 : tie.Need-halt-requires-4 Inv-loop μ-loop
+halt-requires-4 c κs = search needs
 
-returns-3 : tie.Need-returns-3 Inv-loop μ-loop
-returns-3 c = let b = c .before .before .before .before .before .before .before .before .before in
-    ends (c .halt3 .ensures) (stop b (miss-stopped (s b) (x b) _ (c .before .before .asked .ensures) (c .before .before .before .before .before .match .keys4)) (c .before .if4 .taken))
+returns-4 : tie.Need-returns-4 Inv-loop μ-loop
+returns-4 c = let b = c .before .before .before .before .before .before .before .before .before in
+    ends (c .halt4 .ensures) (stop b (miss-stopped (s b) (x b) _ (c .before .before .asked .ensures) (c .before .before .before .before .before .match .keys4)) (c .before .if7 .taken))
 
 pass-requires : tie.Need-pass-requires Inv-loop μ-loop
 pass-requires c κs = known (c .before .before .before .before .before .before .before .before) .at-bed
@@ -229,22 +245,22 @@ array-copy-out-c-2 c = omega (arith, split-carrier (c .before .before))
 asked-requires-2 : tie.Need-asked-requires-2 Inv-loop μ-loop
 asked-requires-2 c κs = known (c .before .before .before .before .before .before .before) .at-bed
 
-halt-requires-4 : tie.Need-halt-requires-4 Inv-loop μ-loop
-halt-requires-4 c κs = search needs
-
-returns-4 : tie.Need-returns-4 Inv-loop μ-loop
-returns-4 c = let b = c .before .before .before .before .before .before .before .before .before .before in
-    ends (c .halt4 .ensures) (stop b (split-unready (s b) (x b) (c .before .before .before .before .before .before .match .keys5) _ (c .before .before .asked2 .ensures) (c .before .if5 .taken)) (c .before .if5 .taken))
-
-transfer-requires-2 : tie.Need-transfer-requires-2 Inv-loop μ-loop
-transfer-requires-2 c κs = let b = c .before .before .before .before .before .before .before .before .before .before in (known b .at-bed, known b .to-bed)
-
 halt-requires-5 : tie.Need-halt-requires-5 Inv-loop μ-loop
 halt-requires-5 c κs = search needs
 
 returns-5 : tie.Need-returns-5 Inv-loop μ-loop
-returns-5 c = let b = c .before .before .before .before .before .before .before .before .before .before .before .before .before in let told = c .before .before .transfer2 .ensures in
-    ends (c .halt5 .ensures) (simp (told .1, transfer-kept (s b .limit) (s b .loops) (x b .at) (x b .to) (s b .racking) 1 _ (told .0) (c .before .if6 .taken)) (stop b (split-stopped (s b) (x b) (c .before .before .before .before .before .before .before .before .before .match .keys5) _ (c .before .before .before .before .before .asked2 .ensures) (c .before .before .before .before .if5 .left) _ (told .0)) (c .before .if6 .taken)))
+returns-5 c = let b = c .before .before .before .before .before .before .before .before .before .before in
+    ends (c .halt5 .ensures) (stop b (split-unready (s b) (x b) (c .before .before .before .before .before .before .match .keys5) _ (c .before .before .asked2 .ensures) (c .before .if8 .taken)) (c .before .if8 .taken))
+
+transfer-requires-2 : tie.Need-transfer-requires-2 Inv-loop μ-loop
+transfer-requires-2 c κs = let b = c .before .before .before .before .before .before .before .before .before .before in (known b .at-bed, known b .to-bed)
+
+halt-requires-6 : tie.Need-halt-requires-6 Inv-loop μ-loop
+halt-requires-6 c κs = search needs
+
+returns-6 : tie.Need-returns-6 Inv-loop μ-loop
+returns-6 c = let b = c .before .before .before .before .before .before .before .before .before .before .before .before .before in let told = c .before .before .transfer2 .ensures in
+    ends (c .halt6 .ensures) (simp (told .1, transfer-kept (s b .limit) (s b .loops) (x b .at) (x b .to) (s b .racking) 1 _ (told .0) (c .before .if9 .taken)) (stop b (split-stopped (s b) (x b) (c .before .before .before .before .before .before .before .before .before .match .keys5) _ (c .before .before .before .before .before .asked2 .ensures) (c .before .before .before .before .if8 .left) _ (told .0)) (c .before .if9 .taken)))
 
 attach-requires : tie.Need-attach-requires Inv-loop μ-loop
 attach-requires c κs = known (c .before .before .before .before .before .before .before .before .before .before .before .before) .at-bed
@@ -276,12 +292,12 @@ array-copy-out-c-3 c = omega (arith, in-out-carrier (c .before))
 asked-requires-3 : tie.Need-asked-requires-3 Inv-loop μ-loop
 asked-requires-3 c κs = known (c .before .before .before .before .before .before .before .before) .at-bed
 
-halt-requires-6 : tie.Need-halt-requires-6 Inv-loop μ-loop
-halt-requires-6 c κs = search needs
+halt-requires-7 : tie.Need-halt-requires-7 Inv-loop μ-loop
+halt-requires-7 c κs = search needs
 
-returns-6 : tie.Need-returns-6 Inv-loop μ-loop
-returns-6 c = let t = c .before .before .before .before .before in let b = c .before .before .before .before .before .before .before .before .before .before .before in
-    ends (c .halt6 .ensures) (stop b (in-out-stopped (s b) (x b) _ (c .before .before .asked3 .ensures) (in-out-low t) (in-out-high t)) (c .before .if10 .taken))
+returns-7 : tie.Need-returns-7 Inv-loop μ-loop
+returns-7 c = let t = c .before .before .before .before .before in let b = c .before .before .before .before .before .before .before .before .before .before .before in
+    ends (c .halt7 .ensures) (stop b (in-out-stopped (s b) (x b) _ (c .before .before .asked3 .ensures) (in-out-low t) (in-out-high t)) (c .before .if13 .taken))
 
 enter-or-leave-requires : tie.Need-enter-or-leave-requires Inv-loop μ-loop
 enter-or-leave-requires c κs = let t = c .before .before .before .before in (omega (arith, in-out-low t), omega (arith, in-out-high t), known (c .before .before .before .before .before .before .before .before .before .before) .at-bed)
@@ -307,22 +323,22 @@ array-copy-out-c-4 c = omega (arith, loop-carrier (c .before))
 ready-requires : tie.Need-ready-requires Inv-loop μ-loop
 ready-requires c κs = known (c .before .before .before .before .before .before .before .before .before) .at-bed
 
-halt-requires-7 : tie.Need-halt-requires-7 Inv-loop μ-loop
-halt-requires-7 c κs = search needs
-
-returns-7 : tie.Need-returns-7 Inv-loop μ-loop
-returns-7 c = let t = c .before .before .before .before .before in let b = c .before .before .before .before .before .before .before .before .before .before .before .before in
-    ends (c .halt7 .ensures) (stop b (loop-unready (s b) (x b) (loop-low t) (loop-high t) _ (c .before .before .ready .ensures) (c .before .if12 .taken)) (c .before .if12 .taken))
-
-form-requires : tie.Need-form-requires Inv-loop μ-loop
-form-requires c κs = let t = c .before .before .before .before .before in (omega (arith, loop-low t), omega (arith, loop-high t), (λ e. omega (arith, loop-high t)), known (c .before .before .before .before .before .before .before .before .before .before .before .before) .at-bed)
-
 halt-requires-8 : tie.Need-halt-requires-8 Inv-loop μ-loop
 halt-requires-8 c κs = search needs
 
 returns-8 : tie.Need-returns-8 Inv-loop μ-loop
-returns-8 c = let t = c .before .before .before .before .before .before .before .before in let b = c .before .before .before .before .before .before .before .before .before .before .before .before .before .before .before in let told = c .before .before .form .ensures in
-    ends (c .halt8 .ensures) (simp (told .1, form-kept (s b) (x b) _ (told .0) (c .before .if13 .taken)) (stop b (loop-stopped (s b) (x b) (loop-low t) (loop-high t) _ (c .before .before .before .before .before .ready .ensures) (c .before .before .before .before .if12 .left) _ (told .0)) (c .before .if13 .taken)))
+returns-8 c = let t = c .before .before .before .before .before in let b = c .before .before .before .before .before .before .before .before .before .before .before .before in
+    ends (c .halt8 .ensures) (stop b (loop-unready (s b) (x b) (loop-low t) (loop-high t) _ (c .before .before .ready .ensures) (c .before .if15 .taken)) (c .before .if15 .taken))
+
+form-requires : tie.Need-form-requires Inv-loop μ-loop
+form-requires c κs = let t = c .before .before .before .before .before in (omega (arith, loop-low t), omega (arith, loop-high t), (λ e. omega (arith, loop-high t)), known (c .before .before .before .before .before .before .before .before .before .before .before .before) .at-bed)
+
+halt-requires-9 : tie.Need-halt-requires-9 Inv-loop μ-loop
+halt-requires-9 c κs = search needs
+
+returns-9 : tie.Need-returns-9 Inv-loop μ-loop
+returns-9 c = let t = c .before .before .before .before .before .before .before .before in let b = c .before .before .before .before .before .before .before .before .before .before .before .before .before .before .before in let told = c .before .before .form .ensures in
+    ends (c .halt9 .ensures) (simp (told .1, form-kept (s b) (x b) _ (told .0) (c .before .if16 .taken)) (stop b (loop-stopped (s b) (x b) (loop-low t) (loop-high t) _ (c .before .before .before .before .before .ready .ensures) (c .before .before .before .before .if15 .left) _ (told .0)) (c .before .if16 .taken)))
 
 attach-requires-2 : tie.Need-attach-requires-2 Inv-loop μ-loop
 attach-requires-2 c κs = known (c .before .before .before .before .before .before .before .before .before .before .before .before .before .before) .at-bed
@@ -333,12 +349,12 @@ mul-cs-4 c = omega (arith, loop-carrier (c .before .before .before .before .befo
 array-set-from-cs-4 : tie.Need-array-set-from-cs-4 Inv-loop μ-loop
 array-set-from-cs-4 c = omega (arith, loop-carrier (c .before .before .before .before .before .before .before .before))
 
-halt-requires-9 : tie.Need-halt-requires-9 Inv-loop μ-loop
-halt-requires-9 c κs = search needs
+halt-requires-10 : tie.Need-halt-requires-10 Inv-loop μ-loop
+halt-requires-10 c κs = search needs
 
-returns-9 : tie.Need-returns-9 Inv-loop μ-loop
-returns-9 c = let t = c .before .before .before in let b = c .before .before .before .before .before .before .before .before .before .before .before in
-    ends (c .halt9 .ensures) (stop b (plated-twice (s b) (x b) (plate-low t) (plate-high t) (c .before .if15 .taken)) (λ z. omega arith))
+returns-10 : tie.Need-returns-10 Inv-loop μ-loop
+returns-10 c = let t = c .before .before .before in let b = c .before .before .before .before .before .before .before .before .before .before .before in
+    ends (c .halt10 .ensures) (stop b (plated-twice (s b) (x b) (plate-low t) (plate-high t) (c .before .if18 .taken)) (λ z. omega arith))
 
 cast-k-5 : tie.Need-cast-k-5 Inv-loop μ-loop
 cast-k-5 c = search needs
@@ -367,22 +383,22 @@ array-copy-out-both-ready-2 c = omega (arith, plate-second (c .before .before .b
 both-ready-requires : tie.Need-both-ready-requires Inv-loop μ-loop
 both-ready-requires c κs = known (c .before .before .before .before .before .before .before .before .before .before .before .before .before .before) .at-bed
 
-halt-requires-10 : tie.Need-halt-requires-10 Inv-loop μ-loop
-halt-requires-10 c κs = search needs
-
-returns-10 : tie.Need-returns-10 Inv-loop μ-loop
-returns-10 c = let t = c .before .before .before .before .before .before .before .before .before in let b = c .before .before .before .before .before .before .before .before .before .before .before .before .before .before .before .before .before in
-    ends (c .halt10 .ensures) (stop b (plated-unready (s b) (x b) (plate-low t) (plate-high t) (c .before .before .before .before .before .before .before .if15 .left) _ (c .before .before .both-ready .ensures) (c .before .if16 .taken)) (c .before .if16 .taken))
-
-form-requires-2 : tie.Need-form-requires-2 Inv-loop μ-loop
-form-requires-2 c κs = let t = c .before .before .before .before .before .before .before .before .before in (omega (arith, plate-low t), omega (arith, plate-high t), (λ e. omega (arith, plate-low t)), known (c .before .before .before .before .before .before .before .before .before .before .before .before .before .before .before .before .before) .at-bed)
-
 halt-requires-11 : tie.Need-halt-requires-11 Inv-loop μ-loop
 halt-requires-11 c κs = search needs
 
 returns-11 : tie.Need-returns-11 Inv-loop μ-loop
-returns-11 c = let t = c .before .before .before .before .before .before .before .before .before .before .before .before in let b = c .before .before .before .before .before .before .before .before .before .before .before .before .before .before .before .before .before .before .before .before in let told = c .before .before .form2 .ensures in
-    ends (c .halt11 .ensures) (simp (told .1, form-kept (s b) (x b) _ (told .0) (c .before .if17 .taken)) (stop b (plated-stopped (s b) (x b) (plate-low t) (plate-high t) (c .before .before .before .before .before .before .before .before .before .before .if15 .left) _ (c .before .before .before .before .before .both-ready .ensures) (c .before .before .before .before .if16 .left) _ (told .0)) (c .before .if17 .taken)))
+returns-11 c = let t = c .before .before .before .before .before .before .before .before .before in let b = c .before .before .before .before .before .before .before .before .before .before .before .before .before .before .before .before .before in
+    ends (c .halt11 .ensures) (stop b (plated-unready (s b) (x b) (plate-low t) (plate-high t) (c .before .before .before .before .before .before .before .if18 .left) _ (c .before .before .both-ready .ensures) (c .before .if19 .taken)) (c .before .if19 .taken))
+
+form-requires-2 : tie.Need-form-requires-2 Inv-loop μ-loop
+form-requires-2 c κs = let t = c .before .before .before .before .before .before .before .before .before in (omega (arith, plate-low t), omega (arith, plate-high t), (λ e. omega (arith, plate-low t)), known (c .before .before .before .before .before .before .before .before .before .before .before .before .before .before .before .before .before) .at-bed)
+
+halt-requires-12 : tie.Need-halt-requires-12 Inv-loop μ-loop
+halt-requires-12 c κs = search needs
+
+returns-12 : tie.Need-returns-12 Inv-loop μ-loop
+returns-12 c = let t = c .before .before .before .before .before .before .before .before .before .before .before .before in let b = c .before .before .before .before .before .before .before .before .before .before .before .before .before .before .before .before .before .before .before .before in let told = c .before .before .form2 .ensures in
+    ends (c .halt12 .ensures) (simp (told .1, form-kept (s b) (x b) _ (told .0) (c .before .if20 .taken)) (stop b (plated-stopped (s b) (x b) (plate-low t) (plate-high t) (c .before .before .before .before .before .before .before .before .before .before .if18 .left) _ (c .before .before .before .before .before .both-ready .ensures) (c .before .before .before .before .if19 .left) _ (told .0)) (c .before .if20 .taken)))
 
 attach-requires-3 : tie.Need-attach-requires-3 Inv-loop μ-loop
 attach-requires-3 c κs = known (c .before .before .before .before .before .before .before .before .before .before .before .before .before .before .before .before .before .before .before) .at-bed
@@ -400,10 +416,14 @@ array-set-from-cs-6 : tie.Need-array-set-from-cs-6 Inv-loop μ-loop
 array-set-from-cs-6 c = omega (arith, plate-second (c .before .before .before .before .before .before .before .before .before .before .before .before))
 
 loop-less : tie.Need-loop-less Inv-loop μ-loop
-loop-less c = less (c .before .before .before .before .before)
+loop-less c = less (c .before .before .before .before .before .before .before .before .before .before)
 
 loop-again : tie.Need-loop-again Inv-loop μ-loop
-loop-again c = let b = c .before .before .before .before .before in on b (rack-made (s b) (x b) (c .before .match .keys1))
+loop-again c = let b = c .before .before .before .before .before .before .before .before .before .before in let r = s b .racking in let z = x b .racking in
+    on b (rack-made (s b) (x b) (c .before .before .before .before .before .before .match .keys1)
+    (⊎-elim {C = anyStretched r z (s b .carriers) ≡ false} (λ u. sym (u .3 .ensures) ∙ u .4 .left)
+    (⊎-elim {C = anyStretched r z (s b .carriers) ≡ false} (λ u. no-back-unstretched r z (s b .carriers) (sym (u .1 .ensures) ∙ u .2 .left))
+    (λ u. same-unstretched r z (s b .carriers) (c .before .before .before .struct-told .given .0 .1) (c .before .struct-told2 .given .0 .1) (u .left))) (c .if2 .came)))
 
 loop-less-2 : tie.Need-loop-less-2 Inv-loop μ-loop
 loop-less-2 c = less (c .before .before .before .before .before .before)
@@ -416,82 +436,82 @@ loop-less-3 c = less (c .before .before .before .before .before .before .before 
 
 loop-again-3 : tie.Need-loop-again-3 Inv-loop μ-loop
 loop-again-3 c = let b = c .before .before .before .before .before .before .before .before .before .before .before in let told = c .before .before .before .before .transfer .ensures in
-    on b (xfer-made (s b) (x b) (c .before .before .before .before .before .before .before .match .keys3) _ (told .0) (c .before .before .before .if2 .left) _ _ (told .1) (c .attachments-moved .ensures))
+    on b (xfer-made (s b) (x b) (c .before .before .before .before .before .before .before .match .keys3) _ (told .0) (c .before .before .before .if5 .left) _ _ (told .1) (c .attachments-moved .ensures))
 
 loop-less-4 : tie.Need-loop-less-4 Inv-loop μ-loop
 loop-less-4 c = less (c .before .before .before .before .before .before .before .before .before .before)
 
 loop-again-4 : tie.Need-loop-again-4 Inv-loop μ-loop
 loop-again-4 c = let b = c .before .before .before .before .before .before .before .before .before .before in let told = c .before .before .before .transfer .ensures in
-    on b (xfer-made (s b) (x b) (c .before .before .before .before .before .before .match .keys3) _ (told .0) (c .before .before .if2 .left) _ _ (told .1) (unmoved (x b .at) (x b .to) (s b .carriers) (sym (c .before .any-beside .ensures) ∙ c .if3 .left)))
+    on b (xfer-made (s b) (x b) (c .before .before .before .before .before .before .match .keys3) _ (told .0) (c .before .before .if5 .left) _ _ (told .1) (unmoved (x b .at) (x b .to) (s b .carriers) (sym (c .before .any-beside .ensures) ∙ c .if6 .left)))
 
 loop-less-5 : tie.Need-loop-less-5 Inv-loop μ-loop
 loop-less-5 c = less (c .before .before .before .before .before .before .before .before .before)
 
 loop-again-5 : tie.Need-loop-again-5 Inv-loop μ-loop
 loop-again-5 c = let b = c .before .before .before .before .before .before .before .before .before in
-    on b (miss-made (s b) (x b) _ (c .before .before .asked .ensures) (c .before .before .before .before .before .match .keys4) (c .before .if4 .left) _ (c .pass .ensures))
+    on b (miss-made (s b) (x b) _ (c .before .before .asked .ensures) (c .before .before .before .before .before .match .keys4) (c .before .if7 .left) _ (c .pass .ensures))
 
 loop-less-6 : tie.Need-loop-less-6 Inv-loop μ-loop
 loop-less-6 c = less (c .before .before .before .before .before .before .before .before .before .before .before .before .before .before .before)
 
 loop-again-6 : tie.Need-loop-again-6 Inv-loop μ-loop
 loop-again-6 c = let b = c .before .before .before .before .before .before .before .before .before .before .before .before .before .before .before in let told = c .before .before .before .before .transfer2 .ensures in
-    on b (split-made (s b) (x b) (c .before .before .before .before .before .before .before .before .before .before .before .match .keys5) _ (c .before .before .before .before .before .before .before .asked2 .ensures) (c .before .before .before .before .before .before .if5 .left) _ (told .0) (c .before .before .before .if6 .left) _ (c .before .before .attach .ensures) _ _ (told .1)
-    (⊎-elim {C = c .if7 .cs ≡ map (movedTo (x b .at) (x b .to)) (s b .carriers)} (λ u. u .2 ∙ u .1 .ensures) (λ u. u .1 ∙ unmoved (x b .at) (x b .to) (s b .carriers) (sym (c .before .any-beside2 .ensures) ∙ u .0 .left)) (c .if7 .came)))
+    on b (split-made (s b) (x b) (c .before .before .before .before .before .before .before .before .before .before .before .match .keys5) _ (c .before .before .before .before .before .before .before .asked2 .ensures) (c .before .before .before .before .before .before .if8 .left) _ (told .0) (c .before .before .before .if9 .left) _ (c .before .before .attach .ensures) _ _ (told .1)
+    (⊎-elim {C = c .if10 .cs ≡ map (movedTo (x b .at) (x b .to)) (s b .carriers)} (λ u. u .2 ∙ u .1 .ensures) (λ u. u .1 ∙ unmoved (x b .at) (x b .to) (s b .carriers) (sym (c .before .any-beside2 .ensures) ∙ u .0 .left)) (c .if10 .came)))
 
 loop-less-7 : tie.Need-loop-less-7 Inv-loop μ-loop
 loop-less-7 c = less (c .before .before .before .before .before)
 
 -- decode gives no kind below 1
 loop-again-7 : tie.Need-loop-again-7 Inv-loop μ-loop
-loop-again-7 c = absurd (omega (arith, c .if8 .taken, known-least (known (c .before .before .before .before .before) .known)))
+loop-again-7 c = absurd (omega (arith, c .if11 .taken, known-least (known (c .before .before .before .before .before) .known)))
 
 loop-less-8 : tie.Need-loop-less-8 Inv-loop μ-loop
 loop-less-8 c = less (c .before .before .before .before .before .before .before .before .before .before .before)
 
 loop-again-8 : tie.Need-loop-again-8 Inv-loop μ-loop
 loop-again-8 c = let t = c .before .before .before .before .before in let b = c .before .before .before .before .before .before .before .before .before .before .before in
-    on b (in-out-made (s b) (x b) _ (c .before .before .asked3 .ensures) (in-out-low t) (in-out-high t) (c .before .if10 .left) _ (c .enter-or-leave .ensures))
+    on b (in-out-made (s b) (x b) _ (c .before .before .asked3 .ensures) (in-out-low t) (in-out-high t) (c .before .if13 .left) _ (c .enter-or-leave .ensures))
 
 loop-less-9 : tie.Need-loop-less-9 Inv-loop μ-loop
 loop-less-9 c = less (c .before .before .before .before .before .before .before .before .before .before .before .before .before .before .before)
 
 loop-again-9 : tie.Need-loop-again-9 Inv-loop μ-loop
 loop-again-9 c = let t = c .before .before .before .before .before .before .before .before in let b = c .before .before .before .before .before .before .before .before .before .before .before .before .before .before .before in let told = c .before .before .form .ensures in
-    on b (loop-made (s b) (x b) (loop-low t) (loop-high t) _ (c .before .before .before .before .before .ready .ensures) (c .before .before .before .before .if12 .left) _ (told .0) (c .before .if13 .left) _ (c .attach2 .ensures) _ (told .1))
+    on b (loop-made (s b) (x b) (loop-low t) (loop-high t) _ (c .before .before .before .before .before .ready .ensures) (c .before .before .before .before .if15 .left) _ (told .0) (c .before .if16 .left) _ (c .attach2 .ensures) _ (told .1))
 
 loop-less-10 : tie.Need-loop-less-10 Inv-loop μ-loop
 loop-less-10 c = less (c .before .before .before .before .before .before .before .before .before .before .before .before .before .before .before .before .before .before .before .before)
 
 loop-again-10 : tie.Need-loop-again-10 Inv-loop μ-loop
 loop-again-10 c = let t = c .before .before .before .before .before .before .before .before .before .before .before .before in let b = c .before .before .before .before .before .before .before .before .before .before .before .before .before .before .before .before .before .before .before .before in let told = c .before .before .form2 .ensures in
-    on b (plated-made (s b) (x b) (plate-low t) (plate-high t) (c .before .before .before .before .before .before .before .before .before .before .if15 .left) _ (c .before .before .before .before .before .both-ready .ensures) (c .before .before .before .before .if16 .left) _ (told .0) (c .before .if17 .left) _ (c .attach3 .ensures) _ (told .1))
+    on b (plated-made (s b) (x b) (plate-low t) (plate-high t) (c .before .before .before .before .before .before .before .before .before .before .if18 .left) _ (c .before .before .before .before .before .both-ready .ensures) (c .before .before .before .before .if19 .left) _ (told .0) (c .before .if20 .left) _ (c .attach3 .ensures) _ (told .1))
 
 loop-less-11 : tie.Need-loop-less-11 Inv-loop μ-loop
 loop-less-11 c = less (c .before .before .before .before .before .before .before .before)
 
 -- and none above plated knit
 loop-again-11 : tie.Need-loop-again-11 Inv-loop μ-loop
-loop-again-11 c = absurd (omega (arith, c .if14 .left, known-most (known (c .before .before .before .before .before .before .before .before) .known)))
+loop-again-11 c = absurd (omega (arith, c .if17 .left, known-most (known (c .before .before .before .before .before .before .before .before) .known)))
 
-halt-requires-12 : tie.Need-halt-requires-12 Inv-loop μ-loop
-halt-requires-12 c κs = search needs
+halt-requires-13 : tie.Need-halt-requires-13 Inv-loop μ-loop
+halt-requires-13 c κs = search needs
 
-returns-12 : tie.Need-returns-12 Inv-loop μ-loop
-returns-12 c = ends (c .halt12 .ensures) (ended _ (c .before .before .before .before .args .program .now) (c .before .before .loop .at) _ (omega arith) (c .before .before .loop .inv .1))
+returns-13 : tie.Need-returns-13 Inv-loop μ-loop
+returns-13 c = ends (c .halt13 .ensures) (ended _ (c .before .before .before .before .args .program .now) (c .before .before .loop .at) _ (omega arith) (c .before .before .loop .inv .1))
 
 pub run-from-spec : {M : Type 1} → statement M
 run-from-spec =
     tie.close (tie.spec
-    Inv-loop μ-loop loop-holds sub-decode part-decode-start part-decode-end decode-requires halt-requires returns add-next put-requires
-    transfer-requires halt-requires-2 returns-2 any-beside-requires attachments-moved-requires cast-k sub-k mul-c array-copy-out-c asked-requires
-    halt-requires-3 returns-3 pass-requires mul-cs array-set-from-cs cast-k-2 sub-k-2 mul-c-2 array-copy-out-c-2 asked-requires-2 halt-requires-4
-    returns-4 transfer-requires-2 halt-requires-5 returns-5 attach-requires any-beside-requires-2 attachments-moved-requires-2 mul-cs-2
-    array-set-from-cs-2 cast-k-3 sub-k-3 mul-c-3 array-copy-out-c-3 asked-requires-3 halt-requires-6 returns-6 enter-or-leave-requires mul-cs-3
-    array-set-from-cs-3 cast-k-4 sub-k-4 mul-c-4 array-copy-out-c-4 ready-requires halt-requires-7 returns-7 form-requires halt-requires-8 returns-8
-    attach-requires-2 mul-cs-4 array-set-from-cs-4 halt-requires-9 returns-9 cast-k-5 sub-k-5 cast-j sub-j mul-both-ready array-copy-out-both-ready
-    mul-both-ready-2 array-copy-out-both-ready-2 both-ready-requires halt-requires-10 returns-10 form-requires-2 halt-requires-11 returns-11
+    Inv-loop μ-loop loop-holds sub-decode part-decode-start part-decode-end decode-requires halt-requires returns add-next any-back-requires any-stretched-requires halt-requires-2 returns-2 put-requires
+    transfer-requires halt-requires-3 returns-3 any-beside-requires attachments-moved-requires cast-k sub-k mul-c array-copy-out-c asked-requires
+    halt-requires-4 returns-4 pass-requires mul-cs array-set-from-cs cast-k-2 sub-k-2 mul-c-2 array-copy-out-c-2 asked-requires-2 halt-requires-5
+    returns-5 transfer-requires-2 halt-requires-6 returns-6 attach-requires any-beside-requires-2 attachments-moved-requires-2 mul-cs-2
+    array-set-from-cs-2 cast-k-3 sub-k-3 mul-c-3 array-copy-out-c-3 asked-requires-3 halt-requires-7 returns-7 enter-or-leave-requires mul-cs-3
+    array-set-from-cs-3 cast-k-4 sub-k-4 mul-c-4 array-copy-out-c-4 ready-requires halt-requires-8 returns-8 form-requires halt-requires-9 returns-9
+    attach-requires-2 mul-cs-4 array-set-from-cs-4 halt-requires-10 returns-10 cast-k-5 sub-k-5 cast-j sub-j mul-both-ready array-copy-out-both-ready
+    mul-both-ready-2 array-copy-out-both-ready-2 both-ready-requires halt-requires-11 returns-11 form-requires-2 halt-requires-12 returns-12
     attach-requires-3 mul-cs-5 array-set-from-cs-5 mul-cs-6 array-set-from-cs-6 loop-less loop-again loop-less-2 loop-again-2 loop-less-3 loop-again-3
     loop-less-4 loop-again-4 loop-less-5 loop-again-5 loop-less-6 loop-again-6 loop-less-7 loop-again-7 loop-less-8 loop-again-8 loop-less-9
-    loop-again-9 loop-less-10 loop-again-10 loop-less-11 loop-again-11 halt-requires-12 returns-12)
+    loop-again-9 loop-less-10 loop-again-10 loop-less-11 loop-again-11 halt-requires-13 returns-13)
