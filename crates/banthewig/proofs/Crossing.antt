@@ -5,7 +5,7 @@ use mathlib.Core.Path.{_≡_, refl, sym, _∙_}
 use mathlib.Core.Option.{some}
 use mathlib.Core.List.{List, [], _∷_}
 use lib.ListN.{length, length-map}
-use mir.Syntax.{Ty, tyInt, tyArray, w8, w16, w64}
+use mir.Syntax.{Ty, tyInt, tyArray, w8, w16, w32, w64}
 use mir.Val.{Val, vint, vstruct, ofList, ofZ}
 use prog.Memory.{size, align, fieldOf}
 use denote.Struct.Laws as LL
@@ -23,6 +23,9 @@ use Rattle.machine.proofs.Carrier.Laws as carrier
 use Rattle.machine.proofs.State.Laws as state
 use Rattle.panel.proofs.Served.Laws as served
 use Rattle.panel.proofs.Stepped.Laws as stepped
+use Rattle.tie.specs.declared.Tied.{Tied}
+use Rattle.tie.proofs.Tied as Told
+use Rattle.tie.proofs.Tied.Laws as tied
 
 -- a struct's size and alignment; field k, of a type, begins so many bytes from the front
 pub record Laid (τ : Ty) (bytes boundary : ℕ) : Type 0 where
@@ -82,6 +85,20 @@ stepped-fields = (refl, refl, refl)
 -- which of the two bytes is which
 pub stepped-order : (a : Stepped) → LL.val Answer.the-type stepped.the-laws a ≡ vstruct (ofList (vint w8 (a .number) ∷ vint w8 (a .complete) ∷ vint w64 (a .length) ∷ []))
 stepped-order a = refl
+
+-- what ties two records: left, right, number, by, carrier, low, high
+pub tied-laid : Laid tied.mir 16 4
+tied-laid = record { size-is = refl; align-is = refl }
+
+pub tied-fields : FieldAt tied.mir 0 (tyInt w32) 0 × FieldAt tied.mir 1 (tyInt w32) 4 × FieldAt tied.mir 2 (tyInt w8) 8 × FieldAt tied.mir 3 (tyInt w8) 9
+    × FieldAt tied.mir 4 (tyInt w8) 10 × FieldAt tied.mir 5 (tyInt w8) 11 × FieldAt tied.mir 6 (tyInt w8) 12
+tied-fields = (refl, refl, refl, refl, refl, refl, refl)
+
+-- which of the fields of one type is which
+pub tied-order : (t : Tied)
+    → LL.val Told.the-type tied.the-laws t
+    ≡ vstruct (ofList (vint w32 (ofZ w32 (t .left)) ∷ vint w32 (ofZ w32 (t .right)) ∷ vint w8 (t .number) ∷ vint w8 (t .by) ∷ vint w8 (t .carrier) ∷ vint w8 (t .low) ∷ vint w8 (t .high) ∷ []))
+tied-order t = refl
 
 -- every state in memory has 500 hooks and ten carriers, whatever its bytes
 pub state-lengths : (s : State) (vs : List Val) → Is T.the-row s vs → (length (s .loops) ≡ 500) × (length (s .carriers) ≡ 10)

@@ -15,9 +15,11 @@ use Rattle.house.specs.Exact.{Orders}
 unfoldable pub packed : Answer → ℕ
 packed a = a .number * 65536 + a .place
 
--- both are read back from it, as the header's macros do
-abbrev pub Reads : Answer → Type 0
-Reads a = (packed a / 65536 ≡ a .number) × (packed a % 65536 ≡ a .place)
+-- both are read back from it, as the header's macros do: bits 16 to 23, bits 0 to 15; those above are 0
+pub record Reads (a : Answer) : Type 0 where
+  pub number : packed a / 65536 % 256 ≡ a .number
+  pub place : packed a % 65536 ≡ a .place
+  pub above : packed a / 16777216 ≡ 0
 
 abbrev pub ReadBack : Type 0
 ReadBack = (limit : ℕ) (p : List ℕ) → Reads (runOf limit p)

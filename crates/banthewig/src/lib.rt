@@ -6,8 +6,18 @@ ghost use Rattle.machine.specs.Limits.{limitMost};
 ghost use Rattle.run.specs.Run.{runOf};
 ghost use Rattle.rewrite.specs.Rewrite.{rewriteOf};
 ghost use Rattle.house.specs.Order.{orderOf};
+ghost use Rattle.tie.specs.Tie.{tieOf};
 ghost use Rattle.panel.specs.Panel.{panelStep, listAnswer, carrierList};
 ghost use Rattle.banthewig.specs.Entries.{packed};
+
+// The interface's number, in its name too: include/banthewig.h refers to it by name, so that a header and an archive of
+// different numbers do not link.
+#[no_mangle]
+pub extern "C" fn knitout_interface_1() -> u32
+    ensures { λ n. ⌜ n ≡ 1 ⌝ }
+{
+    1
+}
 
 // Number and place in one word.
 fn word(number: u8, place: usize) -> u64
@@ -92,6 +102,14 @@ pub extern "C" fn knitout_order(program: &[u8], output: &mut [u8], work: &mut [u
     ensures starts { λ _. ⌜ now (work .exit) ≡ orderOf limitMost (now (program .entry)) (now (output .entry)) (now (work .entry)) .work ⌝ }
 {
     knitout_order_at(machine::State::LIMIT_MOST, program, output, work)
+}
+
+// Whether the records at the front of two slices are tied at a racking, and why.
+#[no_mangle]
+pub extern "C" fn knitout_tie(racking: i8, first: &[u8], second: &[u8]) -> tie::Tied
+    ensures { λ t. ⌜ t ≡ tieOf racking (now (first .entry)) (now (second .entry)) ⌝ }
+{
+    tie::tie(racking, first, second)
 }
 
 // Makes the step of the first record of a slice on a lent state: number, whether the state it leaves is the empty one at its

@@ -33,6 +33,7 @@ use Rattle.pieces.specs.Houses.{houses, firsts}
 use Rattle.pieces.specs.Pieces.{Says, Holds, front, rewritten, ordered, Leaves, Rewrites, Orders, Firsts, inForce, Ties, PiecesHold}
 use Rattle.pieces.proofs.Orders.{orders}
 use Rattle.pieces.proofs.Steps.{walks-so, steps-so, pieces-so, racks-so}
+use Rattle.pieces.proofs.Ties.{tied-so}
 
 -- the test that is computed, and that it says so
 sameBool : Bool → Bool → Bool
@@ -188,4 +189,5 @@ pieces =
       steps-so,
       pieces-so,
       racks-so,
+      tied-so,
     )

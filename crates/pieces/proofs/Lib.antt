@@ -1,4 +1,5 @@
 -- The proof of the pieces.
 pub mod Orders
 pub mod Steps
+pub mod Ties
 pub mod Computed

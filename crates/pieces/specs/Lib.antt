@@ -6,4 +6,5 @@ pub mod Orders
 pub mod Houses
 pub mod Steps
 pub mod Racks
+pub mod Ties
 pub mod Pieces

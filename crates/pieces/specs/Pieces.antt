@@ -20,6 +20,7 @@ use Rattle.pieces.specs.Orders.{OrdersHold}
 use Rattle.pieces.specs.Houses.{houses, firsts}
 use Rattle.pieces.specs.Steps.{walks, WalksSo, steps, Shows, pieces, StepsSo}
 use Rattle.pieces.specs.Racks.{racks, RacksSo}
+use Rattle.pieces.specs.Ties.{tied-rows, TiedSo}
 
 -- an answer is as expected
 pub record Says (a : Answer) (e : Expected) : Type 0 where
@@ -76,4 +77,4 @@ pub record Ties (r : Pair) : Type 0 where
 abbrev pub PiecesHold : Type 0
 PiecesHold =
     Each Holds rows × Each Rewrites swaps × Each Ties pairs × Each Ties edges × (length edges ≡ 6308) × OrdersHold × Each Orders houses × Each Firsts firsts
-    × Each WalksSo walks × Each Shows steps × Each StepsSo pieces × Each RacksSo racks
+    × Each WalksSo walks × Each Shows steps × Each StepsSo pieces × Each RacksSo racks × Each TiedSo tied-rows

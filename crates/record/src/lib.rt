@@ -3,7 +3,7 @@ ghost use mathlib.Core.Path.{_≡_};
 ghost use Prim.Native.Nat.{_≤_, _<_};
 ghost use lib.ListN.{length, getD};
 ghost use Rattle.record.specs.Kinds.{RACK, DROP, XFER, IN, PLATED-KNIT, sizeOf, carriersNamed};
-ghost use Rattle.record.specs.Format.{signedOf, needleOk, carrierNumberOk, workOk, blankRecord, byte, refusedAs, readOf, decodeOf};
+ghost use Rattle.record.specs.Format.{signedOf, needleOk, carrierNumberOk, workOk, blankRecord, byte, fieldsOk, refusedAs, readOf, decodeOf};
 ghost use Rattle.record.specs.Names.{outlineOf};
 use machine::Needle;
 use machine::Racking;
@@ -302,4 +302,82 @@ pub fn outline(l: &[u8]) -> Record
         x.second = byte(l, 5);
     }
     x
+}
+
+// Whether the fields of a drop or an xfer are in range.
+fn bare_ok(kind: u8, l: &[u8]) -> bool
+    requires { ⌜ (byte (now l) 0 ≡ kind) × (DROP ≤ kind) × (kind ≤ XFER) × (sizeOf kind ≤ length (now l)) ⌝ }
+    ensures { λ b. ⌜ b ≡ fieldsOk (now (l .entry)) ⌝ }
+{
+    let bed = byte(l, 1);
+    let n = byte(l, 2);
+    if !needle_ok(bed, n) {
+        return false;
+    }
+    if kind == DROP {
+        return true;
+    }
+    byte(l, 3) <= State::NEEDLE_MOST
+}
+
+// Whether the fields of a record with a carrier are in range.
+fn carried_ok(kind: u8, l: &[u8]) -> bool
+    requires { ⌜ (byte (now l) 0 ≡ kind) × (IN ≤ kind) × (kind ≤ PLATED-KNIT) × (sizeOf kind ≤ length (now l)) ⌝ }
+    ensures { λ b. ⌜ b ≡ fieldsOk (now (l .entry)) ⌝ }
+{
+    let right = byte(l, 1);
+    let bed = byte(l, 2);
+    let n = byte(l, 3);
+    let k = byte(l, 4);
+    if !work_ok(right, bed, n, k) {
+        return false;
+    }
+    match kind {
+        SPLIT => byte(l, 5) <= State::NEEDLE_MOST,
+        PLATED_TUCK..=PLATED_KNIT => carrier_ok(byte(l, 5)),
+        _ => true,
+    }
+}
+
+// Whether the racking of a rack is in range.
+fn rack_ok(l: &[u8]) -> bool
+    requires { ⌜ (byte (now l) 0 ≡ RACK) × (sizeOf RACK ≤ length (now l)) ⌝ }
+    ensures { λ b. ⌜ b ≡ fieldsOk (now (l .entry)) ⌝ }
+{
+    let racking = Racking(signed(byte(l, 1)));
+    racking.in_range()
+}
+
+// Whether the fields of a record of a known kind, whose bytes are all there, are in range.
+fn fields_ok(kind: u8, l: &[u8]) -> bool
+    requires { ⌜ (byte (now l) 0 ≡ kind) × (sizeOf kind ≡ 0 → ⊥) × (sizeOf kind ≤ length (now l)) ⌝ }
+    ensures { λ b. ⌜ b ≡ fieldsOk (now (l .entry)) ⌝ }
+{
+    match kind {
+        RACK => rack_ok(l),
+        DROP..=XFER => bare_ok(kind, l),
+        _ => carried_ok(kind, l),
+    }
+}
+
+// Why a slice does not begin with a record: decode's number alone, for a caller that needs no more than the outline. (A
+// second caller would take decode out of the run's loop.)
+pub fn refusal(l: &[u8]) -> u8
+    ensures { λ n. ⌜ n ≡ decodeOf (now (l .entry)) .number ⌝ }
+{
+    if l.len() == 0 {
+        return CUT_SHORT;
+    }
+    let kind = byte(l, 0);
+    let size = size_of(kind);
+    if size == 0 {
+        return UNKNOWN_KIND;
+    }
+    if l.len() < size {
+        return CUT_SHORT;
+    }
+    if fields_ok(kind, l) {
+        return 0;
+    }
+    FIELD_RANGE
 }

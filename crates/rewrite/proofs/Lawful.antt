@@ -39,7 +39,7 @@ use Rattle.rewrite.proofs.Footprints.{CarriersHigh, footprint, some-lay
 use Rattle.rewrite.proofs.Commute.{needle-eq, number-settled, racking-applied, untied-commute}
 
 -- ---- extents
-meets-exactly : (r : Racking) (x y : Record) → CarriersHigh x → CarriersHigh y → (meets (extentOf r x) (extentOf r y) ≡ true) ↔ Share (extentOf r x) (extentOf r y)
+pub meets-exactly : (r : Racking) (x y : Record) → CarriersHigh x → CarriersHigh y → (meets (extentOf r x) (extentOf r y) ≡ true) ↔ Share (extentOf r x) (extentOf r y)
 meets-exactly r x y g h =
     let (k, p) = some-layer (footprint r x g) in let (m, q) = some-layer (footprint r y h) in (
       meets-share (extentOf r x) (extentOf r y) (halfColumn (x .at) r) (halfColumn (y .at) r) k m p q,

@@ -37,7 +37,7 @@ le-next a = le-of a (a +ℤ pos 1) (omega (arith, sum a (pos 1)))
 pub le-before : (a : ℤ) → leZ (a -ℤ pos 1) a ≡ true
 le-before a = le-of (a -ℤ pos 1) a (omega (arith, difference a (pos 1)))
 
-le-other : (a b : ℤ) → leZ a b ≡ false → leZ b a ≡ true
+pub le-other : (a b : ℤ) → leZ a b ≡ false → leZ b a ≡ true
 le-other (pos a) (pos b) e = le-leb b a (omega (arith, leb-false a b e))
 le-other (pos a) (negsuc b) e = refl
 le-other (negsuc a) (pos b) e = absurd (true≢false e)

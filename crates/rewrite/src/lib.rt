@@ -163,7 +163,7 @@ impl Extent {
 }
 
 // Whether the record names the carrier.
-fn names(x: Record, k: u8) -> bool
+pub fn names(x: Record, k: u8) -> bool
     ensures { λ b. ⌜ b ≡ member k (carriersOf x) ⌝ }
 {
     match record::carriers_named(x.kind) {
