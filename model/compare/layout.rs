@@ -2,6 +2,7 @@
 
 use crate::machine::*;
 use crate::raw_state::*;
+use crate::tie::Tied;
 use std::mem::{align_of, offset_of, size_of};
 
 pub const CARRIER_BYTES: usize = 8;
@@ -34,6 +35,15 @@ const _: () = assert!(size_of::<Stepped>() == 2 * size_of::<usize>());
 const _: () = assert!(offset_of!(Stepped, number) == 0);
 const _: () = assert!(offset_of!(Stepped, complete) == 1);
 const _: () = assert!(offset_of!(Stepped, length) == size_of::<usize>());
+const _: () = assert!(size_of::<Tied>() == 16);
+const _: () = assert!(align_of::<Tied>() == 4);
+const _: () = assert!(offset_of!(Tied, left) == 0);
+const _: () = assert!(offset_of!(Tied, right) == 4);
+const _: () = assert!(offset_of!(Tied, number) == 8);
+const _: () = assert!(offset_of!(Tied, by) == 9);
+const _: () = assert!(offset_of!(Tied, carrier) == 10);
+const _: () = assert!(offset_of!(Tied, low) == 11);
+const _: () = assert!(offset_of!(Tied, high) == 12);
 
 // Bytes.
 

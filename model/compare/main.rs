@@ -1,4 +1,4 @@
-//! Compares the linked library with the model, by a seed: run, rewriter, house order, panel.
+//! Compares the linked library with the model, by a seed: run, rewriter, house order, panel, ties.
 
 mod calls;
 mod complete_coverage;
@@ -28,6 +28,9 @@ mod swap_classes;
 mod swap_coverage;
 mod swap_groups;
 mod swaps;
+mod tie_calls;
+mod tie_coverage;
+mod tie_groups;
 
 use calls::Rewriter;
 use coverage::Coverage;
@@ -37,11 +40,13 @@ use lend::Lent;
 use limit_coverage::{is_bad, Raised, CALL_LIMITS};
 use machine::{Answer, DONE, HOOK_LIMIT, LIMITS};
 use model::{
-    history, machine, order, order_pieces, panel, panel_pieces, pieces, raw_state, rewrite, walk,
+    history, machine, order, order_pieces, panel, panel_pieces, pieces, raw_state, rewrite, tie,
+    tie_pieces, walk,
 };
 use order_calls::Orderer;
 use panel_calls::Panel;
 use std::process::exit;
+use tie_calls::Ties;
 
 const DEFAULT_SEED: u64 = 20_230_726;
 const ROUNDS: usize = 240;
@@ -264,7 +269,8 @@ fn main() {
     let rewriter = rewriter_calls(seed);
     let orderer = order_calls(seed);
     let panel = panel_services(seed);
-    let covered = covered(&comparison, &rewriter, &orderer, &panel);
+    let ties = ties_asked(seed);
+    let covered = covered(&comparison, &rewriter, &orderer, &panel, &ties);
     let few_calls = rewriter.calls.min(orderer.calls) < LEAST_CALLS;
     let few = comparison.programs < LEAST_PROGRAMS || few_calls;
     if !covered || few || rewriter.changed_chains == 0 {
@@ -277,17 +283,25 @@ fn main() {
 }
 
 /// Whether all counts are what they should be; tells those that are not.
-fn covered(comparison: &Comparison, rewriter: &Rewriter, orderer: &Orderer, panel: &Panel) -> bool {
+fn covered(
+    comparison: &Comparison,
+    rewriter: &Rewriter,
+    orderer: &Orderer,
+    panel: &Panel,
+    ties: &Ties,
+) -> bool {
     let mut missing = comparison.coverage.missing();
     missing.extend(comparison.raised.missing());
     missing.extend(rewriter.coverage.missing());
     missing.extend(rewriter.other_limits.missing());
     missing.extend(orderer.coverage.missing());
     missing.extend(panel.coverage.missing());
+    missing.extend(ties.coverage.missing());
     let mut impossible = comparison.coverage.impossible();
     impossible.extend(rewriter.coverage.impossible());
     impossible.extend(orderer.coverage.impossible());
     impossible.extend(panel.coverage.impossible());
+    impossible.extend(ties.coverage.impossible());
     for name in &missing {
         println!("never came: {name}");
     }
@@ -390,4 +404,18 @@ fn panel_services(seed: u64) -> Panel {
     panel_groups::compare(&mut panel, seed);
     panel.coverage.print();
     panel
+}
+
+/// Compares ties and tells the counts.
+fn ties_asked(seed: u64) -> Ties {
+    let mut ties = Ties::new(seed);
+    tie_groups::compare(&mut ties, seed);
+    println!(
+        "tie: {} pairs agree, interface {}; {}",
+        ties.calls,
+        tie_calls::interface(),
+        by_number(&ties.coverage.numbers)
+    );
+    ties.coverage.print();
+    ties
 }

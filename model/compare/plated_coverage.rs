@@ -161,14 +161,14 @@ impl PlatedCoverage {
 }
 
 /// Names of classes with their counts.
-type Classes = Vec<(String, u64)>;
+pub type Classes = Vec<(String, u64)>;
 
-fn never(of: &str, classes: Classes) -> Vec<String> {
+pub fn never(of: &str, classes: Classes) -> Vec<String> {
     let zero = classes.into_iter().filter(|(_, count)| *count == 0);
     zero.map(|(class, _)| format!("{of}, {class}")).collect()
 }
 
-fn print_classes(of: &str, classes: Classes) {
+pub fn print_classes(of: &str, classes: Classes) {
     let least = classes.iter().map(|(_, count)| *count).min();
     let (all, least) = (classes.len(), least.unwrap_or(0));
     println!("{of}; {all} classes, least {least}");

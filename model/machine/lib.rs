@@ -10,4 +10,6 @@ pub mod pieces;
 pub mod raw_state;
 pub mod rewrite;
 pub mod stretch_pieces;
+pub mod tie;
+pub mod tie_pieces;
 pub mod walk;
