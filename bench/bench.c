@@ -18,7 +18,8 @@ typedef int (*treatment)(const struct group *g, int i, const struct about *about
 static const char *const version_names[VERSIONS] = { "nothing", "library", "plain" };
 static unsigned long repetitions;
 
-const struct group *const groups[GROUPS] = { &run_group, &rewrite_group, &order_group, &step_group, &carriers_group };
+const struct group *const groups[GROUPS] = { &run_group, &rewrite_group, &order_group, &tie_group, &step_group,
+                                             &carriers_group };
 
 static int usage(void)
 {

@@ -25,11 +25,11 @@ struct group {
     int (*checks)(void);  /* the same on further inputs; the one built is lost */
 };
 
-enum { GROUPS = 5 };
+enum { GROUPS = 6 };
 
-extern const struct group run_group, rewrite_group, order_group, step_group, carriers_group;
+extern const struct group run_group, rewrite_group, order_group, tie_group, step_group, carriers_group;
 
-/* The five above. */
+/* The six above. */
 extern const struct group *const groups[GROUPS];
 
 /* Prints the stack of each entry: the most over all its inputs. */
