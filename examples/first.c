@@ -1,22 +1,28 @@
 /* The first program of README.md: rewrites a program by a log, steps the output and lists the carriers. */
 #include <stdio.h>
 #include "banthewig.h"
+#include "banthewig_words.h"
 
-/* carriers 3 and 4 come in and knit on opposite needles; the log swaps the two knits, records 2 and 3 */
-static const uint8_t program[] = {4, 1, 0, 10, 3,  4, 1, 1, 10, 4,  8, 1, 0, 10, 3,  8, 1, 1, 10, 4};
-static const uint8_t swaps[] = {0x40, 0, 2};
+/* carriers 3 and 4 come in and knit on opposite needles, f.10 and b.10 */
+static const uint8_t program[] = {
+    KNITOUT_IN,   KNITOUT_TO_RIGHT, KNITOUT_FRONT, 10, 3,
+    KNITOUT_IN,   KNITOUT_TO_RIGHT, KNITOUT_BACK,  10, 4,
+    KNITOUT_KNIT, KNITOUT_TO_RIGHT, KNITOUT_FRONT, 10, 3,
+    KNITOUT_KNIT, KNITOUT_TO_RIGHT, KNITOUT_BACK,  10, 4,
+};
+static const uint8_t swaps[] = {KNITOUT_SWAP, 0, 2}; /* the two knits, records 2 and 3 */
 
-static uint8_t output[KNITOUT_PROGRAM_MOST]; /* enough for every program */
-static uint16_t work[KNITOUT_PROGRAM_MOST / 2];
+static uint8_t output[KNITOUT_PROGRAM_MOST]; /* enough for every program, as is work */
+static uint16_t work[KNITOUT_WORK_MOST];
 static struct knitout_state panel = KNITOUT_EMPTY(KNITOUT_LIMIT_MOST); /* empty; a hook holds 8 loops */
 static struct knitout_carrier list[KNITOUT_CARRIERS];
 
 int main(void)
 {
     uint64_t answer = knitout_rewrite(program, sizeof program, swaps, sizeof swaps, output, sizeof output,
-                                      work, sizeof work / sizeof *work);
+                                      work, KNITOUT_WORK_MOST);
     if (KNITOUT_NUMBER(answer) != KNITOUT_DONE) {
-        printf("refused: %u at %u\n", KNITOUT_NUMBER(answer), KNITOUT_PLACE(answer));
+        printf("refused: %s at %u\n", knitout_word(KNITOUT_NUMBER(answer)), KNITOUT_PLACE(answer));
         return 1;
     }
     for (size_t place = 0; place < sizeof program;) { /* the output is as long as the program */

@@ -1,17 +1,9 @@
 /* Runs the knitout program of a file at limit 8 and prints the answer: knitrun FILE. A file that can't be read counts as an
    empty program, as in document 01's listing. */
 #include "banthewig.h"
+#include "banthewig_words.h"
 
 #include <stdio.h>
-
-/* The words of document 01's table, and of document 02 behind them, for the numbers that a run may give. */
-static const char *word(unsigned number)
-{
-    static const char *const words[] = {"done", "too long", "no bench", "strange", "cut short", "field",
-                                        "already in", "not in", "elsewhere", "float", "not opposite", "hook full",
-                                        [KNITOUT_YARN_TWICE] = "one yarn twice", [KNITOUT_STRETCHED] = "stretched"};
-    return number < sizeof words / sizeof *words && words[number] ? words[number] : "?";
-}
 
 int main(int count, char **names)
 {
@@ -29,6 +21,8 @@ int main(int count, char **names)
         fclose(file);
     }
     uint64_t answer = knitout_run(program, length);
-    printf("%s: %u %u %s\n", names[1], KNITOUT_NUMBER(answer), KNITOUT_PLACE(answer), word(KNITOUT_NUMBER(answer)));
+    unsigned number = KNITOUT_NUMBER(answer);
+
+    printf("%s: %u %u %s\n", names[1], number, KNITOUT_PLACE(answer), knitout_word(number));
     return 0;
 }

@@ -7,7 +7,7 @@
 /* Room for the longest file and one byte more, by which a longer one is known. */
 static uint8_t program[KNITOUT_PROGRAM_MOST + 1], log_bytes[KNITOUT_LOG_MOST + 1];
 static uint8_t output[KNITOUT_PROGRAM_MOST];
-static uint16_t work[KNITOUT_PROGRAM_MOST / 2];
+static uint16_t work[KNITOUT_WORK_MOST];
 
 static size_t load(const char *path, uint8_t *bytes, size_t most)
 {
@@ -30,7 +30,7 @@ int main(int count, char **names)
     size_t length = load(names[1], program, sizeof program);
     size_t log_length = load(names[2], log_bytes, sizeof log_bytes);
     uint64_t answer = knitout_rewrite(program, length, log_bytes, log_length, output, sizeof output,
-                                      work, sizeof work / sizeof *work);
+                                      work, KNITOUT_WORK_MOST);
     unsigned number = KNITOUT_NUMBER(answer);
 
     printf("%s: %u %u", names[2], number, KNITOUT_PLACE(answer));
