@@ -35,7 +35,7 @@ archive:
 
 $(LIB): $(SOURCES)
 	@echo "Proving the library's $(words $(PROVED)) crates ($(PROVED)) and writing $(LIB):"
-	@echo "about 2 to 3 minutes on two cores, with nothing to see meanwhile. Once it is built, this is not done again."
+	@echo "about 3 minutes on two cores, with nothing to see meanwhile. Once it is built, this is not done again."
 	@$(MAKE) --no-print-directory archive
 
 # The library against the Rust model. The model is a crate of its own, so that it cannot name the comparison.
