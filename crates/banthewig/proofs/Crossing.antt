@@ -75,15 +75,15 @@ served-laid = record { size-is = refl; align-is = refl }
 pub served-fields : FieldAt served.mir 0 (tyInt w8) 0 × FieldAt served.mir 1 (tyInt w64) 8
 served-fields = (refl, refl)
 
--- the step's: number, complete, length
+-- the step's: number, complete, looked, length
 pub stepped-laid : Laid stepped.mir 16 8
 stepped-laid = record { size-is = refl; align-is = refl }
 
-pub stepped-fields : FieldAt stepped.mir 0 (tyInt w8) 0 × FieldAt stepped.mir 1 (tyInt w8) 1 × FieldAt stepped.mir 2 (tyInt w64) 8
-stepped-fields = (refl, refl, refl)
+pub stepped-fields : FieldAt stepped.mir 0 (tyInt w8) 0 × FieldAt stepped.mir 1 (tyInt w8) 1 × FieldAt stepped.mir 2 (tyInt w16) 2 × FieldAt stepped.mir 3 (tyInt w64) 8
+stepped-fields = (refl, refl, refl, refl)
 
 -- which of the two bytes is which
-pub stepped-order : (a : Stepped) → LL.val Answer.the-type stepped.the-laws a ≡ vstruct (ofList (vint w8 (a .number) ∷ vint w8 (a .complete) ∷ vint w64 (a .length) ∷ []))
+pub stepped-order : (a : Stepped) → LL.val Answer.the-type stepped.the-laws a ≡ vstruct (ofList (vint w8 (a .number) ∷ vint w8 (a .complete) ∷ vint w16 (a .looked) ∷ vint w64 (a .length) ∷ []))
 stepped-order a = refl
 
 -- what ties two records: left, right, number, by, carrier, low, high

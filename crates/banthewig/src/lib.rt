@@ -13,10 +13,10 @@ ghost use Rattle.banthewig.specs.Entries.{packed};
 // The interface's number, in its name too: include/banthewig.h refers to it by name, so that a header and an archive of
 // different numbers do not link.
 #[no_mangle]
-pub extern "C" fn knitout_interface_1() -> u32
-    ensures { λ n. ⌜ n ≡ 1 ⌝ }
+pub extern "C" fn knitout_interface_2() -> u32
+    ensures { λ n. ⌜ n ≡ 2 ⌝ }
 {
-    1
+    2
 }
 
 // Number and place in one word.
@@ -113,11 +113,12 @@ pub extern "C" fn knitout_tie(racking: i8, first: &[u8], second: &[u8]) -> tie::
 }
 
 // Makes the step of the first record of a slice on a lent state: number, whether the state it leaves is the empty one at its
-// limit (1 or 0; 0 after 15), and the record's length. A refused call stores nothing.
+// limit (1 or 0; 0 after 15), the hooks that were looked at for it, and the record's length. A refused call stores nothing.
 #[no_mangle]
 pub extern "C" fn knitout_step(state: &mut machine::State, bytes: &[u8]) -> panel::Stepped
     ensures { λ r. ⌜ (r .number ≡ panelStep (now (state .entry)) (now (bytes .entry)) .number)
         × (r .complete ≡ panelStep (now (state .entry)) (now (bytes .entry)) .complete)
+        × (r .looked ≡ panelStep (now (state .entry)) (now (bytes .entry)) .looked)
         × (r .length ≡ panelStep (now (state .entry)) (now (bytes .entry)) .length)
         × (now (state .exit) ≡ panelStep (now (state .entry)) (now (bytes .entry)) .state) ⌝ }
 {
@@ -128,6 +129,7 @@ pub extern "C" fn knitout_step(state: &mut machine::State, bytes: &[u8]) -> pane
     panel::Stepped {
         number: out.number,
         complete: out.complete,
+        looked: out.looked,
         length: out.length,
     }
 }

@@ -13,7 +13,7 @@ use borrow.Author.Tests.{eq-eqb, eqb-true, not-false, lt-ltb, le-ltb, ltb-true, 
 use mir.Syntax.{w8, w16, w32}
 use mir.Val.{Fits, SFits, toZ, ofZ}
 use mir.Facts.{toZ-ofZ}
-use Rattle.machine.specs.declared.Column.{Column}
+use Rattle.machine.specs.declared.FarSlot.{FarSlot}
 use Rattle.machine.specs.declared.Racking.{Racking}
 use Rattle.machine.specs.declared.Carrier.{Carrier}
 use Rattle.machine.specs.Limits.{stretchMost}
@@ -95,7 +95,7 @@ unfolding distanceOf
 distance-exactly r c d = apart-by (attachmentSlot r c .0) (c .slot .0) d
 
 -- the distance, from the slot that code got
-pub distance-is : (r : Racking) (c : Carrier) (y : Column) → y .0 ≡ attachmentSlot r c .0 → natAbs (y .0 -ℤ c .slot .0) ≡ distanceOf r c
+pub distance-is : (r : Racking) (c : Carrier) (y : FarSlot) → y .0 ≡ attachmentSlot r c .0 → natAbs (y .0 -ℤ c .slot .0) ≡ distanceOf r c
 unfolding distanceOf
 distance-is r c y e = ap (λ (a : ℤ). natAbs (a -ℤ c .slot .0)) e
 

@@ -1,17 +1,21 @@
 -- The walk over the hooks: what it knows on its way, and that it answers as 02 says and in no other way. Assumes nothing.
-use Prim.Native.Nat.{ℕ, suc, _+_, _<_}
+use Prim.Native.Nat.{ℕ, suc, _+_, _≤_, _<_}
 use mathlib.Core.Path.{_≡_, refl, sym, ap, subst, _∙_}
-use mathlib.Core.Bool.{Bool, true, false}
+use mathlib.Core.Bool.{Bool, true, false, cond}
 use mathlib.Core.List.{List, [], _∷_, _++_}
 use native.Mathlib.Omega.{arith}
+use lib.IntN.{pos}
 use lib.ListN.{length, drop, getD}
 use lib.Seq.{drop-cons, drop-length}
 use lib.Dec.{eqb}
 use borrow.Author.Tests.{eq-eqb, ne-eqb, eqb-true, eqb-false}
 use borrow.Table.Steps.{cases}
 use Rattle.machine.specs.declared.Walked.{Walked}
+use Rattle.machine.specs.declared.Racking.{Racking}
+use Rattle.machine.specs.Geometry.{eqZ}
 use Rattle.machine.specs.Machine.{all, Each, noLoops}
-use Rattle.machine.specs.Walk.{Walks, lookedAt, walkOf, WalkExactly}
+use Rattle.machine.specs.Walk.{Walks, lookedAt, walkOf, hooksLooked, WalkExactly}
+use Rattle.machine.specs.Looks.{bedsWalk}
 
 walked-as : {a b : Bool} {n m : ℕ} → a ≡ b → n ≡ m → _≡_ {A = Walked} (record { none = a; looked = n }) (record { none = b; looked = m })
 walked-as e f = λ i. record { none = e i; looked = f i }
@@ -72,10 +76,29 @@ module _ (l : List ℕ) where
         let f : drop i l ≡ [] = ap (λ (k : ℕ). drop k l) h ∙ drop-length l in
         walked-as (sym (ran-out .0) ∙ ap noLoops (sym f) ∙ a .loops) (omega (arith, ran-out .1, ap lookedAt f, a .looks))
 
--- what the walk says of loops
-pub walk-none : (l : List ℕ) {w : Walked} → w ≡ walkOf l → w .none ≡ noLoops l
-unfolding walkOf
-walk-none l e = ap (λ (w : Walked). w .none) e
+-- a look at the beds: the racking settles it, or the walk does
+module _ (r : Racking) (l : List ℕ) where
+  pub beds-racked : eqZ (r .0) (pos 0) ≡ false → _≡_ {A = Walked} (record { none = false; looked = 0 }) (bedsWalk r l)
+  unfolding hooksLooked
+  beds-racked e = walked-as (sym (simp e)) (sym (simp e))
+
+  pub beds-walked : eqZ (r .0) (pos 0) ≡ true → walkOf l ≡ bedsWalk r l
+  unfolding hooksLooked walkOf
+  beds-walked e = walked-as (sym (simp e)) (sym (simp e))
+
+-- no more hooks than there are
+looked-most : (l : List ℕ) → lookedAt l ≤ length l
+looked-most [] = omega (arith, ran-out .1)
+looked-most (n ∷ l) =
+    cases (eqb n 0) (λ e. omega (arith, passed n l (eqb-true n 0 e) .1, looked-most l)) (λ e. omega (arith, stopped n l (eqb-false n 0 e) .1))
+
+pub beds-most : (r : Racking) (l : List ℕ) → hooksLooked r l ≤ length l
+unfolding hooksLooked
+beds-most r l = cond-most (eqZ (r .0) (pos 0))
+  where
+    cond-most : (t : Bool) → cond t (lookedAt l) 0 ≤ length l
+    cond-most true = looked-most l
+    cond-most false = omega arith
 
 -- ---- the statement
 one-more : (n : ℕ) {l : List ℕ} {w : Walked} → n ≡ 0 → Walks l w → Walks (n ∷ l) (record { none = w .none; looked = suc (w .looked) })

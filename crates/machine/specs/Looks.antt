@@ -8,18 +8,23 @@ use lib.Dec.{eqb, leb, ltb}
 use Rattle.machine.specs.declared.Needle.{Needle}
 use Rattle.machine.specs.declared.Racking.{Racking}
 use Rattle.machine.specs.declared.Carrier.{Carrier}
+use Rattle.machine.specs.declared.Walked.{Walked}
 use Rattle.machine.specs.Geometry.{eqZ}
 use Rattle.machine.specs.Machine.{all, noLoops, inactiveCarrier}
 use Rattle.machine.specs.Range.{slotOk, attachmentOk, carrierOk}
+use Rattle.machine.specs.Walk.{hooksLooked}
 use Rattle.machine.specs.Stretch.{distanceOf}
 
 -- the largest of a list, 0 of none: it is at most b exactly if every element is
 abbrev pub Most : List ℕ → ℕ → Type 0
 Most l m = (b : ℕ) → all (λ (n : ℕ). leb n b) l ≡ leb m b
 
--- whether racking and loops are an empty state's
+-- whether racking and loops are an empty state's; and the hooks looked at for it
 abbrev pub bedsEmpty : Racking → List ℕ → Bool
 bedsEmpty r l = eqZ (r .0) (pos 0) && noLoops l
+
+abbrev pub bedsWalk : Racking → List ℕ → Walked
+bedsWalk r l = record { none = bedsEmpty r l; looked = hooksLooked r l }
 
 -- a parked carrier's slot and attachment in range
 abbrev pub parkedOk : Carrier → Bool

@@ -11,7 +11,7 @@ ghost use Rattle.machine.specs.Walk.{walkOf};
 ghost use Rattle.machine.specs.Geometry.{columnOf, entryOf, exitOf, sameColumn, withinFloat};
 ghost use Rattle.machine.specs.Limits.{stretchMost};
 ghost use Rattle.machine.specs.Stretch.{slotBeside, distanceOf, anyStretched};
-ghost use Rattle.machine.specs.Looks.{Most, bedsEmpty, parkedOk, carrierPasses, anyBeside, anyBack, carriedOff};
+ghost use Rattle.machine.specs.Looks.{Most, bedsWalk, parkedOk, carrierPasses, anyBeside, anyBack, carriedOff};
 ghost use Rattle.machine.specs.Range.{rackingOk, limitOk, slotOk, onBed, attachmentOk, stateOk};
 
 // The numbers of refusals.
@@ -28,6 +28,9 @@ pub struct Column(pub i32);
 // A place between columns where a carrier parks: slot z lies just left of column z.
 #[repr(C)]
 pub struct Slot(pub i16);
+
+// A slot beside a needle, which may lie where no carrier parks: in a state with any values a needle has any number.
+struct FarSlot(i32);
 
 // How far the back bed is shifted to the right.
 #[repr(C)]
@@ -90,8 +93,10 @@ impl State {
     pub const LIMIT_LEAST: u8 = 1;
 
     pub const LIMIT_MOST: u8 = 8;
-    // bytes of a program, at most
+    // bytes of a program and of a log, at most
     pub const PROGRAM_MOST: usize = 32768;
+
+    pub const LOG_MOST: usize = 32768;
 
     // The empty state at a hook limit, where a run starts.
     pub fn empty(limit: u8) -> State
@@ -121,7 +126,8 @@ impl State {
         ensures { λ b. ⌜ b ≡ completeOf self ⌝ }
     {
         let r = self.racking;
-        if !beds_empty(r, &self.loops) {
+        let beds = look_at_beds(r, &self.loops);
+        if !beds.none {
             return false;
         }
         let cs = self.carriers;
@@ -168,15 +174,15 @@ impl Needle {
         }
     }
 
-    // The slot beside it on its right side (2) or its left (1), given by the column just right of that slot.
-    fn beside(self, r: Racking, side: u8) -> Column
+    // The slot beside it on its right side (2) or its left (1).
+    fn beside(self, r: Racking, side: u8) -> FarSlot
         ensures { λ y. ⌜ (y .0 ≡ slotBeside (columnOf self r) side .0) × (mag (y .0) < 66000) ⌝ }
     {
         let z = self.column(r);
         if 1 < side {
-            return Column(z.0 + 1);
+            return FarSlot(z.0 + 1);
         }
-        z
+        FarSlot(z.0)
     }
 
     // Where a carrier stands before it moves over the needle.
@@ -338,8 +344,8 @@ impl Carrier {
         self.is_inactive()
     }
 
-    // Whether a slot, given by the column just right of it, is too far from the slot where the carrier is parked.
-    fn far_from(self, y: Column) -> bool
+    // Whether a slot is too far from the one where the carrier is parked.
+    fn far_from(self, y: FarSlot) -> bool
         requires { ⌜ mag (y .0) < 66000 ⌝ }
         ensures { λ b. ⌜ b ≡ ltb stretchMost (natAbs (y .0 -ℤ self .slot .0)) ⌝ }
     {
@@ -447,15 +453,27 @@ fn loops_in_range(loops: &[u8], limit: u8) -> bool
     most_loops(loops) <= limit
 }
 
-// Whether the beds are an empty state's: racking 0 and no loop. (Whoever has a state in parts need not copy its loops.)
-pub fn beds_empty(racking: Racking, loops: &[u8]) -> bool
-    ensures { λ b. ⌜ b ≡ bedsEmpty racking (now (loops .entry)) ⌝ }
+// Whether the beds are an empty state's, racking 0 and no loop, and the hooks that were looked at for it: none if the racking
+// settles it. (Whoever has a state in parts need not copy its loops. The first hook is looked at by itself: mostly it settles
+// it, and the compiler looks at sixteen at a time in a walk.)
+pub fn look_at_beds(racking: Racking, loops: &[u8]) -> Walked
+    ensures { λ w. ⌜ w ≡ bedsWalk racking (now (loops .entry)) ⌝ }
 {
     if racking.0 != 0 {
-        return false;
+        return Walked {
+            none: false,
+            looked: 0,
+        };
     }
-    let w = walk(loops);
-    w.none
+    if 0 < loops.len() {
+        if loops[0] != 0 {
+            return Walked {
+                none: false,
+                looked: 1,
+            };
+        }
+    }
+    walk(loops)
 }
 
 // Whether every carrier passes the one test or the other: one walk for both.

@@ -60,7 +60,7 @@ range-rows =
 -- a refused step keeps the state and gives length 0
 module _ (s : State) (l : List ℕ) where
   pub step-keeps : (stepOf s l .number ≡ 0 → ⊥) → stepOf s l ≡ stay (stepOf s l .number) s
-  step-keeps d = let r = step-refused s l d in λ i. record { number = stepOf s l .number; complete = r .complete i; length = r .length i; state = r .state i }
+  step-keeps d = let r = step-refused s l d in λ i. record { number = stepOf s l .number; complete = r .complete i; looked = r .looked i; length = r .length i; state = r .state i }
 
   pub refused-keeps : (panelStep s l .number ≡ 0 → ⊥) → panelStep s l .state ≡ s
   refused-keeps d =

@@ -5,16 +5,22 @@ use mathlib.Core.Path.{_≡_, refl, sym, ap, subst, _∙_}
 use mathlib.Core.Bool.{true, false, true≢false}
 use mathlib.Core.List.{List}
 use native.Mathlib.Omega.{arith}
+use lib.IntN.{pos}
 use lib.Dec.{ltb}
 use lib.ListN.{length, getD, List·getD-append}
 use lib.Seq.{ext-getD}
 use borrow.Author.Tests.{ltb-true, ltb-false}
 use Rattle.machine.specs.declared.Carrier.{Carrier}
 use Rattle.machine.specs.declared.State.{State}
+use Rattle.machine.specs.declared.Walked.{Walked}
+use Rattle.machine.specs.Geometry.{eqZ}
 use Rattle.machine.specs.Machine.{inactive, completeOf}
 use Rattle.machine.specs.Range.{StateInRange, stateOk}
+use Rattle.machine.specs.Walk.{walkOf, hooksLooked}
 use Rattle.run.specs.declared.Stepped.{Stepped}
+use Rattle.machine.proofs.Signed.{eqZ-yes, eqZ-no, eqZ-true, eqZ-false}
 use Rattle.machine.proofs.Laws.{complete-exactly}
+use Rattle.machine.proofs.Walks.{walk-exactly}
 use Rattle.record.specs.declared.Record.{Record}
 use Rattle.run.specs.Relation.{Step}
 use Rattle.run.specs.Run.{oneIf, stay, stepOf}
@@ -24,7 +30,7 @@ use Rattle.record.proofs.Shapes.{is}
 use Rattle.run.proofs.Demand.{step-accepts, step-done, step-refused}
 use Rattle.panel.specs.declared.Served.{Served}
 use Rattle.panel.specs.Panel.{panelStep, listAnswer, carrierList}
-use Rattle.panel.specs.Exact.{Tells, Serves, StepExactly, Listed, Lists, ListExactly}
+use Rattle.panel.specs.Exact.{Tells, Looks, Serves, StepExactly, Listed, Lists, ListExactly}
 use Rattle.panel.proofs.Services.{foul-step, foul-list, short-list, long-list, list-number}
 use Rattle.panel.proofs.Filled.{list-long, list-kept, list-written, long-written, rest-written}
 use Rattle.panel.proofs.Demand.{fine, either, service-is-step, step-keeps}
@@ -48,6 +54,19 @@ module _ (t : State) (hooks : length (t .loops) ≡ 500) (ten : length (t .carri
   tells-one (Tells.complete e) = ap oneIf (complete-exactly t hooks ten .1 e)
   tells-one (Tells.incomplete d) = cases (completeOf t) (λ e. absurd (d (complete-exactly t hooks ten .0 e))) (λ e. ap oneIf e)
 
+-- and how many hooks were looked at for it
+looks : (t : State) → Looks t (hooksLooked (t .racking) (t .loops))
+unfolding hooksLooked walkOf
+looks t =
+    cases (eqZ (t .racking .0) (pos 0))
+    (λ e. rw e (Looks.walked (eqZ-true (t .racking .0) (pos 0) e) (walkOf (t .loops)) (walk-exactly (t .loops) (walkOf (t .loops)) .0 refl)))
+    (λ e. rw e (Looks.unwalked (eqZ-false (t .racking .0) (pos 0) e)))
+
+looks-one : (t : State) {k : ℕ} → Looks t k → hooksLooked (t .racking) (t .loops) ≡ k
+unfolding hooksLooked walkOf
+looks-one t (Looks.walked e w h) = simp (eqZ-yes (t .racking .0) (pos 0) e) (ap (λ (v : Walked). v .looked) (walk-exactly (t .loops) w .1 h))
+looks-one t (Looks.unwalked d) = simp (eqZ-no (t .racking .0) (pos 0) d)
+
 module _ (s : State) (l : List ℕ) (hooks : length (s .loops) ≡ 500) (ten : length (s .carriers) ≡ 10) where
   -- the state after a step has as many
   module _ {t : State} {x : Record} (step : Step s x t) where
@@ -66,20 +85,20 @@ module _ (s : State) (l : List ℕ) (hooks : length (s .loops) ≡ 500) (ten : l
           accepted : stepOf s l .number ≡ 0 → Serves s l (stepOf s l)
           accepted e =
               let (bytes, rest, x, t, whole, form, step) = step-accepts s l .0 e in
-              subst (Serves s l) (sym (ap (stepOf s) whole ∙ step-done s bytes rest x t form step)) (Serves.done h bytes rest x t whole form step _ (tells-after step))
+              subst (Serves s l) (sym (ap (stepOf s) whole ∙ step-done s bytes rest x t form step)) (Serves.done h bytes rest x t whole form step _ (tells-after step) _ (looks t))
 
           kept : (stepOf s l .number ≡ 0 → ⊥) → Serves s l (stepOf s l)
           kept d = let r = step-refused s l d in
-              subst (Serves s l) (sym (step-keeps s l d)) (Serves.refused h (r .no-step) (stepOf s l .number) (r .first) _ (tells s hooks ten))
+              subst (Serves s l) (sym (step-keeps s l d)) (Serves.refused h (r .no-step) (stepOf s l .number) (r .first) _ (tells s hooks ten) _ (looks s))
 
   serves-one : {a : Stepped} → Serves s l a → panelStep s l ≡ a
   serves-one (Serves.foul h) = sym (foul-step s l (not-ok h))
-  serves-one (Serves.done h bytes rest x t whole form step c told) =
+  serves-one (Serves.done h bytes rest x t whole form step c told k seen) =
       service-is-step s l h ∙ ap (stepOf s) whole ∙ step-done s bytes rest x t form step
-      ∙ ap (λ (n : ℕ). record { number = 0; complete = n; length = length bytes; state = t }) (after-one step told)
-  serves-one (Serves.refused h none n first c told) =
+      ∙ (λ i. record { number = 0; complete = after-one step told i; looked = looks-one t seen i; length = length bytes; state = t })
+  serves-one (Serves.refused h none n first c told k seen) =
       service-is-step s l h ∙ step-keeps s l refused ∙ ap (λ (m : ℕ). stay m s) (first-is-one (step-refused s l refused .first) first)
-      ∙ ap (λ (m : ℕ). record { number = n; complete = m; length = 0; state = s }) (tells-one s hooks ten told)
+      ∙ (λ i. record { number = n; complete = tells-one s hooks ten told i; looked = looks-one s seen i; length = 0; state = s })
     where
       refused : stepOf s l .number ≡ 0 → ⊥
       refused e = let (bytes, rest, x, t, whole, form, step) = step-accepts s l .0 e in none bytes rest x t whole form step

@@ -3,12 +3,15 @@ use Prim.Native.Nat.{ℕ, _-_, _≤_, _<_}
 use mathlib.Core.Path.{_≡_}
 use mathlib.Core.List.{List, _++_}
 use mathlib.Core.Logic.{_↔_}
+use lib.IntN.{pos}
 use lib.ListN.{length, getD}
 use Rattle.machine.specs.declared.Carrier.{Carrier}
+use Rattle.machine.specs.declared.Walked.{Walked}
 use Rattle.machine.specs.declared.State.{State}
 use Rattle.machine.specs.Limits.{hookCount, carrierCount}
 use Rattle.machine.specs.Machine.{emptyState, inactive, carrierOf}
 use Rattle.machine.specs.Range.{StateInRange}
+use Rattle.machine.specs.Walk.{Walks}
 use Rattle.record.specs.declared.Record.{Record}
 use Rattle.record.specs.Format.{Encodes}
 use Rattle.run.specs.declared.Stepped.{Stepped}
@@ -18,21 +21,28 @@ use Rattle.run.specs.Claims.{NoStep}
 use Rattle.panel.specs.declared.Served.{Served}
 use Rattle.panel.specs.Panel.{panelStep, listAnswer, carrierList}
 
--- ---- the one-record step: number, complete, the record's length, the lent state afterwards
+-- ---- the one-record step: number, complete, the hooks looked at, the record's length, the lent state afterwards
 -- 02, W4: complete 'for the state it leaves and that state's limit': 1 if that state is the empty one there, else 0
 pub data Tells (t : State) : ℕ → Type 0 where
   complete : t ≡ emptyState (t .limit) → Tells t 1
   incomplete : (t ≡ emptyState (t .limit) → ⊥) → Tells t 0
 
+-- 'the walk (front first, upward) should end at the first loop found and also answer how many hooks it looked at': it is made where the racking is 0, since
+-- another one settles the matter
+pub data Looks (t : State) : ℕ → Type 0 where
+  walked : t .racking .0 ≡ pos 0 → (w : Walked) → Walks (t .loops) w → Looks t (w .looked)
+  unwalked : (t .racking .0 ≡ pos 0 → ⊥) → Looks t 0
+
 -- 01: '15 is looked at first, then 3 to 11', 02: 16 and 17 'after 5'; refused, it leaves its loan untouched and gives length 0; 'no after 15'
 pub data Serves (s : State) (l : List ℕ) : Stepped → Type 0 where
   -- a foul state, whatever the bytes
-  foul : (StateInRange s → ⊥) → Serves s l (record { number = 15; complete = 0; length = 0; state = s })
+  foul : (StateInRange s → ⊥) → Serves s l (record { number = 15; complete = 0; looked = 0; length = 0; state = s })
   -- the bytes begin with a record that has a step
-  done : StateInRange s → (bytes rest : List ℕ) (x : Record) (t : State) → l ≡ bytes ++ rest → Encodes bytes x → Step s x t → (c : ℕ) → Tells t c
-      → Serves s l (record { number = 0; complete = c; length = length bytes; state = t })
+  done : StateInRange s → (bytes rest : List ℕ) (x : Record) (t : State) → l ≡ bytes ++ rest → Encodes bytes x → Step s x t → (c : ℕ) → Tells t c → (k : ℕ) → Looks t k
+      → Serves s l (record { number = 0; complete = c; looked = k; length = length bytes; state = t })
   -- they do not: the first reason
-  refused : StateInRange s → NoStep s l → (n : ℕ) → First n s l → (c : ℕ) → Tells s c → Serves s l (record { number = n; complete = c; length = 0; state = s })
+  refused : StateInRange s → NoStep s l → (n : ℕ) → First n s l → (c : ℕ) → Tells s c → (k : ℕ) → Looks s k
+      → Serves s l (record { number = n; complete = c; looked = k; length = 0; state = s })
 
 -- (every state in memory has 500 hooks and ten carriers: `state-lengths` of crate banthewig; the definitions take lists of any length, and call shorter ones of
 -- nothing but 0 complete too)

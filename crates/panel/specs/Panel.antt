@@ -12,9 +12,9 @@ use Rattle.run.specs.Run.{stepOf}
 use Rattle.panel.specs.declared.Served.{Served}
 
 -- ---- the one-record step
--- a foul state is kept, and not complete whatever its values (02, W4: 'no after 15')
+-- a foul state is kept, and not complete whatever its values (02, W4: 'no after 15'); its hooks are not walked over
 abbrev pub fouled : State → Stepped
-fouled s = record { number = 15; complete = 0; length = 0; state = s }
+fouled s = record { number = 15; complete = 0; looked = 0; length = 0; state = s }
 
 -- 15 (foul state) is looked at first, then 3 to 11, 16 and 17 by the step that the run makes; a refused call keeps the state
 unfoldable pub panelStep : State → List ℕ → Stepped

@@ -17,11 +17,12 @@ pub struct Served {
 }
 
 // What the step gives besides the loan: a number, whether the state that it leaves is the empty one (1 or 0; 0 after 15),
-// and the record's length (0 if refused).
+// the hooks that were looked at for it, and the record's length (0 if refused).
 #[repr(C)]
 pub struct Stepped {
     pub number: u8,
     pub complete: u8,
+    pub looked: u16,
     pub length: usize,
 }
 
@@ -33,6 +34,7 @@ pub fn step(state: State, bytes: &[u8]) -> run::Stepped
         return run::Stepped {
             number: BAD_STATE,
             complete: 0,
+            looked: 0,
             length: 0,
             state,
         };

@@ -356,7 +356,9 @@ fn fields_ok(kind: u8, l: &[u8]) -> bool
     match kind {
         RACK => rack_ok(l),
         DROP..=XFER => bare_ok(kind, l),
-        _ => carried_ok(kind, l),
+        IN..=PLATED_KNIT => carried_ok(kind, l),
+        // it is known to be one of these
+        _ => false,
     }
 }
 

@@ -128,7 +128,7 @@ module _ {limit : ℕ} {p : List ℕ} {t : State} (v : Valid limit p t) (c : Cal
       go (Rewrites.no-bench b h k) e = away _ e (TurnedAs.no-bench b h k refl) refl refl
       go (Rewrites.not-valid {a = a} b l f k) e =
           let r = ap (λ (n : Answer). n .number) (run-exactly (c .limit) p a .1 (Answers.refused b (l .short) f k)) in
-          ⊎-elim (λ z. absurd (reason-other (f .first .reason) 0 refl (sym r ∙ z))) (λ (z, less). away _ e (TurnedAs.hook-full b less (sym r ∙ z)) refl refl)
+          ⊎-elim (λ z. absurd (reason-other (f .first .reason) 0 refl (sym r ∙ z))) (λ (z, less). away _ e (TurnedAs.hook-full b l less (sym r ∙ z)) refl refl)
           (at-another-limit limit (c .limit) p t v b)
       go (Rewrites.gone-through f) e = absurd (reads f)
       go (Rewrites.torn f k) e = absurd (reads f)

@@ -24,13 +24,13 @@ use Rattle.record.proofs.Shapes.{Known, Named, Count, none, one, two, named, ho
 use Rattle.record.proofs.Ranges.{InRange}
 use Rattle.record.proofs.Shapes.{cond-cases}
 use Rattle.rewrite.specs.declared.Extent.{Extent}
-use Rattle.rewrite.specs.Extents.{halfColumn, layerOf, narrow, broad, smaller, greater, formExtent, extentOf, Covers, Share, meets, member, common, shareCarrier}
+use Rattle.rewrite.specs.Extents.{halfColumn, layerOf, narrow, broad, smaller, greater, formExtent, extentOf, Within, meets, member, common, shareCarrier}
 use Rattle.rewrite.proofs.Edits.{Away, Apart}
 use Rattle.rewrite.proofs.Signed.{le-trans, le-self, le-next, le-before, later, higher}
 
 -- ---- extents that meet
 -- extents that cover one point meet
-pub share-meets : (a b : Extent) (h : ℤ) (layer : ℕ) → Covers a h layer → Covers b h layer → meets a b ≡ true
+pub share-meets : (a b : Extent) (h : ℤ) (layer : ℕ) → Within a h layer → Within b h layer → meets a b ≡ true
 unfolding meets
 share-meets a b h layer p q =
     simp (
@@ -41,7 +41,7 @@ share-meets a b h layer p q =
     )
 
 -- extents that meet, each with a point that it covers, cover one point: the later left end, on the higher of the lowest layers
-pub meets-share : (a b : Extent) (h i : ℤ) (k m : ℕ) → Covers a h k → Covers b i m → meets a b ≡ true → Share a b
+pub meets-share : (a b : Extent) (h i : ℤ) (k m : ℕ) → Within a h k → Within b i m → meets a b ≡ true → (z : ℤ) × (layer : ℕ) × Within a z layer × Within b z layer
 unfolding meets
 meets-share a b h i k m p q e =
     let (columns, layers) = and-two (leZ (a .left) (b .right) && leZ (b .left) (a .right)) (leb (a .low) (b .high) && leb (b .low) (a .high)) e in
@@ -104,10 +104,10 @@ module _ (r : Racking) (x : Record) (h : CarriersHigh x) where
             ne-eqb k 11 (λ e. d (Known.plated-knit e)),
           ) rack
 
-on-narrow : (h : ℤ) {low high layer : ℕ} → low ≤ layer → layer ≤ high → Covers (narrow h low high) h layer
+on-narrow : (h : ℤ) {low high layer : ℕ} → low ≤ layer → layer ≤ high → Within (narrow h low high) h layer
 on-narrow h a b = record { left = le-self h; right = le-self h; low = a; high = b }
 
-on-broad : (h : ℤ) {low high layer : ℕ} → low ≤ layer → layer ≤ high → Covers (broad h low high) h layer
+on-broad : (h : ℤ) {low high layer : ℕ} → low ≤ layer → layer ≤ high → Within (broad h low high) h layer
 on-broad h a b = record { left = le-before h; right = le-next h; low = a; high = b }
 
 layer-high : (n : Needle) → layerOf n ≤ 11
@@ -115,13 +115,13 @@ unfolding layerOf
 layer-high n = cond-cases (λ (m : ℕ). m ≤ 11) (eqb (n .0) 0) (λ e. omega arith) (λ e. omega arith)
 
 -- a tuck or knit, plain or plated, covers its needle's bed
-on-form : (h : ℤ) (n : Needle) (low high : ℕ) → low ≤ carrierCount → Covers (formExtent h n low high) h (layerOf n)
+on-form : (h : ℤ) (n : Needle) (low high : ℕ) → low ≤ carrierCount → Within (formExtent h n low high) h (layerOf n)
 unfolding layerOf
 on-form h n low high le = cases (eqb (n .0) 0) (λ e. simp e (on-broad h (omega arith) (omega arith))) (λ e. simp e (on-broad h (omega arith) (omega arith)))
 
 module _ {h : ℤ} {n : Needle} {k : ℕ} where
   -- every extent covers something
-  pub some-layer : {m : ℕ} {e : Extent} → Footprint h n k m e → (layer : ℕ) × Covers e h layer
+  pub some-layer : {m : ℕ} {e : Extent} → Footprint h n k m e → (layer : ℕ) × Within e h layer
   some-layer rack = (0, on-broad h (omega arith) (omega arith))
   some-layer drop = (layerOf n, on-narrow h (omega arith) (omega arith))
   some-layer xfer = (0, on-narrow h (omega arith) (omega arith))
@@ -130,7 +130,7 @@ module _ {h : ℤ} {n : Needle} {k : ℕ} where
   some-layer split = (0, on-broad h (omega arith) (omega arith))
 
   -- that of a record which works a hook covers its first needle; that of one which works two covers both beds
-  first-covered : {m : ℕ} {e : Extent} → Footprint h n k m e → 1 ≤ m → Covers e h (layerOf n)
+  first-covered : {m : ℕ} {e : Extent} → Footprint h n k m e → 1 ≤ m → Within e h (layerOf n)
   first-covered rack t = absurd (omega arith)
   first-covered drop t = on-narrow h (omega arith) (omega arith)
   first-covered xfer t = on-narrow h (omega arith) (layer-high n)
@@ -138,7 +138,7 @@ module _ {h : ℤ} {n : Needle} {k : ℕ} where
   first-covered (form low high le) t = on-form h n low high le
   first-covered split t = on-broad h (omega arith) (layer-high n)
 
-  both-covered : {m : ℕ} {e : Extent} → Footprint h n k m e → m ≡ 2 → (layer : ℕ) → layer ≤ 11 → Covers e h layer
+  both-covered : {m : ℕ} {e : Extent} → Footprint h n k m e → m ≡ 2 → (layer : ℕ) → layer ≤ 11 → Within e h layer
   both-covered rack t layer le = absurd (omega arith)
   both-covered drop t layer le = absurd (omega arith)
   both-covered xfer t layer le = on-narrow h (omega arith) le
@@ -195,16 +195,16 @@ pub record Settled (r : Racking) (x : Record) : Type 0 where
 -- a needle inside an extent
 pub record Inside (r : Racking) (e : Extent) (n : Needle) : Type 0 where
   pub on-bed : OnBed n
-  covered : Covers e (halfColumn n r) (layerOf n)
+  covered : Within e (halfColumn n r) (layerOf n)
 
 module _ (r : Racking) (x : Record) (S : Settled r x) where
   abbrev print : Footprint (halfColumn (x .at) r) (x .at) (x .carrier) (hooksWorked (x .kind)) (extentOf r x)
   print = footprint r x (S .in-range .carrier-high, S .in-range .second-high)
 
-  to-covered : hooksWorked (x .kind) ≡ 2 → Covers (extentOf r x) (halfColumn (x .to) r) (layerOf (x .to))
+  to-covered : hooksWorked (x .kind) ≡ 2 → Within (extentOf r x) (halfColumn (x .to) r) (layerOf (x .to))
   unfolding halfColumn
   to-covered t =
-      subst (λ (z : Column). Covers (extentOf r x) (z .0 +ℤ z .0) (layerOf (x .to))) (S .opposite t)
+      subst (λ (z : Column). Within (extentOf r x) (z .0 +ℤ z .0) (layerOf (x .to))) (S .opposite t)
       (both-covered print t (layerOf (x .to)) (layer-high (x .to)))
 
   -- each needle that a settled record works lies inside its extent
@@ -228,7 +228,7 @@ one-needle n m p q e = let a = same-bed n m p q e in let b = same-number n m p q
 -- extents with one needle inside meet
 pub inside-meets : (r : Racking) (a b : Extent) (n m : Needle) → Inside r a n → Inside r b m → n ≡ m → meets a b ≡ true
 inside-meets r a b n m p q e =
-    share-meets a b (halfColumn m r) (layerOf m) (subst (λ (l : Needle). Covers a (halfColumn l r) (layerOf l)) e (p .covered)) (q .covered)
+    share-meets a b (halfColumn m r) (layerOf m) (subst (λ (l : Needle). Within a (halfColumn l r) (layerOf l)) e (p .covered)) (q .covered)
 
 each-hook : {P : Needle → Type 0} (Q : ℕ → Type 0) → ((n : Needle) → P n → Q (hookOf n)) → (l : List Needle) → Each P l → Each Q (map hookOf l)
 each-hook Q f [] e = tt

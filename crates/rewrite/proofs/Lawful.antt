@@ -35,15 +35,17 @@ use Rattle.rewrite.specs.Exact.{Tied}
 use Rattle.rewrite.specs.Laid.{isRecord}
 use Rattle.rewrite.proofs.Machine.{machine, had, Good}
 use Rattle.rewrite.proofs.Records.{record-form}
+use Rattle.rewrite.proofs.Covers.{covers-exactly}
 use Rattle.rewrite.proofs.Footprints.{CarriersHigh, footprint, some-layer, share-meets, meets-share, Settled, Inside, inside, inside-meets}
 use Rattle.rewrite.proofs.Commute.{needle-eq, number-settled, racking-applied, untied-commute}
 
 -- ---- extents
-pub meets-exactly : (r : Racking) (x y : Record) → CarriersHigh x → CarriersHigh y → (meets (extentOf r x) (extentOf r y) ≡ true) ↔ Share (extentOf r x) (extentOf r y)
+pub meets-exactly : (r : Racking) (x y : Record) → CarriersHigh x → CarriersHigh y → (meets (extentOf r x) (extentOf r y) ≡ true) ↔ Share r x y
 meets-exactly r x y g h =
     let (k, p) = some-layer (footprint r x g) in let (m, q) = some-layer (footprint r y h) in (
-      meets-share (extentOf r x) (extentOf r y) (halfColumn (x .at) r) (halfColumn (y .at) r) k m p q,
-      λ (z, layer, a, b). share-meets (extentOf r x) (extentOf r y) z layer a b,
+      λ e. let (z, layer, a, b) = meets-share (extentOf r x) (extentOf r y) (halfColumn (x .at) r) (halfColumn (y .at) r) k m p q e in
+          (z, layer, covers-exactly r x z layer .0 a, covers-exactly r y z layer .0 b),
+      λ (z, layer, a, b). share-meets (extentOf r x) (extentOf r y) z layer (covers-exactly r x z layer .1 a) (covers-exactly r y z layer .1 b),
     )
 
 meets-sym : (a b : Extent) → meets a b ≡ meets b a

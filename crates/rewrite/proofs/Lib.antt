@@ -3,6 +3,7 @@ pub mod Machine
 pub mod Signed
 pub mod Edits
 pub mod Footprints
+pub mod Covers
 pub mod Commute
 pub mod Lawful
 pub mod Records

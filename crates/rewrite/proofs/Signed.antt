@@ -10,7 +10,7 @@ use lib.Dec.{leb}
 use borrow.Author.Tests.{le-leb, leb-true, leb-false}
 use Rattle.machine.proofs.Signed.{up, dn, sum, difference}
 
-le-of : (a b : ℤ) → up a + dn b ≤ up b + dn a → leZ a b ≡ true
+pub le-of : (a b : ℤ) → up a + dn b ≤ up b + dn a → leZ a b ≡ true
 le-of (pos a) (pos b) h = le-leb a b (omega arith)
 le-of (pos a) (negsuc b) h = absurd (no h)
   where

@@ -4,6 +4,7 @@ use mathlib.Core.Path.{_≡_}
 use mathlib.Core.Bool.{true}
 use mathlib.Core.List.{List, [], _∷_, _++_}
 use mathlib.Core.Logic.{_↔_}
+use lib.IntN.{ℤ}
 use lib.ListN.{length, take}
 use Rattle.machine.specs.declared.Needle.{Needle}
 use Rattle.machine.specs.declared.Racking.{Racking}
@@ -18,6 +19,7 @@ use Rattle.run.specs.Relation.{Valid}
 use Rattle.trace.specs.Records.{tied}
 use Rattle.trace.specs.Lists.{Nth}
 use Rattle.trace.specs.Order.{SameRecords, tiedIn, SameOrder}
+use Rattle.rewrite.specs.Extents.{Covers, extentOf, Within}
 use Rattle.rewrite.specs.Programs.{flat, recordsOf, logRecordSize, swapKind, positionOf, what, sameBytes, knitting, needle, carrier, names, historyOf}
 use Rattle.rewrite.specs.Rewrite.{rackingZero, ended, replay, written, rewriteOf}
 use Rattle.rewrite.specs.Exact.{Long, Short, Lent, RecordsAre, Tied, TiedBehind, Swapped}
@@ -31,6 +33,10 @@ RecordsEndToEnd = (p : List ℕ) → flat (recordsOf p) ≡ p
 -- those of a program that is valid at some limit are 'whole, of known kinds and with fields in range'
 abbrev pub RecordsEncode : Type 0
 RecordsEncode = (limit : ℕ) (p : List ℕ) (t : State) → Valid limit p t → Each (λ (x : List ℕ). Encodes x (what x)) (recordsOf p)
+
+-- what code computes of a record's extent is what the record covers
+abbrev pub CoversExactly : Type 0
+CoversExactly = (r : Racking) (x : Record) (h : ℤ) (layer : ℕ) → Within (extentOf r x) h layer ↔ Covers r x h layer
 
 -- the test for ties that the swaps of crate trace go by is the words of Exact.antt
 abbrev pub TiedExactly : Type 0
@@ -155,7 +161,7 @@ pub data TurnedAs (limit : ℕ) (p : List ℕ) (c : Call) (n : ℕ) : Type 0 whe
   bad-limit : (LimitInRange (c .limit) → ⊥) → n ≡ 15 → TurnedAs limit p c n
   too-long : LimitInRange (c .limit) → Long p (c .log) (c .output) (c .work) → n ≡ 1 → TurnedAs limit p c n
   no-bench : LimitInRange (c .limit) → (Long p (c .log) (c .output) (c .work) → ⊥) → Short p (c .log) (c .output) (c .work) → n ≡ 2 → TurnedAs limit p c n
-  hook-full : LimitInRange (c .limit) → c .limit < limit → n ≡ 11 → TurnedAs limit p c n
+  hook-full : LimitInRange (c .limit) → Lent p (c .log) (c .output) (c .work) → c .limit < limit → n ≡ 11 → TurnedAs limit p c n
 
 -- and it writes nothing
 pub record TurnedAway (limit : ℕ) (p : List ℕ) (c : Call) : Type 0 where

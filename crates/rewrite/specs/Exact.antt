@@ -18,7 +18,7 @@ use Rattle.run.specs.declared.Answer.{Answer}
 use Rattle.run.specs.Relation.{Valid}
 use Rattle.run.specs.Claims.{FirstRefusal, Complete}
 use Rattle.trace.specs.Order.{inForce}
-use Rattle.rewrite.specs.Extents.{extentOf, Share}
+use Rattle.rewrite.specs.Extents.{Share}
 use Rattle.rewrite.specs.Programs.{flat, startsOf, logRecordSize, swapKind, positionOf, what, knitting, carrier, names}
 use Rattle.rewrite.specs.Rewrite.{rackingZero, Rewritten, refused, rewriteOf}
 
@@ -47,12 +47,12 @@ pub record RecordsAre (program : List ℕ) (l : List (List ℕ)) : Type 0 where
   pub end-to-end : flat l ≡ program
   pub each : Each (λ (x : List ℕ). (r : Record) × Encodes x r) l
 
--- 'Two records are tied if either is a rack, if they name one carrier, or if their extents meet': 'if they share a half column and a layer'
+-- 'Two records are tied if either is a rack, if they name one carrier, or if their extents meet'
 pub data Tied (r : Racking) (x y : List ℕ) : Type 0 where
   first-rack : what x .kind ≡ RACK → Tied r x y
   second-rack : what y .kind ≡ RACK → Tied r x y
   one-carrier : (k : ℕ) → names (carrier k) x ≡ true → names (carrier k) y ≡ true → Tied r x y
-  extents-meet : Share (extentOf r (what x)) (extentOf r (what y)) → Tied r x y
+  extents-meet : Share r (what x) (what y) → Tied r x y
 
 -- tied where they stand, behind the records u: at the racking in force there
 abbrev pub TiedBehind : List (List ℕ) → List ℕ → List ℕ → Type 0

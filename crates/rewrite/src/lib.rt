@@ -55,12 +55,10 @@ enum LogRecord {
 // The layer of the back bed; the front bed's is 0, carriers lie between.
 pub const BACK: u8 = 11;
 
-// A log: the kind of its swaps, the length of its records, and its bytes at most.
+// A log: the kind of its swaps and the length of its records.
 pub const SWAP: u8 = 64;
 
 pub const LOG_RECORD: usize = 3;
-
-pub const LOG_MOST: usize = 32768;
 
 // The racking in force is kept at every 64th record, 256 at most.
 pub const STRIDE: usize = 64;
@@ -434,7 +432,7 @@ pub fn lent(limit: u8, program: usize, log: usize, output: usize, work: usize) -
     if number != 0 {
         return number;
     }
-    if LOG_MOST < log {
+    if State::LOG_MOST < log {
         return TOO_LONG;
     }
     if output < program {

@@ -11,6 +11,7 @@ use lib.Seq.{drop-length, length-take-le, take-all}
 use borrow.Author.Tests.{ne-eqb, lt-ltb, le-ltb, ltb-true, ltb-false}
 use Rattle.machine.specs.declared.State.{State}
 use Rattle.machine.specs.Machine.{completeOf}
+use Rattle.machine.specs.Walk.{hooksLooked}
 use Rattle.record.specs.declared.Decoded.{Decoded}
 use Rattle.record.specs.Kinds.{sizeOf}
 use Rattle.record.specs.Format.{byte, refusedAs, decodeOf}
@@ -147,6 +148,7 @@ module _ (s : State) (l : List ℕ) (r : Reached) (run : r ≡ runFrom 0 (take (
   step-alone = is (length l) 0 (λ e. subst Given (front-none l e) (none-given e)) some-given
 
   -- as the code has it
-  pub step-given : (size number complete long : ℕ) → size ≡ frontOf l → number ≡ cond (eqb size 0) 4 (r .number) → complete ≡ oneIf (completeOf (r .state)) → long ≡ cond (eqb number 0) size 0
-      → _≡_ {A = Stepped} (record { number = number; complete = complete; length = long; state = r .state }) (stepOf s l)
-  step-given size number complete long e f g h = simp (h, g, f, e) step-alone
+  pub step-given : (size number complete looked long : ℕ) → size ≡ frontOf l → number ≡ cond (eqb size 0) 4 (r .number) → complete ≡ oneIf (completeOf (r .state))
+      → looked ≡ hooksLooked (r .state .racking) (r .state .loops) → long ≡ cond (eqb number 0) size 0
+      → _≡_ {A = Stepped} (record { number = number; complete = complete; looked = looked; length = long; state = r .state }) (stepOf s l)
+  step-given size number complete looked long e f g k h = simp (h, k, g, f, e) step-alone

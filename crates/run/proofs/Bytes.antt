@@ -122,8 +122,8 @@ unfolding stepOf
 step-refuses s l h =
     is (decodeOf l .number) 0
     (λ e. is (numberAt s (decodeOf l .what)) 0 (λ z. absurd (h (simp (e, z))))
-    (λ d. let r = step-first s l e d in simp (e, ne-eqb (numberAt s (decodeOf l .what)) 0 d) (record { complete = refl; length = refl; state = refl; no-step = reason-no-step (r .reason); first = r })))
-    (λ d. let r = bytes-first s l d in simp (ne-eqb (decodeOf l .number) 0 d) (record { complete = refl; length = refl; state = refl; no-step = reason-no-step (r .reason); first = r }))
+    (λ d. let r = step-first s l e d in simp (e, ne-eqb (numberAt s (decodeOf l .what)) 0 d) (record { complete = refl; looked = refl; length = refl; state = refl; no-step = reason-no-step (r .reason); first = r })))
+    (λ d. let r = bytes-first s l d in simp (ne-eqb (decodeOf l .number) 0 d) (record { complete = refl; looked = refl; length = refl; state = refl; no-step = reason-no-step (r .reason); first = r }))
 
 step-has : (s : State) (l : List ℕ) → stepOf s l .number ≡ 0 → HasStep s l
 unfolding stepOf

@@ -20,14 +20,14 @@ use Rattle.record.specs.Format.{Encodes, signedOf}
 use Rattle.run.specs.declared.Answer.{Answer}
 use Rattle.run.specs.declared.Reached.{Reached}
 use Rattle.run.specs.Relation.{Active, Attached, Unstretched, Step, Steps}
-use Rattle.run.specs.Reason.{Stretched, RecordReason, Reason}
 use Rattle.run.specs.Run.{answerOf, runOf, stepOf}
 use Rattle.run.specs.Claims.{AcceptsExactlyValid, GivesFinalState, BadLimitExactly, TooLongExactly, TooLongAnswer, RefusesFirst, RefusalIsOne, PlaceIsSmall, CompleteIsEmpty, StepKeepsLimit, RunKeepsLimit, ReasonExactlyNoStep, StepAcceptsExactly, StepGives, StepRefuses}
-use Rattle.run.specs.Claims.{CurrentRackSteps, RackExactly, LoopAtItsSlot, FrontStays, BeginsStretching, StretchedExactly, RunInRange, StepInRange, StepsAreTheRun, StepsAreOne, RefuserIsNotTheRun}
+use Rattle.run.specs.Claims.{CurrentRackSteps, RackExactly, LoopAtItsSlot, FrontStays, StretchedExactly, RunInRange, StepInRange, StepsAreTheRun, StepsAreOne, RefuserIsNotTheRun}
 use Rattle.run.proofs.Bytes.{reason-no-step, no-step-reason, step-exact, step-gives, step-number, step-refuses}
 use Rattle.run.proofs.ByKind.{rack-number}
 use Rattle.run.proofs.Racks.{rack-seventeen, current-rack}
 use Rattle.run.proofs.Runs.{step-frame}
+use Rattle.run.proofs.Refusals.{begun, by-number}
 use Rattle.run.proofs.Unique.{one-refusal}
 use Rattle.run.proofs.Answers.{long-run, bad-run, valid-run, answered, accepted, one-long, fifteen-bad, first-refusal, place-small, answer-limit, complete-empty}
 use Rattle.run.proofs.Ranges.{answer-in, slice-keeps}
@@ -133,26 +133,9 @@ loop-at-its-slot r n false = refl
 pub front-stays : FrontStays
 front-stays r z c e = let d = front-as-far r z c e in (d, λ u. omega (arith, d, u .greater))
 
--- of the reasons only a stretched yarn has the number 17
-record-seventeen : {n : ℕ} {s : State} {x : Record} → RecordReason n s x → n ≡ 17 → Stretched s x
-record-seventeen (RecordReason.yarn-twice e a) q = absurd (omega arith)
-record-seventeen (RecordReason.stretched e a) q = a
-record-seventeen (RecordReason.already-in e a) q = absurd (omega arith)
-record-seventeen (RecordReason.not-in e a) q = absurd (omega arith)
-record-seventeen (RecordReason.wrong-slot e a) q = absurd (omega arith)
-record-seventeen (RecordReason.float-too-long e a) q = absurd (omega arith)
-record-seventeen (RecordReason.not-opposite e a) q = absurd (omega arith)
-record-seventeen (RecordReason.hook-full e a) q = absurd (omega arith)
-
-seventeen : {n : ℕ} {s : State} {l : List ℕ} → Reason n s l → n ≡ 17 → BeginsStretching s l
-seventeen (Reason.unknown-kind e a) q = absurd (omega arith)
-seventeen (Reason.cut-short e a) q = absurd (omega arith)
-seventeen (Reason.field-range e a) q = absurd (omega arith)
-seventeen (Reason.of-record bytes rest x e form r) q = (bytes, rest, x, e, form, record-seventeen r q)
-
 pub stretched-exactly : StretchedExactly
 stretched-exactly s l = (
-  λ q. seventeen (step-refuses s l (λ z. omega (arith, q, z)) .first .reason) q,
+  λ q. let (bytes, rest, x, e, form, r) = begun (step-refuses s l (λ z. omega (arith, q, z)) .first .reason) (omega (arith, q)) in (bytes, rest, x, e, form, by-number r .stretched q),
   λ (bytes, rest, x, e, form, a). ap (λ (p : List ℕ). stepOf s p .number) e
       ∙ step-number s bytes rest x form 17 (rack-number s x (a .kind) ∙ rack-seventeen s x (a .carrier) (a .stretches)) (λ z. omega arith),
 )

@@ -16,5 +16,6 @@ pub mod Ranges
 pub mod Stepwise
 pub mod Unique
 pub mod Demand
+pub mod Yarns
 pub mod Limits
 pub mod Exact

@@ -10,7 +10,8 @@ use borrow.Author.Tests.{eq-eqb, ne-eqb}
 use Rattle.machine.specs.declared.State.{State}
 use Rattle.machine.specs.Machine.{Each}
 use Rattle.record.specs.declared.Record.{Record}
-use Rattle.run.specs.Reason.{RecordReason, Reason, refusals, First}
+use Rattle.record.specs.Format.{Encodes}
+use Rattle.run.specs.Reason.{Stretched, FloatTooLong, RecordReason, Reason, refusals, First}
 use Rattle.record.proofs.Shapes.{is}
 
 -- how many stand before a number in a list; all, if it is not there
@@ -56,6 +57,29 @@ record-other {n} r k = other n k (record-stands r)
 
 pub reason-other : {n : ℕ} {s : State} {l : List ℕ} → Reason n s l → (k : ℕ) → rank k ≡ length refusals → n ≡ k → ⊥
 reason-other {n} r k = other n k (reason-stands r)
+
+-- ---- a reason by its number
+-- over 5 it is one of a record
+pub begun : {n : ℕ} {s : State} {l : List ℕ} → Reason n s l → 5 < n → (bytes : List ℕ) × (rest : List ℕ) × (x : Record) × (l ≡ bytes ++ rest) × Encodes bytes x × RecordReason n s x
+begun (Reason.unknown-kind e a) h = absurd (omega arith)
+begun (Reason.cut-short e a) h = absurd (omega arith)
+begun (Reason.field-range e a) h = absurd (omega arith)
+begun (Reason.of-record bytes rest x e form r) h = (bytes, rest, x, e, form, r)
+
+-- of a record only a stretched yarn has the number 17, and only a float 9
+pub record ByNumber (n : ℕ) (s : State) (x : Record) : Type 0 where
+  pub stretched : n ≡ 17 → Stretched s x
+  pub float : n ≡ 9 → FloatTooLong s x
+
+pub by-number : {n : ℕ} {s : State} {x : Record} → RecordReason n s x → ByNumber n s x
+by-number (RecordReason.yarn-twice e a) = record { stretched = λ q. absurd (omega arith); float = λ q. absurd (omega arith) }
+by-number (RecordReason.stretched e a) = record { stretched = λ q. a; float = λ q. absurd (omega arith) }
+by-number (RecordReason.already-in e a) = record { stretched = λ q. absurd (omega arith); float = λ q. absurd (omega arith) }
+by-number (RecordReason.not-in e a) = record { stretched = λ q. absurd (omega arith); float = λ q. absurd (omega arith) }
+by-number (RecordReason.wrong-slot e a) = record { stretched = λ q. absurd (omega arith); float = λ q. absurd (omega arith) }
+by-number (RecordReason.float-too-long e a) = record { stretched = λ q. absurd (omega arith); float = λ q. a }
+by-number (RecordReason.not-opposite e a) = record { stretched = λ q. absurd (omega arith); float = λ q. absurd (omega arith) }
+by-number (RecordReason.hook-full e a) = record { stretched = λ q. absurd (omega arith); float = λ q. absurd (omega arith) }
 
 -- ---- the first of a list that holds
 module _ (P : ℕ → Type 0) where

@@ -13,6 +13,7 @@ use Rattle.machine.specs.declared.State.{State}
 use Rattle.machine.specs.Limits.{limitMost, programMost}
 use Rattle.machine.specs.Machine.{emptyState, carrierOf, completeOf}
 use Rattle.machine.specs.Range.{LimitInRange, StateInRange}
+use Rattle.machine.specs.Walk.{hooksLooked}
 use Rattle.machine.specs.Geometry.{columnOf, exitOf}
 use Rattle.machine.specs.Stretch.{attachmentSlot, distanceOf}
 use Rattle.record.specs.declared.Record.{Record}
@@ -187,6 +188,7 @@ StepGives =
 -- otherwise it gives the first reason, length 0 and the same state, and tells whether that is complete
 pub record StepRefusal (s : State) (l : List ℕ) (a : Stepped) : Type 0 where
   pub complete : a .complete ≡ oneIf (completeOf s)
+  pub looked : a .looked ≡ hooksLooked (s .racking) (s .loops)
   pub length : a .length ≡ 0
   pub state : a .state ≡ s
   pub no-step : NoStep s l

@@ -5,3 +5,4 @@ pub mod Step
 pub mod Loops
 pub mod Run
 pub mod Claims
+pub mod Yarns

@@ -8,6 +8,7 @@ use Rattle.machine.specs.declared.State.{State}
 use Rattle.machine.specs.Limits.{limitMost, programMost}
 use Rattle.machine.specs.Machine.{emptyState, stateWith, completeOf}
 use Rattle.machine.specs.Range.{limitOk}
+use Rattle.machine.specs.Walk.{hooksLooked}
 use Rattle.record.specs.Kinds.{sizeOf}
 use Rattle.record.specs.Format.{byte, decodeOf}
 use Rattle.run.specs.declared.Reached.{Reached}
@@ -23,16 +24,16 @@ reached n at s = record { number = n; place = at; state = s }
 abbrev pub oneIf : Bool → ℕ
 oneIf c = cond c 1 0
 
--- what a step gives: number, length, state, and whether that state is the empty one (02, W4: 'The one-record step now gives it too, for the state it
--- leaves and that state's limit')
+-- what a step gives: number, length, state, whether that state is the empty one (02, W4: 'The one-record step now gives it too, for the state it
+-- leaves and that state's limit'), and the hooks that were looked at for it
 abbrev pub told : ℕ → ℕ → State → Stepped
-told n long s = record { number = n; complete = oneIf (completeOf s); length = long; state = s }
+told n long s = record { number = n; complete = oneIf (completeOf s); looked = hooksLooked (s .racking) (s .loops); length = long; state = s }
 
 -- a step that is refused: length 0 and the state kept
 abbrev pub stay : ℕ → State → Stepped
 stay n s = told n 0 s
 
--- the step of the first record of a slice: number, complete, the record's length (0 if refused), state
+-- the step of the first record of a slice: number, complete, the hooks looked at, the record's length (0 if refused), state
 unfoldable pub stepOf : State → List ℕ → Stepped
 stepOf s l =
     cond (eqb (decodeOf l .number) 0)

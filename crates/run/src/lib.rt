@@ -60,20 +60,22 @@ pub struct Answer {
     pub state: State,
 }
 
-// One step: the refusal's number and 0, or 0 and the record's length, the state, and whether that is the empty one (1 or 0).
+// One step: the refusal's number and 0, or 0 and the record's length, the state, whether that is the empty one (1 or 0), and
+// the hooks that were looked at for it.
 pub struct Stepped {
     pub number: u8,
     pub complete: u8,
+    pub looked: u16,
     pub length: usize,
     pub state: State,
 }
 
 // Where the run's loop stopped, besides the loops, which it is lent.
 struct Halted {
-    pub number: u8,
     pub place: usize,
-    pub racking: Racking,
     pub carriers: [Carrier; State::CARRIERS],
+    pub number: u8,
+    pub racking: Racking,
 }
 
 // Whether the carrier is parked at the slot: 0, or 7 or 8.
@@ -300,10 +302,10 @@ fn halt(number: u8, place: usize, racking: Racking, carriers: [Carrier; State::C
     ensures { λ h. ⌜ h ≡ record { number = number; place = place; racking = racking; carriers = carriers } ⌝ }
 {
     Halted {
-        number,
         place,
-        racking,
         carriers,
+        number,
+        racking,
     }
 }
 
@@ -558,8 +560,9 @@ pub fn step(state: State, bytes: &[u8]) -> Stepped
     let size = front(bytes);
     let h = run_from(r, &mut loops, limit, cs, &bytes[..size]);
     let r = h.racking;
+    let beds = machine::look_at_beds(r, &loops);
     let mut complete = 0;
-    if machine::beds_empty(r, &loops) {
+    if beds.none {
         let left = h.carriers;
         complete = one_if(machine::carriers_pass(left, true));
     }
@@ -569,6 +572,7 @@ pub fn step(state: State, bytes: &[u8]) -> Stepped
     Stepped {
         number,
         complete,
+        looked: beds.looked as u16,
         length,
         state: State {
             racking: r,

@@ -10,7 +10,7 @@ use Rattle.machine.specs.declared.Racking.{Racking}
 use Rattle.record.specs.declared.Record.{Record}
 use Rattle.record.specs.Kinds.{RACK}
 use Rattle.record.specs.Format.{Encodes, decodeOf}
-use Rattle.rewrite.specs.Extents.{extentOf, Share, Covers}
+use Rattle.rewrite.specs.Extents.{Share}
 use Rattle.rewrite.specs.Programs.{what}
 use Rattle.rewrite.specs.Exact.{Tied}
 use Rattle.tie.specs.declared.Tied as told
@@ -38,7 +38,7 @@ module _ (r : Racking) (p q : List ℕ) where
   abbrev y : Record
   y = what q
 
-  untied-words : (OneRack x y → ⊥) → ((k : ℕ) → Both x y k → ⊥) → (Share (extentOf r x) (extentOf r y) → ⊥) → Tied r p q → ⊥
+  untied-words : (OneRack x y → ⊥) → ((k : ℕ) → Both x y k → ⊥) → (Share r x y → ⊥) → Tied r p q → ⊥
   untied-words d n s (Tied.first-rack e) = d (OneRack.first e)
   untied-words d n s (Tied.second-rack e) = d (OneRack.second e)
   untied-words d n s (Tied.one-carrier k a b) = n k (member-named x k a, member-named y k b)

@@ -22,14 +22,15 @@ use Rattle.record.proofs.Shapes.{is, known-size, sized-known}
 use Rattle.record.proofs.Forms.{Reads, reads, decode-none, decode-strange, decode-short, decode-known, read-outside, form-decode, form-in, decode-form}
 use Rattle.run.specs.Reason.{UnknownKind, CutShort, FieldRange}
 use Rattle.rewrite.specs.declared.Extent.{Extent}
-use Rattle.rewrite.specs.Extents.{extentOf, Covers, Share, meets}
+use Rattle.rewrite.specs.Extents.{Covers, Share, extentOf, Within, meets}
 use Rattle.rewrite.proofs.Footprints.{CarriersHigh}
+use Rattle.rewrite.proofs.Covers.{covers-exactly}
 use Rattle.rewrite.proofs.Lawful.{meets-exactly}
 use Rattle.tie.specs.declared.Tied.{Tied}
 use Rattle.tie.specs.Tie.{onlyNumber, byRack, byCarrier, byExtents, leastShared, common, tieOfExtents, tieOfRecords, tieOf}
 use Rattle.tie.specs.Exact.{Begins, Unread, OneRack, Both, LeastShared, InCommon, Ties, Tells, TieExactly}
 use Rattle.tie.proofs.Looks.{first-rack, second-rack, carrier-shared, by-extents, racking-out, first-refused, second-refused, both-read}
-use Rattle.tie.proofs.Rectangles.{common-covers, same-extent}
+use Rattle.tie.proofs.Rectangles.{common-within, same-extent}
 use Rattle.tie.proofs.Carriers.{shared-none, none-shared, shared-least, least-shared}
 
 -- ---- bytes that begin with a record, or with none
@@ -71,8 +72,15 @@ module _ (r : Racking) (x y : Record) (h : InRange x) (k : InRange y) where
   abbrev f : Extent
   f = extentOf r y
 
-  meeting : (meets e f ≡ true) ↔ Share e f
+  meeting : (meets e f ≡ true) ↔ Share r x y
   meeting = meets-exactly r x y (h .carrier-high, h .second-high) (k .carrier-high, k .second-high)
+
+  -- what both cover is what is within both extents
+  in-common : (z : ℤ) (layer : ℕ) → Within (common e f) z layer ↔ (Covers r x z layer × Covers r y z layer)
+  in-common z layer =
+      let (there, back) = common-within e f z layer in
+      let a = covers-exactly r x z layer in let b = covers-exactly r y z layer in
+      (λ w. let (p, q) = there w in (a .0 p, b .0 q), λ (p, q). back (a .1 p, b .1 q))
 
   meeting-tells : meets e f ≡ true → tieOfExtents e f ≡ byExtents (common e f)
   unfolding tieOfExtents
@@ -86,7 +94,7 @@ module _ (r : Racking) (x y : Record) (h : InRange x) (k : InRange y) where
   ties-extents : (OneRack x y → ⊥) → ((k : ℕ) → Both x y k → ⊥) → Ties r x y (tieOfExtents e f)
   ties-extents d n =
       cases (meets e f)
-      (λ t. subst (Ties r x y) (sym (meeting-tells t)) (Ties.extents-meet d n (common e f) (record { some = meeting .0 t; exactly = common-covers e f })))
+      (λ t. subst (Ties r x y) (sym (meeting-tells t)) (Ties.extents-meet d n (common e f) (record { some = meeting .0 t; exactly = in-common })))
       (λ t. subst (Ties r x y) (sym (apart-tells t)) (Ties.untied d n (λ s. true≢false (sym (meeting .1 s) ∙ t))))
 
   ties : Ties r x y (tieOfRecords r x y)
@@ -112,8 +120,8 @@ module _ (r : Racking) (x y : Record) (h : InRange x) (k : InRange y) where
       let (z, layer, a, b) = s .some in
       by-extents r x y (λ a. d (OneRack.first a)) (λ b. d (OneRack.second b)) (none-shared x y h n)
       ∙ meeting-tells (meeting .1 (s .some))
-      ∙ ap byExtents (same-extent (common e f) g (common-covers e f z layer .1 (a, b))
-      (λ z layer. (λ c. s .exactly z layer .1 (common-covers e f z layer .0 c), λ c. common-covers e f z layer .1 (s .exactly z layer .0 c))))
+      ∙ ap byExtents (same-extent (common e f) g (in-common z layer .1 (a, b))
+      (λ z layer. (λ c. s .exactly z layer .1 (in-common z layer .0 c), λ c. in-common z layer .1 (s .exactly z layer .0 c))))
   tells-alone (Ties.untied d n s) =
       by-extents r x y (λ a. d (OneRack.first a)) (λ b. d (OneRack.second b)) (none-shared x y h n)
       ∙ apart-tells (cases (meets e f) (λ t. absurd (s (meeting .0 t))) (λ t. t))

@@ -11,7 +11,7 @@ use lib.Dec.{ltb}
 use borrow.Author.Tests.{ltb-true, ltb-false}
 use Rattle.machine.proofs.Signed.{ltZ-true, ltZ-false, eq-of}
 use Rattle.rewrite.specs.declared.Extent.{Extent}
-use Rattle.rewrite.specs.Extents.{Covers, smaller, greater}
+use Rattle.rewrite.specs.Extents.{Within, smaller, greater}
 use Rattle.rewrite.proofs.Signed.{le-from, le-trans, le-self, le-other}
 use Rattle.tie.specs.Tie.{rightmost, leftmost, common}
 
@@ -40,11 +40,11 @@ module _ (a b n : ℕ) where
       (λ t. let h = ltb-false a b t in rw t (λ p. (omega arith, p), λ p. p .1))
 
 -- ---- in common
-pub common-covers : (e f : Extent) (h : ℤ) (layer : ℕ) → Covers (common e f) h layer ↔ (Covers e h layer × Covers f h layer)
+pub common-within : (e f : Extent) (h : ℤ) (layer : ℕ) → Within (common e f) h layer ↔ (Within e h layer × Within f h layer)
 unfolding common
-common-covers e f h layer = (there, back)
+common-within e f h layer = (there, back)
   where
-    there : Covers (common e f) h layer → Covers e h layer × Covers f h layer
+    there : Within (common e f) h layer → Within e h layer × Within f h layer
     there c =
         let (a, b) = right-of-both (e .left) (f .left) h .0 (c .left) in
         let (l, m) = left-of-both (e .right) (f .right) h .0 (c .right) in
@@ -52,7 +52,7 @@ common-covers e f h layer = (there, back)
         let (s, t) = below-both (e .high) (f .high) layer .0 (c .high) in
         (record { left = a; right = l; low = p; high = s }, record { left = b; right = m; low = q; high = t })
 
-    back : Covers e h layer × Covers f h layer → Covers (common e f) h layer
+    back : Within e h layer × Within f h layer → Within (common e f) h layer
     back (c, d) =
         record {
           left = right-of-both (e .left) (f .left) h .1 (c .left, d .left);
@@ -63,18 +63,18 @@ common-covers e f h layer = (there, back)
 
 -- ---- one extent alone
 -- its corners, if it covers a point
-module _ {e : Extent} {h : ℤ} {layer : ℕ} (c : Covers e h layer) where
-  near : Covers e (e .left) (e .low)
+module _ {e : Extent} {h : ℤ} {layer : ℕ} (c : Within e h layer) where
+  near : Within e (e .left) (e .low)
   near = record { left = le-self (e .left); right = le-trans (e .left) h (e .right) (c .left) (c .right); low = omega arith; high = omega (arith, c .low, c .high) }
 
-  far : Covers e (e .right) (e .high)
+  far : Within e (e .right) (e .high)
   far = record { left = le-trans (e .left) h (e .right) (c .left) (c .right); right = le-self (e .right); low = omega (arith, c .low, c .high); high = omega arith }
 
 le-both : (a b : ℤ) → leZ a b ≡ true → leZ b a ≡ true → a ≡ b
 le-both a b p q = eq-of a b (omega (arith, le-from a b p, le-from b a q))
 
 -- two that cover the same points, of which there is one, are one
-pub same-extent : (e f : Extent) {h : ℤ} {layer : ℕ} → Covers e h layer → ((h : ℤ) (layer : ℕ) → Covers e h layer ↔ Covers f h layer) → e ≡ f
+pub same-extent : (e f : Extent) {h : ℤ} {layer : ℕ} → Within e h layer → ((h : ℤ) (layer : ℕ) → Within e h layer ↔ Within f h layer) → e ≡ f
 same-extent e f {h} {layer} c same =
     let d = same h layer .0 c in
     let e-near = same (e .left) (e .low) .0 (near c) in

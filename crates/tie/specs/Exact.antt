@@ -11,7 +11,7 @@ use Rattle.record.specs.Kinds.{RACK}
 use Rattle.record.specs.Format.{Encodes}
 use Rattle.run.specs.Reason.{UnknownKind, CutShort, FieldRange, NamesCarrier}
 use Rattle.rewrite.specs.declared.Extent.{Extent}
-use Rattle.rewrite.specs.Extents.{extentOf, Covers, Share}
+use Rattle.rewrite.specs.Extents.{Covers, Share, Within}
 use Rattle.tie.specs.declared.Tied.{Tied}
 use Rattle.tie.specs.Tie.{onlyNumber, byRack, byCarrier, byExtents, tieOf}
 
@@ -43,17 +43,17 @@ module _ (x y : Record) where
     pub lowest : (j : ℕ) → Both j → k ≤ j
 
 module _ (r : Racking) (x y : Record) where
-  -- 'or if their extents meet': an extent that covers what both cover, which is something, and nothing else
+  -- 'or if their extents meet': an extent of what both cover, which is something, and of nothing else
   pub record InCommon (e : Extent) : Type 0 where
-    pub some : Share (extentOf r x) (extentOf r y)
-    pub exactly : (h : ℤ) (layer : ℕ) → Covers e h layer ↔ (Covers (extentOf r x) h layer × Covers (extentOf r y) h layer)
+    pub some : Share r x y
+    pub exactly : (h : ℤ) (layer : ℕ) → Within e h layer ↔ (Covers r x h layer × Covers r y h layer)
 
   -- what ties them: a rack, else the least carrier that both name, else what their extents have in common; or nothing does
   pub data Ties : Tied → Type 0 where
     a-rack : OneRack x y → Ties byRack
     one-carrier : (OneRack x y → ⊥) → (k : ℕ) → LeastShared x y k → Ties (byCarrier k)
     extents-meet : (OneRack x y → ⊥) → ((k : ℕ) → Both x y k → ⊥) → (e : Extent) → InCommon e → Ties (byExtents e)
-    untied : (OneRack x y → ⊥) → ((k : ℕ) → Both x y k → ⊥) → (Share (extentOf r x) (extentOf r y) → ⊥) → Ties (onlyNumber 0)
+    untied : (OneRack x y → ⊥) → ((k : ℕ) → Both x y k → ⊥) → (Share r x y → ⊥) → Ties (onlyNumber 0)
 
 -- ---- the call: 15 is looked at first, then 3, 4 and 5 of the first record, then of the second
 pub data Tells (z : ℤ) (p q : List ℕ) : Tied → Type 0 where

@@ -83,7 +83,7 @@ slice = sliceTy (tyRef (named 1) imm (pointee (u8 .written)))
 
 -- what is given to the caller besides the state
 abbrev given : Stepped → Answer
-given r = record { number = r .number; complete = r .complete; length = r .length }
+given r = record { number = r .number; complete = r .complete; looked = r .looked; length = r .length }
 
 -- what whoever holds an answer knows of its fields
 module _ (r : Stepped) (vs : List Val) (is : Is S.the-row r vs) where
@@ -93,11 +93,14 @@ module _ (r : Stepped) (vs : List Val) (is : Is S.the-row r vs) where
   complete-fits : r .complete < 2 ^ 8
   complete-fits = LL.owed S.the-type S′.the-laws r vs is .1 .0 .1
 
+  looked-fits : r .looked < 2 ^ 16
+  looked-fits = LL.owed S.the-type S′.the-laws r vs is .1 .1 .0 .1
+
   length-fits : r .length < 2 ^ 64
-  length-fits = LL.owed S.the-type S′.the-laws r vs is .1 .1 .0 .1
+  length-fits = LL.owed S.the-type S′.the-laws r vs is .1 .1 .1 .0 .1
 
   state-is : Is T.the-row (r .state) (state-val (r .state) ∷ [])
-  state-is = LL.owed S.the-type S′.the-laws r vs is .1 .1 .1 .0
+  state-is = LL.owed S.the-type S′.the-laws r vs is .1 .1 .1 .1 .0
 
 module _ {M : Type 1} (𝓤 : URA M) (H : Heap 𝓤) (A : Atoms 𝓤) (W : Given 𝓤 H A) (at-mem : Memory → SProp 𝓤) (run : Routine → Fun 𝓤) (κ κ′ : Lft) (q q′ : Share) (b o : ℕ) (γ : GName) (h : State) (s : RefT (List ℕ)) where
   abbrev Arg : Type 0
@@ -145,12 +148,12 @@ module _ {M : Type 1} (𝓤 : URA M) (H : Heap 𝓤) (A : Atoms 𝓤) (W : Given
     exits y so =
         qed W (‵ (fobs γ (T.the-row .coded .code y)) ∷ ‵ (fbor κ (Body (mem T.the-row) b o γ)) ∷ ‵ (flft κ q) ∷ ‵ (flft κ′ q′) ∷ ‵ Own ∷ []) ∵
         suffices ! _ (ends-at 𝓤 H A f.ended stayed (f.clauses 𝓤 H A at-mem run) W (((κ, (κ′, tt)), (q, (q′, tt)), tt, x, at), tt) (LL.val L.the-type L′.the-laws (given r)) (given r) (y, (tt, tt)) (tt, (tt, tt))) $
-        says ! (ap (λ (t : Stepped). t .number) e, ap (λ (t : Stepped). t .complete) e, ap (λ (t : Stepped). t .length) e, so) $
+        says ! (ap (λ (t : Stepped). t .number) e, ap (λ (t : Stepped). t .complete) e, ap (λ (t : Stepped). t .looked) e, ap (λ (t : Stepped). t .length) e, so) $
         -- the tokens
         nothing ! $ move ! (4 ∷ 0 ∷ []) $ join ! $ move ! (3 ∷ 0 ∷ []) $ join ! $ frame ! $
         -- [obs; the borrow; the slice]
         feqI ! (List Val) (vptr b o ∷ []) (vptr b o ∷ []) refl $ fjoin3 ! $ nothing ! $ move ! (2 ∷ 0 ∷ []) $ fjoin ! $ move ! (1 ∷ 0 ∷ []) $ fjoin ! $
-        frame ! $ owned ! L.the-row (Is L.the-row) (LL.makes L.the-type L′.the-plain 𝓤 H A) (given r) _ (LL.owes L.the-type L′.the-laws (given r) ((refl, number-fits r _ is), ((refl, complete-fits r _ is), ((refl, length-fits r _ is), tt)))) $ done !
+        frame ! $ owned ! L.the-row (Is L.the-row) (LL.makes L.the-type L′.the-plain 𝓤 H A) (given r) _ (LL.owes L.the-type L′.the-laws (given r) ((refl, number-fits r _ is), ((refl, complete-fits r _ is), ((refl, looked-fits r _ is), ((refl, length-fits r _ is), tt))))) $ done !
 
     module _ (C : Calls 𝓤 H) (Λ : Loops 𝓤 H) (l₀ l₁ l₂ l₃ l₄ l₅ : ℕ) where
       abbrev En : Env 𝓤 H
@@ -162,11 +165,11 @@ module _ {M : Type 1} (𝓤 : URA M) (H : Heap 𝓤) (A : Atoms 𝓤) (W : Given
           ∷ ‵ (froom L′.mir l₀ 0) ∷ ‵ (froom lent l₁ 0) ∷ ‵ (froom slice l₂ 0) ∷ ‵ (froom T′.mir l₄ 0) ∷ ‵ (froom tyBool l₅ 0)
           ∷ ‵ (fdies L′.mir l₀) ∷ ‵ (fdies lent l₁) ∷ ‵ (fdies slice l₂) ∷ ‵ (fdies S′.mir l₃) ∷ ‵ (fdies T′.mir l₄) ∷ ‵ (fdies tyBool l₅) ∷ []
 
-      -- after the branch: number, complete and length are given, whichever state the borrow was closed at
+      -- after the branch: number, complete, looked and length are given, whichever state the borrow was closed at
       finish : (y : State) → y ≡ panelStep h (s .now) .state → Sq W (End y) (runs C Λ En mir.t-5 (atRet En Post))
       finish y so =
-          assigns ! (agg ! (and-then ! (load ! (from ! (fld ! refl (stop !))) (look-in ! 5 (sub ! 0 refl (whole !)))) (and-then ! (load ! (from ! (fld ! refl (stop !))) (look-in ! 5 (sub ! 1 refl (whole !)))) (and-then ! (load ! (from ! (fld ! refl (stop !))) (look-in ! 5 (sub ! 2 refl (whole !)))) (no-more !))))) (from ! (stop !))
-          (init ! 6 refl (tt, (record { fits = number-fits r _ is }, (record { fits = complete-fits r _ is }, (record { fits = length-fits r _ is }, tt))))) $
+          assigns ! (agg ! (and-then ! (load ! (from ! (fld ! refl (stop !))) (look-in ! 5 (sub ! 0 refl (whole !)))) (and-then ! (load ! (from ! (fld ! refl (stop !))) (look-in ! 5 (sub ! 1 refl (whole !)))) (and-then ! (load ! (from ! (fld ! refl (stop !))) (look-in ! 5 (sub ! 2 refl (whole !)))) (and-then ! (load ! (from ! (fld ! refl (stop !))) (look-in ! 5 (sub ! 3 refl (whole !)))) (no-more !)))))) (from ! (stop !))
+          (init ! 6 refl (tt, (record { fits = number-fits r _ is }, (record { fits = complete-fits r _ is }, (record { fits = looked-fits r _ is }, (record { fits = length-fits r _ is }, tt)))))) $
           returns ! (look ! 6 refl) $ forget ! 5 refl $ forget ! 6 refl $
           move ! (6 ∷ 11 ∷ []) $ free1 ! $ move ! (6 ∷ 10 ∷ []) $ free1 ! $ move ! (6 ∷ 9 ∷ []) $ free1 ! $ move ! (5 ∷ 8 ∷ []) $ free1 ! $ move ! (5 ∷ 7 ∷ []) $ free1 ! $ move ! (5 ∷ 6 ∷ []) $ free1 ! $ free0 ! $
           by ! (exits y so)
@@ -195,7 +198,7 @@ module _ {M : Type 1} (𝓤 : URA M) (H : Heap 𝓤) (A : Atoms 𝓤) (W : Given
         assigns ! (bin ! (load ! (from ! (fld ! refl (stop !))) (look-in ! 12 (sub ! 0 refl (whole !)))) (lit ! tt) tt) (from ! (stop !)) (init ! 8 refl (tt, tt)) $
         first ! $ branches ! (load ! (from ! (stop !)) (look ! 8 refl))
         -- done: the new state is stored, and the borrow closed at it
-        (λ _. assigns-last ! (of-opd ! (load ! (from ! (fld ! refl (stop !))) (look-in ! 12 (sub ! 3 refl (whole !))))) (from ! (hop ! (look ! 16 refl) (stop !))) (store-raw ! 4 refl (LL.lawful T.the-type T′.the-laws 𝓤 H A W .typed (r .state) _ (state-is r _ is) .0)) $
+        (λ _. assigns-last ! (of-opd ! (load ! (from ! (fld ! refl (stop !))) (look-in ! 12 (sub ! 4 refl (whole !))))) (from ! (hop ! (look ! 16 refl) (stop !))) (store-raw ! 4 refl (LL.lawful T.the-type T′.the-laws 𝓤 H A W .typed (r .state) _ (state-is r _ is) .0)) $
         exec ! C Λ _ mir.t-5 (atRet _ Post) $
         owned ! T.the-row (Is T.the-row) (LL.makes T.the-type T′.the-plain 𝓤 H A) (r .state) _ (state-is r _ is) $ move ! (5 ∷ 0 ∷ 6 ∷ 7 ∷ 8 ∷ []) $ closes ! tt T.the-row (r .state) (state-val (r .state) ∷ []) b o $
         -- [obs; the borrow; its token; the slice's token; the slice; true; true; _5; …; _4; …; _3; …; _2; …; _1; …; room for _0; …]

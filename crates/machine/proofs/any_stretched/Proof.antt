@@ -9,7 +9,7 @@ use lib.IntN.{_-ℤ_, natAbs}
 use lib.Dec.{ltb}
 use lib.ListN.{getD, length, take}
 use lib.Seq.{take-all}
-use Rattle.machine.specs.declared.Column.{Column}
+use Rattle.machine.specs.declared.FarSlot.{FarSlot}
 use Rattle.machine.specs.declared.Racking.{Racking}
 use Rattle.machine.specs.declared.Carrier.{Carrier}
 use Rattle.machine.specs.Limits.{stretchMost}
@@ -24,7 +24,7 @@ abbrev safe : Racking → Racking → Carrier → Bool
 safe r z c = not (stretches r z c)
 
 -- what the look at a slot tells
-looked : (r : Racking) (c : Carrier) (y : Column) {b v : Bool} → y .0 ≡ attachmentSlot r c .0 → b ≡ ltb stretchMost (natAbs (y .0 -ℤ c .slot .0)) → b ≡ v → ltb stretchMost (distanceOf r c) ≡ v
+looked : (r : Racking) (c : Carrier) (y : FarSlot) {b v : Bool} → y .0 ≡ attachmentSlot r c .0 → b ≡ ltb stretchMost (natAbs (y .0 -ℤ c .slot .0)) → b ≡ v → ltb stretchMost (distanceOf r c) ≡ v
 looked r c y e f t = ap (ltb stretchMost) (sym (distance-is r c y e)) ∙ sym f ∙ t
 
 -- the last of the first k: where it is stretched, one is; where it is not, the others tell

@@ -30,11 +30,14 @@ module _ (b : tie.After-column) where
   is : z ≡ columnOf (b .before .args .self) (b .before .args .r) .0
   is = ap (λ (y : Column). y .0) (b .column .ensures)
 
+  here-is : toZ w32 (ofZ w32 z) ≡ z
+  here-is = back w32 z (omega (arith, reach))
+
   next-fits : SFits w32 (toZ w32 (ofZ w32 z) +ℤ pos 1)
-  next-fits = simp (back w32 z (omega (arith, reach))) (fits-sum w32 z (pos 1) (omega (arith, reach)))
+  next-fits = simp here-is (fits-sum w32 z (pos 1) (omega (arith, reach)))
 
   next-is : toZ w32 (ofZ w32 (toZ w32 (ofZ w32 z) +ℤ pos 1)) ≡ z +ℤ pos 1
-  next-is = toZ-ofZ next-fits ∙ ap (λ (y : ℤ). y +ℤ pos 1) (back w32 z (omega (arith, reach)))
+  next-is = toZ-ofZ next-fits ∙ ap (λ (y : ℤ). y +ℤ pos 1) here-is
 
 column-requires : tie.Need-column-requires
 column-requires c κs = search needs
@@ -51,7 +54,10 @@ returns c = let b = c .before .before .before in (
 
 returns-2 : tie.Need-returns-2
 unfolding slotBeside
-returns-2 c = (is (c .before) ∙ simp (le-ltb 1 _ (c .if1 .left)), omega (arith, reach (c .before)))
+returns-2 c = let b = c .before .before in (
+  here-is b ∙ is b ∙ simp (le-ltb 1 _ (c .before .if1 .left)),
+  subst (λ (y : ℤ). mag y < 66000) (sym (here-is b)) (omega (arith, reach b)),
+)
 
 pub beside-spec : {M : Type 1} → statement M
 beside-spec = tie.close (tie.spec column-requires add-t6 returns returns-2)
