@@ -2,6 +2,7 @@
 pub mod Spelled
 pub mod Rows
 pub mod Edges
+pub mod Extents
 pub mod Orders
 pub mod Houses
 pub mod Steps

@@ -15,10 +15,11 @@ use Rattle.rewrite.specs.Programs.{knitting}
 use Rattle.rewrite.specs.Rewrite.{Rewritten, rewriteOf}
 use Rattle.pieces.specs.Rows.{Expected, Row, rows, Swap, swaps}
 use Rattle.pieces.specs.Edges.{Pair, pairs, edges}
+use Rattle.pieces.specs.Extents.{spans, plated-spans, Spans}
 use Rattle.house.specs.Order.{bytesFirst, orderOf}
 use Rattle.pieces.specs.Orders.{OrdersHold}
 use Rattle.pieces.specs.Houses.{houses, firsts}
-use Rattle.pieces.specs.Steps.{walks, WalksSo, steps, Shows, pieces, StepsSo}
+use Rattle.pieces.specs.Steps.{walks, WalksSo, steps, Shows, looks, LooksSo, pieces, StepsSo}
 use Rattle.pieces.specs.Racks.{racks, RacksSo}
 use Rattle.pieces.specs.Ties.{tied-rows, TiedSo}
 
@@ -73,8 +74,9 @@ pub record Ties (r : Pair) : Type 0 where
   pub forth : tied knitting (inForce r) (r .first) (r .second) ≡ r .tied
   pub back : tied knitting (inForce r) (r .second) (r .first) ≡ r .tied
 
--- the one theorem; the edges are listed by a function: that many
+-- the one theorem; edges and extents are listed by functions: that many
 abbrev pub PiecesHold : Type 0
 PiecesHold =
-    Each Holds rows × Each Rewrites swaps × Each Ties pairs × Each Ties edges × (length edges ≡ 6308) × OrdersHold × Each Orders houses × Each Firsts firsts
-    × Each WalksSo walks × Each Shows steps × Each StepsSo pieces × Each RacksSo racks × Each TiedSo tied-rows
+    Each Holds rows × Each Rewrites swaps × Each Ties pairs × Each Ties edges × (length edges ≡ 29796) × OrdersHold × Each Orders houses × Each Firsts firsts
+    × Each WalksSo walks × Each Shows steps × Each LooksSo looks × Each StepsSo pieces × Each RacksSo racks × Each TiedSo tied-rows
+    × Each Spans spans × (length spans ≡ 4284) × Each Spans plated-spans × (length plated-spans ≡ 12240)

@@ -77,14 +77,21 @@ tucks n k = tuck right n k ++ tuck left n k ++ tuck right n k ++ tuck left n k
 abbrev left-tucks : Needle → ℕ → List ℕ
 left-tucks n k = tuck left n k ++ tuck right n k ++ tuck left n k ++ tuck right n k
 
--- misses of carrier 3: right over so many needles from n on, or left from n down
+-- misses of a carrier: right over so many needles of a bed from n on, or left from n down
+abbrev passes-right : ℕ → (ℕ → Needle) → ℕ → ℕ → List ℕ
+passes-right k bed n zero = []
+passes-right k bed n (suc count) = miss right (bed n) k ++ passes-right k bed (suc n) count
+
+abbrev passes-left : ℕ → (ℕ → Needle) → ℕ → ℕ → List ℕ
+passes-left k bed n zero = []
+passes-left k bed n (suc count) = miss left (bed n) k ++ passes-left k bed (n - 1) count
+
+-- the same of carrier 3, the left ones over the front bed
 abbrev misses-right : (ℕ → Needle) → ℕ → ℕ → List ℕ
-misses-right bed n zero = []
-misses-right bed n (suc count) = miss right (bed n) 3 ++ misses-right bed (suc n) count
+misses-right bed n count = passes-right 3 bed n count
 
 abbrev misses-left : ℕ → ℕ → List ℕ
-misses-left n zero = []
-misses-left n (suc count) = miss left (f n) 3 ++ misses-left (n - 1) count
+misses-left n count = passes-left 3 f n count
 
 -- carrier 3 attached to f.10, on its right, and led on over f.11 to f.29 (to slot 30), or to f.30 (to slot 31)
 abbrev led-20 : List ℕ
@@ -92,6 +99,34 @@ led-20 = in-3 ++ tuck right (f 10) 3 ++ misses-right f 11 19
 
 abbrev led-21 : List ℕ
 led-21 = in-3 ++ tuck right (f 10) 3 ++ misses-right f 11 20
+
+-- carrier 3 attached to f.31, on its left, and led back over f.30 to f.11 (to slot 11), or to f.10 (to slot 10): what lies ahead of it then is its own yarn
+abbrev back-20 : List ℕ
+back-20 = bring-in left (f 31) 3 ++ tuck left (f 31) 3 ++ misses-left 30 20
+
+abbrev back-21 : List ℕ
+back-21 = bring-in left (f 31) 3 ++ tuck left (f 31) 3 ++ misses-left 30 21
+
+-- carrier 3 attached to f.10, on its left, turned there, and led right over f.10 to f.29 (to slot 30), or to f.30 (to slot 31)
+abbrev turned-20 : List ℕ
+turned-20 = in-3 ++ tuck right (f 10) 3 ++ tuck left (f 10) 3 ++ misses-right f 10 20
+
+abbrev turned-21 : List ℕ
+turned-21 = in-3 ++ tuck right (f 10) 3 ++ tuck left (f 10) 3 ++ misses-right f 10 21
+
+-- the same from f.30, on its right, led left over f.30 to f.11 (to slot 11), or to f.10 (to slot 10)
+abbrev turned-left-20 : List ℕ
+turned-left-20 = bring-in left (f 30) 3 ++ tuck left (f 30) 3 ++ tuck right (f 30) 3 ++ misses-left 30 20
+
+abbrev turned-left-21 : List ℕ
+turned-left-21 = bring-in left (f 30) 3 ++ tuck left (f 30) 3 ++ tuck right (f 30) 3 ++ misses-left 30 21
+
+-- on the back bed: a carrier attached to b.10, on its right, and led right over so many needles from b.11 on; to b.30, on its left, and led left from b.29 down
+abbrev on-right-of-10 : ℕ → ℕ → List ℕ
+on-right-of-10 k count = bring-in right (b 10) k ++ tuck right (b 10) k ++ passes-right k b 11 count
+
+abbrev on-left-of-30 : ℕ → ℕ → List ℕ
+on-left-of-30 k count = bring-in left (b 30) k ++ tuck left (b 30) k ++ passes-left k b 29 count
 
 -- piece 8's program P
 abbrev P : List ℕ
@@ -209,7 +244,7 @@ steps =
     ∷ []
 
 -- floats of 20 and 21 columns
-abbrev floats : List Row
+abbrev pub floats : List Row
 floats =
     -- knit and split as tuck
     knitted (led-20 ++ knit right (f 30) 3) 0 0 ((f 30, 1) ∷ []) ((3, on-right 31 (f 30)) ∷ [])
@@ -249,6 +284,238 @@ floats =
     ∷ knitted (led-21 ++ miss right (f 31) 3 ++ take-out right (f 31) 3) 0 0 ((f 10, 1) ∷ []) ((3, inactive) ∷ [])
     -- none without an attachment
     ∷ knitted (in-3 ++ misses-right f 10 21 ++ tuck right (f 31) 3) 0 0 ((f 31, 1) ∷ []) ((3, on-right 32 (f 31)) ∷ [])
+    -- ahead of the carrier: its attachment lies 21 or 20 columns further on, to the right and to the left
+    ∷ knitted (back-21 ++ tuck right (f 10) 3) 9 115 ((f 31, 1) ∷ (f 10, 0) ∷ []) ((3, on-left 10 (f 31)) ∷ [])
+    ∷ knitted (back-20 ++ tuck right (f 11) 3) 0 0 ((f 31, 1) ∷ (f 11, 1) ∷ []) ((3, on-right 12 (f 11)) ∷ [])
+    ∷ knitted (back-21 ++ knit right (f 10) 3) 9 115 ((f 31, 1) ∷ (f 10, 0) ∷ []) ((3, on-left 10 (f 31)) ∷ [])
+    ∷ knitted (back-20 ++ knit right (f 11) 3) 0 0 ((f 31, 1) ∷ (f 11, 1) ∷ []) ((3, on-right 12 (f 11)) ∷ [])
+    ∷ knitted (back-21 ++ split right (f 10) 3 10) 9 115 ((f 31, 1) ∷ (f 10, 0) ∷ []) ((3, on-left 10 (f 31)) ∷ [])
+    ∷ knitted (back-20 ++ split right (f 11) 3 11) 0 0 ((f 31, 1) ∷ (f 11, 1) ∷ (b 11, 0) ∷ []) ((3, on-right 12 (f 11)) ∷ [])
+    ∷ knitted (back-21 ++ bring-in right (f 10) 4 ++ plated-knit right (f 10) 3 4) 9 120 ((f 10, 0) ∷ []) ((3, on-left 10 (f 31)) ∷ (4, unattached 10) ∷ [])
+    ∷ knitted (back-21 ++ bring-in right (f 10) 4 ++ plated-tuck right (f 10) 4 3) 9 120 ((f 10, 0) ∷ []) ((3, on-left 10 (f 31)) ∷ (4, unattached 10) ∷ [])
+    ∷ knitted (back-20 ++ bring-in right (f 11) 4 ++ plated-knit right (f 11) 3 4) 0 0 ((f 11, 2) ∷ []) ((3, on-right 12 (f 11)) ∷ (4, on-right 12 (f 11)) ∷ [])
+    ∷ knitted (back-20 ++ bring-in right (f 11) 4 ++ plated-tuck right (f 11) 4 3) 0 0 ((f 11, 2) ∷ []) ((3, on-right 12 (f 11)) ∷ (4, on-right 12 (f 11)) ∷ [])
+    ∷ knitted (led-21 ++ miss right (f 31) 3 ++ tuck left (f 31) 3) 9 115 ((f 31, 0) ∷ []) ((3, on-right 32 (f 10)) ∷ [])
+    ∷ knitted (led-21 ++ tuck left (f 30) 3) 0 0 ((f 10, 1) ∷ (f 30, 1) ∷ []) ((3, on-left 30 (f 30)) ∷ [])
+    ∷ knitted (led-21 ++ miss right (f 31) 3 ++ split left (f 31) 3 31) 9 115 ((f 31, 0) ∷ []) ((3, on-right 32 (f 10)) ∷ [])
+    ∷ knitted (led-21 ++ split left (f 30) 3 30) 0 0 ((f 30, 1) ∷ (b 30, 0) ∷ []) ((3, on-left 30 (f 30)) ∷ [])
+    ∷ knitted (led-21 ++ miss right (f 31) 3 ++ bring-in left (f 31) 4 ++ plated-knit left (f 31) 4 3) 9 120 ((f 31, 0) ∷ []) ((3, on-right 32 (f 10)) ∷ (4, unattached 32) ∷ [])
+    ∷ knitted (led-21 ++ bring-in left (f 30) 4 ++ plated-tuck left (f 30) 3 4) 0 0 ((f 30, 2) ∷ []) ((3, on-left 30 (f 30)) ∷ (4, on-left 30 (f 30)) ∷ [])
+    -- after a turn at the needle it is attached to, to the right and to the left
+    ∷ knitted (turned-20 ++ tuck right (f 30) 3) 0 0 ((f 10, 2) ∷ (f 30, 1) ∷ []) ((3, on-right 31 (f 30)) ∷ [])
+    ∷ knitted (turned-21 ++ tuck right (f 31) 3) 9 120 ((f 10, 2) ∷ (f 31, 0) ∷ []) ((3, on-left 31 (f 10)) ∷ [])
+    ∷ knitted (turned-20 ++ knit right (f 30) 3) 0 0 ((f 30, 1) ∷ []) ((3, on-right 31 (f 30)) ∷ [])
+    ∷ knitted (turned-21 ++ knit right (f 31) 3) 9 120 ((f 31, 0) ∷ []) ((3, on-left 31 (f 10)) ∷ [])
+    ∷ knitted (turned-20 ++ split right (f 30) 3 30) 0 0 ((f 10, 2) ∷ (f 30, 1) ∷ (b 30, 0) ∷ []) ((3, on-right 31 (f 30)) ∷ [])
+    ∷ knitted (turned-21 ++ split right (f 31) 3 31) 9 120 ((f 31, 0) ∷ []) ((3, on-left 31 (f 10)) ∷ [])
+    ∷ knitted (turned-20 ++ bring-in right (f 30) 4 ++ plated-tuck right (f 30) 4 3) 0 0 ((f 30, 2) ∷ []) ((3, on-right 31 (f 30)) ∷ (4, on-right 31 (f 30)) ∷ [])
+    ∷ knitted (turned-21 ++ bring-in right (f 31) 4 ++ plated-knit right (f 31) 4 3) 9 125 ((f 31, 0) ∷ []) ((3, on-left 31 (f 10)) ∷ (4, unattached 31) ∷ [])
+    ∷ knitted (turned-21 ++ bring-in right (f 31) 4 ++ plated-tuck right (f 31) 3 4) 9 125 ((f 31, 0) ∷ []) ((3, on-left 31 (f 10)) ∷ (4, unattached 31) ∷ [])
+    ∷ knitted (turned-left-20 ++ tuck left (f 10) 3) 0 0 ((f 30, 2) ∷ (f 10, 1) ∷ []) ((3, on-left 10 (f 10)) ∷ [])
+    ∷ knitted (turned-left-21 ++ tuck left (f 9) 3) 9 120 ((f 30, 2) ∷ (f 9, 0) ∷ []) ((3, on-right 10 (f 30)) ∷ [])
+    ∷ knitted (turned-left-20 ++ split left (f 10) 3 10) 0 0 ((f 10, 1) ∷ (b 10, 0) ∷ []) ((3, on-left 10 (f 10)) ∷ [])
+    ∷ knitted (turned-left-21 ++ split left (f 9) 3 9) 9 120 ((f 9, 0) ∷ []) ((3, on-right 10 (f 30)) ∷ [])
+    ∷ knitted (turned-left-20 ++ bring-in left (f 10) 4 ++ plated-knit left (f 10) 3 4) 0 0 ((f 10, 2) ∷ []) ((3, on-left 10 (f 10)) ∷ (4, on-left 10 (f 10)) ∷ [])
+    ∷ knitted (turned-left-21 ++ bring-in left (f 9) 4 ++ plated-tuck left (f 9) 4 3) 9 125 ((f 9, 0) ∷ []) ((3, on-right 10 (f 30)) ∷ (4, unattached 10) ∷ [])
+    -- knit and split to the left
+    ∷ knitted (bring-in left (f 30) 3 ++ tuck left (f 30) 3 ++ misses-left 29 20 ++ knit left (f 9) 3) 9 110 ((f 30, 1) ∷ (f 9, 0) ∷ []) ((3, on-left 10 (f 30)) ∷ [])
+    ∷ knitted (bring-in left (f 30) 3 ++ tuck left (f 30) 3 ++ misses-left 29 19 ++ knit left (f 10) 3) 0 0 ((f 30, 1) ∷ (f 10, 1) ∷ []) ((3, on-left 10 (f 10)) ∷ [])
+    ∷ knitted (bring-in left (f 30) 3 ++ tuck left (f 30) 3 ++ misses-left 29 19 ++ split left (f 10) 3 10) 0 0 ((f 10, 1) ∷ (b 10, 0) ∷ []) ((3, on-left 10 (f 10)) ∷ [])
+    -- across the beds at racking 0
+    ∷ knitted (led-21 ++ tuck right (b 31) 3) 9 110 ((f 10, 1) ∷ (b 31, 0) ∷ []) ((3, on-right 31 (f 10)) ∷ [])
+    ∷ knitted (led-20 ++ tuck right (b 30) 3) 0 0 ((f 10, 1) ∷ (b 30, 1) ∷ (f 30, 0) ∷ []) ((3, on-right 31 (b 30)) ∷ [])
+    -- on the back bed at racking 0, to the right and to the left
+    ∷ knitted (on-right-of-10 1 19 ++ tuck right (b 30) 1) 0 0 ((b 10, 1) ∷ (b 30, 1) ∷ (f 30, 0) ∷ []) ((1, on-right 31 (b 30)) ∷ [])
+    ∷ knitted (on-right-of-10 3 20 ++ tuck right (b 31) 3) 9 110 ((b 10, 1) ∷ (b 31, 0) ∷ []) ((3, on-right 31 (b 10)) ∷ [])
+    ∷ knitted (on-right-of-10 10 19 ++ knit right (b 30) 10) 0 0 ((b 30, 1) ∷ []) ((10, on-right 31 (b 30)) ∷ [])
+    ∷ knitted (on-right-of-10 1 20 ++ knit right (b 31) 1) 9 110 ((b 31, 0) ∷ []) ((1, on-right 31 (b 10)) ∷ [])
+    ∷ knitted (on-right-of-10 3 19 ++ split right (b 30) 3 30) 0 0 ((b 30, 1) ∷ (f 30, 0) ∷ []) ((3, on-right 31 (b 30)) ∷ [])
+    ∷ knitted (on-right-of-10 10 20 ++ split right (b 31) 10 31) 9 110 ((b 31, 0) ∷ []) ((10, on-right 31 (b 10)) ∷ [])
+    ∷ knitted (on-right-of-10 1 19 ++ bring-in right (b 30) 10 ++ plated-tuck right (b 30) 10 1) 0 0 ((b 30, 2) ∷ []) ((1, on-right 31 (b 30)) ∷ (10, on-right 31 (b 30)) ∷ [])
+    ∷ knitted (on-right-of-10 3 20 ++ bring-in right (b 31) 1 ++ plated-knit right (b 31) 3 1) 9 115 ((b 31, 0) ∷ []) ((3, on-right 31 (b 10)) ∷ (1, unattached 31) ∷ [])
+    ∷ knitted (on-right-of-10 10 19 ++ bring-in right (b 30) 3 ++ plated-knit right (b 30) 3 10) 0 0 ((b 30, 2) ∷ []) ((3, on-right 31 (b 30)) ∷ (10, on-right 31 (b 30)) ∷ [])
+    ∷ knitted (on-right-of-10 1 20 ++ bring-in right (b 31) 10 ++ plated-tuck right (b 31) 1 10) 9 115 ((b 31, 0) ∷ []) ((1, on-right 31 (b 10)) ∷ (10, unattached 31) ∷ [])
+    ∷ knitted (bring-in left (b 30) 3 ++ tuck left (b 30) 3 ++ misses-left 29 20 ++ tuck left (b 9) 3) 9 110 ((b 30, 1) ∷ (b 9, 0) ∷ []) ((3, on-left 10 (b 30)) ∷ [])
+    ∷ knitted (on-left-of-30 1 19 ++ tuck left (b 10) 1) 0 0 ((b 30, 1) ∷ (b 10, 1) ∷ (f 10, 0) ∷ []) ((1, on-left 10 (b 10)) ∷ [])
+    ∷ knitted (on-left-of-30 3 20 ++ tuck left (b 9) 3) 9 110 ((b 9, 0) ∷ []) ((3, on-left 10 (b 30)) ∷ [])
+    ∷ knitted (on-left-of-30 10 19 ++ knit left (b 10) 10) 0 0 ((b 10, 1) ∷ []) ((10, on-left 10 (b 10)) ∷ [])
+    ∷ knitted (on-left-of-30 1 20 ++ knit left (b 9) 1) 9 110 ((b 9, 0) ∷ []) ((1, on-left 10 (b 30)) ∷ [])
+    ∷ knitted (on-left-of-30 3 19 ++ split left (b 10) 3 10) 0 0 ((b 10, 1) ∷ (f 10, 0) ∷ []) ((3, on-left 10 (b 10)) ∷ [])
+    ∷ knitted (on-left-of-30 10 20 ++ split left (b 9) 10 9) 9 110 ((b 9, 0) ∷ []) ((10, on-left 10 (b 30)) ∷ [])
+    ∷ knitted (on-left-of-30 1 19 ++ bring-in left (b 10) 10 ++ plated-knit left (b 10) 1 10) 0 0 ((b 10, 2) ∷ []) ((1, on-left 10 (b 10)) ∷ (10, on-left 10 (b 10)) ∷ [])
+    ∷ knitted (on-left-of-30 3 20 ++ bring-in left (b 9) 1 ++ plated-tuck left (b 9) 1 3) 9 115 ((b 9, 0) ∷ []) ((3, on-left 10 (b 30)) ∷ (1, unattached 10) ∷ [])
+    ∷ knitted (on-left-of-30 10 19 ++ bring-in left (b 10) 3 ++ plated-tuck left (b 10) 10 3) 0 0 ((b 10, 2) ∷ []) ((3, on-left 10 (b 10)) ∷ (10, on-left 10 (b 10)) ∷ [])
+    ∷ knitted (on-left-of-30 1 20 ++ bring-in left (b 9) 10 ++ plated-knit left (b 9) 10 1) 9 115 ((b 9, 0) ∷ []) ((1, on-left 10 (b 30)) ∷ (10, unattached 10) ∷ [])
+    -- at racking −3, where b.10 has column 7 and b.30 column 27: on the back bed to the right and to the left, from the front bed to the left, and ahead
+    ∷ racked (rack 253 ++ on-right-of-10 1 19 ++ tuck right (b 30) 1) 0 0 (negsuc 2) ((b 10, 1) ∷ (b 30, 1) ∷ []) ((1, on-right 28 (b 30)) ∷ [])
+    ∷ racked (rack 253 ++ on-right-of-10 10 20 ++ tuck right (b 31) 10) 9 112 (negsuc 2) ((b 31, 0) ∷ []) ((10, on-right 28 (b 10)) ∷ [])
+    ∷ racked (rack 253 ++ on-left-of-30 3 19 ++ knit left (b 10) 3) 0 0 (negsuc 2) ((b 30, 1) ∷ (b 10, 1) ∷ []) ((3, on-left 7 (b 10)) ∷ [])
+    ∷ racked (rack 253 ++ on-left-of-30 1 20 ++ split left (b 9) 1 6) 9 112 (negsuc 2) ((b 9, 0) ∷ []) ((1, on-left 7 (b 30)) ∷ [])
+    ∷ racked (rack 253 ++ on-right-of-10 3 20 ++ bring-in right (b 31) 10 ++ plated-knit right (b 31) 10 3) 9 117 (negsuc 2) ((b 31, 0) ∷ []) ((3, on-right 28 (b 10)) ∷ (10, unattached 28) ∷ [])
+    ∷ racked (rack 253 ++ bring-in left (f 30) 10 ++ tuck left (f 30) 10 ++ passes-left 10 f 29 19 ++ tuck left (b 13) 10) 0 0 (negsuc 2) ((f 30, 1) ∷ (b 13, 1) ∷ []) ((10, on-left 10 (b 13)) ∷ [])
+    ∷ racked (rack 253 ++ bring-in left (f 30) 3 ++ tuck left (f 30) 3 ++ passes-left 3 f 29 20 ++ tuck left (b 12) 3) 9 112 (negsuc 2) ((b 12, 0) ∷ []) ((3, on-left 10 (f 30)) ∷ [])
+    ∷ racked (rack 253 ++ bring-in left (b 31) 1 ++ tuck left (b 31) 1 ++ passes-left 1 b 30 20 ++ tuck right (b 11) 1) 0 0 (negsuc 2) ((b 31, 1) ∷ (b 11, 1) ∷ []) ((1, on-right 9 (b 11)) ∷ [])
+    ∷ racked (rack 253 ++ bring-in left (b 31) 10 ++ tuck left (b 31) 10 ++ passes-left 10 b 30 21 ++ knit right (b 10) 10) 9 117 (negsuc 2) ((b 10, 0) ∷ []) ((10, on-left 7 (b 31)) ∷ [])
+    -- at racking 5, where b.10 has column 15 and b.30 column 35: the same, and from either bed to the other
+    ∷ racked (rack 5 ++ on-right-of-10 10 19 ++ split right (b 30) 10 35) 0 0 (pos 5) ((b 30, 1) ∷ (f 35, 0) ∷ []) ((10, on-right 36 (b 30)) ∷ [])
+    ∷ racked (rack 5 ++ on-right-of-10 3 20 ++ tuck right (b 31) 3) 9 112 (pos 5) ((b 31, 0) ∷ []) ((3, on-right 36 (b 10)) ∷ [])
+    ∷ racked (rack 5 ++ on-left-of-30 1 19 ++ tuck left (b 10) 1) 0 0 (pos 5) ((b 10, 1) ∷ []) ((1, on-left 15 (b 10)) ∷ [])
+    ∷ racked (rack 5 ++ on-left-of-30 10 20 ++ knit left (b 9) 10) 9 112 (pos 5) ((b 9, 0) ∷ []) ((10, on-left 15 (b 30)) ∷ [])
+    ∷ racked (rack 5 ++ on-left-of-30 3 19 ++ bring-in left (b 10) 1 ++ plated-tuck left (b 10) 3 1) 0 0 (pos 5) ((b 10, 2) ∷ []) ((3, on-left 15 (b 10)) ∷ (1, on-left 15 (b 10)) ∷ [])
+    ∷ racked (rack 5 ++ bring-in right (b 10) 1 ++ tuck right (b 10) 1 ++ passes-right 1 f 16 19 ++ tuck right (f 35) 1) 0 0 (pos 5) ((b 10, 1) ∷ (f 35, 1) ∷ []) ((1, on-right 36 (f 35)) ∷ [])
+    ∷ racked (rack 5 ++ bring-in right (b 10) 3 ++ tuck right (b 10) 3 ++ passes-right 3 f 16 20 ++ knit right (f 36) 3) 9 112 (pos 5) ((f 36, 0) ∷ []) ((3, on-right 36 (b 10)) ∷ [])
+    ∷ racked (rack 5 ++ bring-in right (f 10) 10 ++ tuck right (f 10) 10 ++ passes-right 10 f 11 19 ++ knit right (b 25) 10) 0 0 (pos 5) ((f 10, 1) ∷ (b 25, 1) ∷ []) ((10, on-right 31 (b 25)) ∷ [])
+    ∷ racked (rack 5 ++ bring-in right (f 10) 1 ++ tuck right (f 10) 1 ++ passes-right 1 f 11 20 ++ tuck right (b 26) 1) 9 112 (pos 5) ((b 26, 0) ∷ []) ((1, on-right 31 (f 10)) ∷ [])
+    ∷ racked (rack 5 ++ bring-in left (b 30) 3 ++ tuck left (b 30) 3 ++ passes-left 3 f 34 19 ++ tuck left (f 15) 3) 0 0 (pos 5) ((b 30, 1) ∷ (f 15, 1) ∷ []) ((3, on-left 15 (f 15)) ∷ [])
+    ∷ racked (rack 5 ++ bring-in left (b 30) 1 ++ tuck left (b 30) 1 ++ passes-left 1 f 34 20 ++ knit left (f 14) 1) 9 112 (pos 5) ((f 14, 0) ∷ []) ((1, on-left 15 (b 30)) ∷ [])
+    -- 'both columns at the current racking', to the left: rack 1 makes 20 columns 21, rack −1 makes 21 columns 20
+    ∷ racked (bring-in left (b 30) 3 ++ knit left (b 30) 3 ++ misses-left 29 19 ++ rack 1 ++ tuck left (f 10) 3) 9 107 (pos 1) ((b 30, 1) ∷ (f 10, 0) ∷ []) ((3, on-left 11 (b 30)) ∷ [])
+    ∷ racked (bring-in left (b 30) 3 ++ knit left (b 30) 3 ++ misses-left 29 20 ++ rack 255 ++ tuck left (f 9) 3) 0 0 (negsuc 0) ((b 30, 1) ∷ (f 9, 1) ∷ []) ((3, on-left 9 (f 9)) ∷ [])
+    ∷ []
+
+-- long ones: 41 columns, the whole front bed, and from f.0 to b.249 at racking 8
+abbrev pub long-floats : List Row
+long-floats =
+    knitted (in-3 ++ tuck right (f 10) 3 ++ misses-right f 11 40 ++ tuck right (f 51) 3) 9 210 ((f 51, 0) ∷ []) ((3, on-right 51 (f 10)) ∷ [])
+    ∷ knitted (bring-in right (f 0) 3 ++ tuck right (f 0) 3 ++ misses-right f 1 248 ++ knit right (f 249) 3) 9 1250 ((f 249, 0) ∷ []) ((3, on-right 249 (f 0)) ∷ [])
+    ∷ racked (rack 8 ++ bring-in right (f 0) 3 ++ tuck right (f 0) 3 ++ misses-right f 1 249 ++ misses-right b 242 7 ++ knit right (b 249) 3) 9 1292 (pos 8) ((b 249, 0) ∷ [])
+    ((3, on-right 257 (f 0)) ∷ [])
+    ∷ []
+
+-- ---- attachments
+-- two carriers attached to a needle in column 20, one on its right (at slot 21), one on its left (at slot 20)
+abbrev two-on : ℕ → ℕ → Needle → List ℕ
+two-on k j n = bring-in right n k ++ tuck right n k ++ bring-in left n j ++ tuck left n j
+
+-- two more, one on the right of a needle in column 21 (at slot 22), one on the left of another needle
+abbrev four-on : ℕ → ℕ → ℕ → ℕ → Needle → Needle → Needle → List ℕ
+four-on k j i h n m s = two-on k j n ++ bring-in right m i ++ tuck right m i ++ bring-in left s h ++ tuck left s h
+
+-- carriers 1 to 9 attached to a needle in column 20, on its right and left in turn, each by a knit; and where they are then
+abbrev nine-on : Needle → List ℕ
+nine-on n =
+    bring-in right n 1 ++ knit right n 1 ++ bring-in left n 2 ++ knit left n 2 ++ bring-in right n 3 ++ knit right n 3
+    ++ bring-in left n 4 ++ knit left n 4 ++ bring-in right n 5 ++ knit right n 5 ++ bring-in left n 6 ++ knit left n 6
+    ++ bring-in right n 7 ++ knit right n 7 ++ bring-in left n 8 ++ knit left n 8 ++ bring-in right n 9 ++ knit right n 9
+
+abbrev eight : Needle → List (ℕ × Carrier)
+eight n =
+    (2, on-left 20 n) ∷ (3, on-right 21 n) ∷ (4, on-left 20 n) ∷ (5, on-right 21 n) ∷ (6, on-left 20 n) ∷ (7, on-right 21 n) ∷ (8, on-left 20 n) ∷ (9, on-right 21 n) ∷ []
+
+abbrev nine : Needle → List (ℕ × Carrier)
+nine n = (1, on-right 21 n) ∷ eight n
+
+-- what goes along with a needle's loops, and what stays
+abbrev pub attachments : List Row
+attachments =
+    -- an emptied hook: its attachments are still there, and go
+    knitted (in-3 ++ tuck right (f 10) 3 ++ drop (f 10) ++ xfer (f 10) 10) 0 0 ((f 10, 0) ∷ (b 10, 0) ∷ []) ((3, on-right 11 (b 10)) ∷ [])
+    ∷ knitted (bring-in right (f 10) 1 ++ tuck right (f 10) 1 ++ drop (f 10) ++ in-3 ++ split right (f 10) 3 10) 0 0 ((f 10, 1) ∷ (b 10, 0) ∷ [])
+    ((1, on-right 11 (b 10)) ∷ (3, on-right 11 (f 10)) ∷ [])
+    ∷ racked (rack 8 ++ bring-in left (b 12) 10 ++ tuck left (b 12) 10 ++ drop (b 12) ++ xfer (b 12) 20) 0 0 (pos 8) ((b 12, 0) ∷ (f 20, 0) ∷ []) ((10, on-left 20 (f 20)) ∷ [])
+    ∷ racked (rack 255 ++ bring-in left (b 21) 10 ++ tuck left (b 21) 10 ++ drop (b 21) ++ bring-in right (b 21) 1 ++ split right (b 21) 1 20) 0 0 (negsuc 0) ((b 21, 1) ∷ (f 20, 0) ∷ [])
+    ((1, on-right 21 (b 21)) ∷ (10, on-left 20 (f 20)) ∷ [])
+    ∷ knitted (two-on 1 10 (f 20) ++ drop (f 20) ++ xfer (f 20) 20) 0 0 ((f 20, 0) ∷ (b 20, 0) ∷ []) ((1, on-right 21 (b 20)) ∷ (10, on-left 20 (b 20)) ∷ [])
+    -- once gone they do not go again, and they come back
+    ∷ knitted (in-3 ++ tuck right (f 10) 3 ++ xfer (f 10) 10 ++ xfer (f 10) 10) 0 0 ((f 10, 0) ∷ (b 10, 1) ∷ []) ((3, on-right 11 (b 10)) ∷ [])
+    ∷ knitted (in-3 ++ tuck right (f 10) 3 ++ xfer (f 10) 10 ++ xfer (b 10) 10) 0 0 ((f 10, 1) ∷ (b 10, 0) ∷ []) ((3, on-right 11 (f 10)) ∷ [])
+    -- a split from the back bed, and one at racking 2: another carrier's, on either side
+    ∷ knitted (bring-in right (b 10) 1 ++ tuck right (b 10) 1 ++ bring-in right (b 10) 3 ++ split right (b 10) 3 10) 0 0 ((b 10, 1) ∷ (f 10, 1) ∷ [])
+    ((1, on-right 11 (f 10)) ∷ (3, on-right 11 (b 10)) ∷ [])
+    ∷ knitted (bring-in left (b 10) 1 ++ tuck left (b 10) 1 ++ bring-in right (b 10) 3 ++ split right (b 10) 3 10) 0 0 ((b 10, 1) ∷ (f 10, 1) ∷ [])
+    ((1, on-left 10 (f 10)) ∷ (3, on-right 11 (b 10)) ∷ [])
+    ∷ racked (rack 2 ++ bring-in right (f 12) 1 ++ tuck right (f 12) 1 ++ bring-in right (f 12) 3 ++ split right (f 12) 3 10) 0 0 (pos 2) ((f 12, 1) ∷ (b 10, 1) ∷ [])
+    ((1, on-right 13 (b 10)) ∷ (3, on-right 13 (f 12)) ∷ [])
+    -- its own: from the back bed at racking −1; at the second needle
+    ∷ racked (rack 255 ++ bring-in right (b 21) 10 ++ tuck right (b 21) 10 ++ split left (b 21) 10 20) 0 0 (negsuc 0) ((b 21, 1) ∷ (f 20, 1) ∷ []) ((10, on-left 20 (b 21)) ∷ [])
+    ∷ knitted (bring-in right (b 10) 3 ++ tuck right (b 10) 3 ++ split left (f 10) 3 10) 0 0 ((f 10, 1) ∷ (b 10, 1) ∷ []) ((3, on-left 10 (f 10)) ∷ [])
+    -- an xfer from the back bed, on the left
+    ∷ knitted (bring-in left (b 10) 3 ++ tuck left (b 10) 3 ++ xfer (b 10) 10) 0 0 ((f 10, 1) ∷ (b 10, 0) ∷ []) ((3, on-left 10 (f 10)) ∷ [])
+    -- onto a needle that has one
+    ∷ racked (rack 2 ++ bring-in left (b 18) 3 ++ tuck left (b 18) 3 ++ bring-in right (f 20) 1 ++ tuck right (f 20) 1 ++ xfer (f 20) 18) 0 0 (pos 2) ((f 20, 0) ∷ (b 18, 2) ∷ [])
+    ((1, on-right 21 (b 18)) ∷ (3, on-left 20 (b 18)) ∷ [])
+    ∷ racked (rack 248 ++ bring-in right (f 20) 10 ++ tuck right (f 20) 10 ++ bring-in left (b 28) 1 ++ tuck left (b 28) 1 ++ xfer (b 28) 20) 0 0 (negsuc 7) ((f 20, 2) ∷ (b 28, 0) ∷ [])
+    ((1, on-left 20 (f 20)) ∷ (10, on-right 21 (f 20)) ∷ [])
+    -- xfer at rackings −8, −1, 2 and 8, where b.28, b.21, b.18 and b.12 have column 20: two go, one on each side; one at the next needle and one at the needle of the same
+    -- number on the other bed stay. From the front
+    ∷ racked (rack 248 ++ four-on 1 3 10 4 (f 20) (f 21) (b 20) ++ xfer (f 20) 28) 0 0 (negsuc 7) ((f 20, 0) ∷ (b 28, 2) ∷ (f 21, 1) ∷ (b 20, 1) ∷ [])
+    ((1, on-right 21 (b 28)) ∷ (3, on-left 20 (b 28)) ∷ (10, on-right 22 (f 21)) ∷ (4, on-left 12 (b 20)) ∷ [])
+    ∷ racked (rack 255 ++ four-on 3 10 1 5 (f 20) (f 21) (b 20) ++ xfer (f 20) 21) 0 0 (negsuc 0) ((f 20, 0) ∷ (b 21, 2) ∷ (f 21, 1) ∷ (b 20, 1) ∷ [])
+    ((3, on-right 21 (b 21)) ∷ (10, on-left 20 (b 21)) ∷ (1, on-right 22 (f 21)) ∷ (5, on-left 19 (b 20)) ∷ [])
+    ∷ racked (rack 2 ++ four-on 10 1 3 6 (f 20) (f 21) (b 20) ++ xfer (f 20) 18) 0 0 (pos 2) ((f 20, 0) ∷ (b 18, 2) ∷ (f 21, 1) ∷ (b 20, 1) ∷ [])
+    ((10, on-right 21 (b 18)) ∷ (1, on-left 20 (b 18)) ∷ (3, on-right 22 (f 21)) ∷ (6, on-left 22 (b 20)) ∷ [])
+    ∷ racked (rack 8 ++ four-on 1 10 3 7 (f 20) (f 21) (b 20) ++ xfer (f 20) 12) 0 0 (pos 8) ((f 20, 0) ∷ (b 12, 2) ∷ (f 21, 1) ∷ (b 20, 1) ∷ [])
+    ((1, on-right 21 (b 12)) ∷ (10, on-left 20 (b 12)) ∷ (3, on-right 22 (f 21)) ∷ (7, on-left 28 (b 20)) ∷ [])
+    -- from the back
+    ∷ racked (rack 248 ++ four-on 3 1 10 8 (b 28) (b 29) (f 28) ++ xfer (b 28) 20) 0 0 (negsuc 7) ((b 28, 0) ∷ (f 20, 2) ∷ (b 29, 1) ∷ (f 28, 1) ∷ [])
+    ((3, on-right 21 (f 20)) ∷ (1, on-left 20 (f 20)) ∷ (10, on-right 22 (b 29)) ∷ (8, on-left 28 (f 28)) ∷ [])
+    ∷ racked (rack 255 ++ four-on 10 3 1 9 (b 21) (b 22) (f 21) ++ xfer (b 21) 20) 0 0 (negsuc 0) ((b 21, 0) ∷ (f 20, 2) ∷ (b 22, 1) ∷ (f 21, 1) ∷ [])
+    ((10, on-right 21 (f 20)) ∷ (3, on-left 20 (f 20)) ∷ (1, on-right 22 (b 22)) ∷ (9, on-left 21 (f 21)) ∷ [])
+    ∷ racked (rack 2 ++ four-on 1 3 10 2 (b 18) (b 19) (f 18) ++ xfer (b 18) 20) 0 0 (pos 2) ((b 18, 0) ∷ (f 20, 2) ∷ (b 19, 1) ∷ (f 18, 1) ∷ [])
+    ((1, on-right 21 (f 20)) ∷ (3, on-left 20 (f 20)) ∷ (10, on-right 22 (b 19)) ∷ (2, on-left 18 (f 18)) ∷ [])
+    ∷ racked (rack 8 ++ four-on 3 10 1 4 (b 12) (b 13) (f 12) ++ xfer (b 12) 20) 0 0 (pos 8) ((b 12, 0) ∷ (f 20, 2) ∷ (b 13, 1) ∷ (f 12, 1) ∷ [])
+    ((3, on-right 21 (f 20)) ∷ (10, on-left 20 (f 20)) ∷ (1, on-right 22 (b 13)) ∷ (4, on-left 12 (f 12)) ∷ [])
+    -- split there, right and left in turn: the same, and its own carrier ends at the first needle. From the front
+    ∷ racked (rack 248 ++ four-on 10 3 1 4 (f 20) (f 21) (b 20) ++ bring-in right (f 20) 5 ++ split right (f 20) 5 28) 0 0 (negsuc 7) ((f 20, 1) ∷ (b 28, 2) ∷ (f 21, 1) ∷ (b 20, 1) ∷ [])
+    ((10, on-right 21 (b 28)) ∷ (3, on-left 20 (b 28)) ∷ (1, on-right 22 (f 21)) ∷ (4, on-left 12 (b 20)) ∷ (5, on-right 21 (f 20)) ∷ [])
+    ∷ racked (rack 255 ++ four-on 1 10 3 6 (f 20) (f 21) (b 20) ++ bring-in left (f 20) 2 ++ split left (f 20) 2 21) 0 0 (negsuc 0) ((f 20, 1) ∷ (b 21, 2) ∷ (f 21, 1) ∷ (b 20, 1) ∷ [])
+    ((1, on-right 21 (b 21)) ∷ (10, on-left 20 (b 21)) ∷ (3, on-right 22 (f 21)) ∷ (6, on-left 19 (b 20)) ∷ (2, on-left 20 (f 20)) ∷ [])
+    ∷ racked (rack 2 ++ four-on 3 1 10 7 (f 20) (f 21) (b 20) ++ bring-in right (f 20) 8 ++ split right (f 20) 8 18) 0 0 (pos 2) ((f 20, 1) ∷ (b 18, 2) ∷ (f 21, 1) ∷ (b 20, 1) ∷ [])
+    ((3, on-right 21 (b 18)) ∷ (1, on-left 20 (b 18)) ∷ (10, on-right 22 (f 21)) ∷ (7, on-left 22 (b 20)) ∷ (8, on-right 21 (f 20)) ∷ [])
+    ∷ racked (rack 8 ++ four-on 1 3 9 5 (f 20) (f 21) (b 20) ++ bring-in left (f 20) 10 ++ split left (f 20) 10 12) 0 0 (pos 8) ((f 20, 1) ∷ (b 12, 2) ∷ (f 21, 1) ∷ (b 20, 1) ∷ [])
+    ((1, on-right 21 (b 12)) ∷ (3, on-left 20 (b 12)) ∷ (9, on-right 22 (f 21)) ∷ (5, on-left 28 (b 20)) ∷ (10, on-left 20 (f 20)) ∷ [])
+    -- from the back
+    ∷ racked (rack 248 ++ four-on 10 1 3 2 (b 28) (b 29) (f 28) ++ bring-in left (b 28) 4 ++ split left (b 28) 4 20) 0 0 (negsuc 7) ((b 28, 1) ∷ (f 20, 2) ∷ (b 29, 1) ∷ (f 28, 1) ∷ [])
+    ((10, on-right 21 (f 20)) ∷ (1, on-left 20 (f 20)) ∷ (3, on-right 22 (b 29)) ∷ (2, on-left 28 (f 28)) ∷ (4, on-left 20 (b 28)) ∷ [])
+    ∷ racked (rack 255 ++ four-on 3 10 8 9 (b 21) (b 22) (f 21) ++ bring-in right (b 21) 1 ++ split right (b 21) 1 20) 0 0 (negsuc 0) ((b 21, 1) ∷ (f 20, 2) ∷ (b 22, 1) ∷ (f 21, 1) ∷ [])
+    ((3, on-right 21 (f 20)) ∷ (10, on-left 20 (f 20)) ∷ (8, on-right 22 (b 22)) ∷ (9, on-left 21 (f 21)) ∷ (1, on-right 21 (b 21)) ∷ [])
+    ∷ racked (rack 2 ++ four-on 1 10 6 7 (b 18) (b 19) (f 18) ++ bring-in left (b 18) 3 ++ split left (b 18) 3 20) 0 0 (pos 2) ((b 18, 1) ∷ (f 20, 2) ∷ (b 19, 1) ∷ (f 18, 1) ∷ [])
+    ((1, on-right 21 (f 20)) ∷ (10, on-left 20 (f 20)) ∷ (6, on-right 22 (b 19)) ∷ (7, on-left 18 (f 18)) ∷ (3, on-left 20 (b 18)) ∷ [])
+    ∷ racked (rack 8 ++ four-on 10 3 2 5 (b 12) (b 13) (f 12) ++ bring-in right (b 12) 1 ++ split right (b 12) 1 20) 0 0 (pos 8) ((b 12, 1) ∷ (f 20, 2) ∷ (b 13, 1) ∷ (f 12, 1) ∷ [])
+    ((10, on-right 21 (f 20)) ∷ (3, on-left 20 (f 20)) ∷ (2, on-right 22 (b 13)) ∷ (5, on-left 12 (f 12)) ∷ (1, on-right 21 (b 12)) ∷ [])
+    -- a miss over the needle it is attached to keeps needle and side, right and left, on either bed; over the opposite needle; past 40 columns; beside two others
+    ∷ knitted (in-3 ++ tuck right (f 10) 3 ++ tuck left (f 10) 3 ++ miss right (f 10) 3) 0 0 ((f 10, 2) ∷ []) ((3, on-left 11 (f 10)) ∷ [])
+    ∷ knitted (in-3 ++ tuck right (f 10) 3 ++ miss left (f 10) 3) 0 0 ((f 10, 1) ∷ []) ((3, on-right 10 (f 10)) ∷ [])
+    ∷ knitted (in-3 ++ tuck right (f 10) 3 ++ tuck left (f 10) 3 ++ miss right (f 10) 3 ++ miss left (f 10) 3) 0 0 ((f 10, 2) ∷ []) ((3, on-left 10 (f 10)) ∷ [])
+    ∷ knitted (in-3 ++ tuck right (f 10) 3 ++ miss left (f 10) 3 ++ miss right (f 10) 3) 0 0 ((f 10, 1) ∷ []) ((3, on-right 11 (f 10)) ∷ [])
+    ∷ racked (rack 255 ++ bring-in left (b 21) 1 ++ tuck left (b 21) 1 ++ miss right (b 21) 1) 0 0 (negsuc 0) ((b 21, 1) ∷ []) ((1, on-left 21 (b 21)) ∷ [])
+    ∷ racked (rack 255 ++ bring-in right (b 21) 10 ++ tuck right (b 21) 10 ++ miss left (b 21) 10) 0 0 (negsuc 0) ((b 21, 1) ∷ []) ((10, on-right 20 (b 21)) ∷ [])
+    ∷ knitted (in-3 ++ tuck right (f 10) 3 ++ miss left (b 10) 3) 0 0 ((f 10, 1) ∷ (b 10, 0) ∷ []) ((3, on-right 10 (f 10)) ∷ [])
+    ∷ knitted (in-3 ++ tuck right (f 10) 3 ++ misses-right f 11 41) 0 0 ((f 10, 1) ∷ []) ((3, on-right 52 (f 10)) ∷ [])
+    ∷ knitted (bring-in left (b 60) 10 ++ tuck left (b 60) 10 ++ passes-left 10 b 59 45) 0 0 ((b 60, 1) ∷ []) ((10, on-left 15 (b 60)) ∷ [])
+    ∷ knitted (two-on 1 10 (f 20) ++ bring-in right (f 20) 3 ++ miss right (f 20) 3) 0 0 ((f 20, 2) ∷ []) ((1, on-right 21 (f 20)) ∷ (10, on-left 20 (f 20)) ∷ (3, unattached 21) ∷ [])
+    -- a drop of three loops, and then of none, keeps two carriers'
+    ∷ knitted (bring-in right (f 10) 1 ++ tuck right (f 10) 1 ++ in-3 ++ tuck right (f 10) 3 ++ tuck left (f 10) 3 ++ drop (f 10)) 0 0 ((f 10, 0) ∷ [])
+    ((1, on-right 11 (f 10)) ∷ (3, on-left 10 (f 10)) ∷ [])
+    ∷ knitted (bring-in right (f 10) 1 ++ tuck right (f 10) 1 ++ in-3 ++ tuck right (f 10) 3 ++ tuck left (f 10) 3 ++ drop (f 10) ++ drop (f 10)) 0 0 ((f 10, 0) ∷ [])
+    ((1, on-right 11 (f 10)) ∷ (3, on-left 10 (f 10)) ∷ [])
+    ∷ racked (rack 2 ++ two-on 10 1 (b 18) ++ tuck right (b 18) 1 ++ drop (b 18) ++ drop (b 18)) 0 0 (pos 2) ((b 18, 0) ∷ []) ((10, on-right 21 (b 18)) ∷ (1, on-right 21 (b 18)) ∷ [])
+    -- in, out, tuck, knit and rack leave the others'
+    ∷ knitted (two-on 3 10 (b 20) ++ bring-in right (b 20) 1) 0 0 ((b 20, 2) ∷ []) ((3, on-right 21 (b 20)) ∷ (10, on-left 20 (b 20)) ∷ (1, unattached 20) ∷ [])
+    ∷ knitted (two-on 10 1 (b 20) ++ bring-in left (b 20) 3 ++ knit left (b 20) 3) 0 0 ((b 20, 1) ∷ []) ((10, on-right 21 (b 20)) ∷ (1, on-left 20 (b 20)) ∷ (3, on-left 20 (b 20)) ∷ [])
+    ∷ knitted (two-on 1 3 (f 20) ++ bring-in left (f 20) 10 ++ tuck left (f 20) 10 ++ take-out left (f 20) 10) 0 0 ((f 20, 3) ∷ [])
+    ((1, on-right 21 (f 20)) ∷ (3, on-left 20 (f 20)) ∷ (10, inactive) ∷ [])
+    ∷ knitted (two-on 3 10 (f 20) ++ take-out right (f 20) 3) 0 0 ((f 20, 2) ∷ []) ((3, inactive) ∷ (10, on-left 20 (f 20)) ∷ [])
+    ∷ racked (two-on 10 3 (b 20) ++ rack 248) 0 0 (negsuc 7) ((b 20, 2) ∷ []) ((10, on-right 21 (b 20)) ∷ (3, on-left 20 (b 20)) ∷ [])
+    -- nine others: in, tuck, knit, out, miss, plated tuck, drop and rack leave them, xfer and split take them all along
+    ∷ knitted (nine-on (f 20) ++ bring-in right (f 20) 10) 0 0 ((f 20, 1) ∷ []) ((10, unattached 20) ∷ nine (f 20))
+    ∷ knitted (nine-on (f 20) ++ bring-in left (f 20) 10 ++ tuck left (f 20) 10) 0 0 ((f 20, 2) ∷ []) ((10, on-left 20 (f 20)) ∷ nine (f 20))
+    ∷ knitted (nine-on (f 20) ++ bring-in right (f 20) 10 ++ knit right (f 20) 10) 0 0 ((f 20, 1) ∷ []) ((10, on-right 21 (f 20)) ∷ nine (f 20))
+    ∷ knitted (nine-on (b 20) ++ bring-in right (b 20) 10 ++ tuck right (b 20) 10 ++ take-out right (b 20) 10) 0 0 ((b 20, 2) ∷ []) ((10, inactive) ∷ nine (b 20))
+    ∷ knitted (nine-on (b 20) ++ bring-in left (b 20) 10 ++ miss left (b 20) 10) 0 0 ((b 20, 1) ∷ []) ((10, unattached 20) ∷ nine (b 20))
+    ∷ knitted (nine-on (f 20) ++ bring-in left (f 20) 10 ++ plated-tuck left (f 20) 10 1) 0 0 ((f 20, 3) ∷ []) ((1, on-left 20 (f 20)) ∷ (10, on-left 20 (f 20)) ∷ eight (f 20))
+    ∷ knitted (nine-on (b 20) ++ drop (b 20)) 0 0 ((b 20, 0) ∷ []) ((10, inactive) ∷ nine (b 20))
+    ∷ racked (nine-on (f 20) ++ rack 2) 0 0 (pos 2) ((f 20, 1) ∷ []) (nine (f 20))
+    ∷ racked (nine-on (b 20) ++ rack 8) 0 0 (pos 8) ((b 20, 1) ∷ []) (nine (b 20))
+    ∷ knitted (nine-on (f 20) ++ xfer (f 20) 20) 0 0 ((f 20, 0) ∷ (b 20, 1) ∷ []) ((10, inactive) ∷ nine (b 20))
+    ∷ knitted (nine-on (b 20) ++ xfer (b 20) 20) 0 0 ((f 20, 1) ∷ (b 20, 0) ∷ []) ((10, inactive) ∷ nine (f 20))
+    ∷ knitted (nine-on (f 20) ++ bring-in right (f 20) 10 ++ split right (f 20) 10 20) 0 0 ((f 20, 1) ∷ (b 20, 1) ∷ []) ((10, on-right 21 (f 20)) ∷ nine (b 20))
+    ∷ knitted (nine-on (b 20) ++ bring-in left (b 20) 10 ++ split left (b 20) 10 20) 0 0 ((f 20, 1) ∷ (b 20, 1) ∷ []) ((10, on-left 20 (b 20)) ∷ nine (f 20))
+    -- an xfer of the opposite needle and of the next leaves them
+    ∷ knitted (nine-on (f 20) ++ xfer (b 20) 20) 0 0 ((f 20, 1) ∷ (b 20, 0) ∷ []) (nine (f 20))
+    ∷ knitted (nine-on (b 20) ++ xfer (b 21) 21) 0 0 ((b 20, 1) ∷ []) (nine (b 20))
+    -- a back knit to the left leaves another's
+    ∷ knitted (bring-in right (b 10) 1 ++ tuck right (b 10) 1 ++ bring-in left (b 10) 3 ++ knit left (b 10) 3) 0 0 ((b 10, 1) ∷ []) ((1, on-right 11 (b 10)) ∷ (3, on-left 10 (b 10)) ∷ [])
     ∷ []
 
 -- each number, and which of two comes first
@@ -631,8 +898,12 @@ carried-off =
     ∷ knitted (led-right 20 ++ (1 ∷ [])) 4 110 [] ((3, on-right 31 (b 10)) ∷ [])
     ∷ []
 
+-- the rows besides floats and attachments, and all of them
+abbrev pub the-rest : List Row
+the-rest = pieces ++ steps ++ refusals ++ fields ++ plated ++ plated-bytes 10 ++ plated-bytes 11 ++ limits ++ carried-off
+
 abbrev pub rows : List Row
-rows = pieces ++ steps ++ floats ++ refusals ++ fields ++ plated ++ plated-bytes 10 ++ plated-bytes 11 ++ limits ++ carried-off
+rows = floats ++ long-floats ++ attachments ++ the-rest
 
 -- ---- the rewriter: limit, program, log, the lengths of output and work area; its answer, the program at the front of the output and the starts at the front of the work area
 pub record Swap : Type 0 where

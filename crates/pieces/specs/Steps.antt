@@ -69,6 +69,27 @@ steps =
 abbrev pub Shows : State × List ℕ × ℕ × ℕ × ℕ → Type 0
 Shows (s, l, n, c, k) = (panelStep s l .number ≡ n) × (panelStep s l .complete ≡ c) × (panelStep s l .length ≡ k)
 
+-- ---- the hooks that a step looks at, of the state that it leaves: a state, bytes, number, hooks
+abbrev pub looks : List (State × List ℕ × ℕ × ℕ)
+looks =
+    -- none holds a loop: all; done and refused, at limit 1, with a carrier in
+    (empty, rack 0, 0, 500) ∷ (empty, drop (f 5), 0, 500) ∷ (empty, bring-in right (f 10) 3, 0, 500) ∷ (empty, 0 ∷ [], 3, 500) ∷ (empty, [], 4, 500) ∷ (empty, rack 9, 5, 500) ∷ (empty, knit right (f 10) 3, 7, 500)
+    ∷ (emptyState 1, rack 0, 0, 500) ∷ (parked (pos 10), rack 0, 0, 500) ∷ (with 1 2 (pos 31) 1 10, rack 255, 17, 500)
+    -- the first hook, the second, both sides of the border of the beds, the last; the first of two; done and refused
+    ∷ (withHook 8 0 1, rack 0, 0, 1) ∷ (withHook 8 1 1, rack 0, 0, 2) ∷ (withHook 8 249 1, rack 0, 0, 250) ∷ (withHook 8 250 1, rack 0, 0, 251) ∷ (withHook 8 498 8, rack 0, 0, 499) ∷ (withHook 8 499 1, rack 0, 0, 500)
+    ∷ (withHook 8 0 1, 0 ∷ [], 3, 1) ∷ (withHook 8 249 8, [], 4, 250) ∷ (withHook 1 499 1, knit right (f 10) 3, 7, 500) ∷ (withHook 4 300 4, xfer (f 5) 6, 10, 301)
+    -- a loop that is dropped, that is moved, that is formed in front and at the back
+    ∷ (withHook 8 0 1, drop (f 0), 0, 500) ∷ (withHook 8 0 1, drop (f 1), 0, 1) ∷ (withHook 8 3 1, xfer (f 3) 3, 0, 254) ∷ (withHook 8 253 1, xfer (b 3) 3, 0, 4) ∷ (withHook 8 249 1, xfer (f 249) 249, 0, 500)
+    ∷ (parked (pos 10), tuck right (f 10) 10, 0, 11) ∷ (parked (pos 10), tuck right (b 10) 10, 0, 261)
+    -- at another racking than 0 none is looked at, whatever they hold; back at 0 they are
+    ∷ (empty, rack 1, 0, 0) ∷ (empty, rack 255, 0, 0) ∷ (withRacking (pos 1), drop (f 0), 0, 0) ∷ (withRacking (pos 8), 0 ∷ [], 3, 0) ∷ (withRacking (negsuc 7), [], 4, 0) ∷ (withRacking (pos 1), rack 2, 0, 0) ∷ (withHook 8 0 1, rack 1, 0, 0)
+    ∷ (withRacking (pos 1), rack 0, 0, 500) ∷ (withRacking (negsuc 7), rack 0, 0, 500)
+    -- nor after 15, whatever is amiss
+    ∷ (emptyState 0, rack 0, 15, 0) ∷ (emptyState 9, [], 15, 0) ∷ (withHook 8 0 9, drop (f 0), 15, 0) ∷ (withHook 1 499 2, [], 15, 0) ∷ (withRacking (pos 9), rack 0, 15, 0) ∷ (with 0 0 (pos 1) 0 0, [], 15, 0) ∷ []
+
+abbrev pub LooksSo : State × List ℕ × ℕ × ℕ → Type 0
+LooksSo (s, l, n, k) = (panelStep s l .number ≡ n) × (panelStep s l .looked ≡ k)
+
 -- ---- programs stepped record by record from the empty state at a limit: number and complete after each
 abbrev pub stepped : State → List (List ℕ) → List (ℕ × ℕ)
 stepped s [] = []
