@@ -32,6 +32,14 @@ int is_empty(const struct knitout_state *state)
     return states_agree(state, &none);
 }
 
+unsigned count_looked(const struct knitout_state *state)
+{
+    unsigned hook = 0;
+    if (state->racking != 0) return 0;
+    while (hook < KNITOUT_HOOKS && state->loops[hook] == 0) hook++;
+    return hook == KNITOUT_HOOKS ? hook : hook + 1;
+}
+
 /* Steps through a program, up to a refused record, and keeps, for each kind from the first one given, the moment before
    its last record. */
 static void keep_moments(struct moment *moments, const struct program *p, int first)
@@ -138,21 +146,21 @@ static void build_looked(int i)
         { "hook-31", 31, 1 }, { "hook-62", 62, 1 }, { "hook-125", 125, 1 }, { "hook-250", 250, 1 },
     };
     step = (struct step_input){ .name = left[i].name, .state = empty, .bytes = drop, .length = sizeof drop, .steps = 1,
-                                .served = sizeof drop, .looked = left[i].looked };
+                                .served = sizeof drop };
     step.state.loops[DROPPED] = 1;
     step.state.loops[left[i].looked - 1] = (uint8_t)left[i].loops;
 }
 
-/* How many of the steps leave the empty state, by its bytes; a state that is not in range is never complete. */
-static unsigned count_complete(void)
+/* How many of the steps leave the empty state, by its bytes, and the hooks looked at; neither of a state out of range. */
+static void count_complete(void)
 {
     struct knitout_state state = step.state;
-    unsigned complete = 0;
+    if (step.number == KNITOUT_BAD_STATE) return;
     for (unsigned i = 0; i < step.steps; i++) {
         plain_step(&state, step.bytes + step.places[i], step.length - step.places[i]);
-        complete += step.number != KNITOUT_BAD_STATE && is_empty(&state);
+        step.complete += is_empty(&state);
+        step.looked += count_looked(&state);
     }
-    return complete;
 }
 
 const struct step_input *build_step(int i)
@@ -165,7 +173,7 @@ const struct step_input *build_step(int i)
     else if (i == PLATED_KNIT + 2) one_step("rack-ten", find_rack("rack-ten"), KNITOUT_DONE);
     else if (i < PLATED_KNIT + 3 + LOOKED) build_looked(i - (PLATED_KNIT + 3));
     else build_refused(i - (PLATED_KNIT + 3 + LOOKED), moments);
-    step.complete = count_complete();
+    count_complete();
     return &step;
 }
 

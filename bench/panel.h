@@ -19,8 +19,8 @@ struct step_input {
     uint16_t places[PLACES_LIMIT]; /* of each step's record */
     unsigned number;
     unsigned complete;             /* how many answers say it */
+    unsigned looked;               /* the hooks looked at for that, of all answers together */
     size_t served;                 /* the lengths of all answers together */
-    unsigned looked;               /* hooks that decide complete, where that is what the input is for; else 0 */
 };
 
 struct list_input {
@@ -40,6 +40,9 @@ int states_agree(const struct knitout_state *a, const struct knitout_state *b);
 
 /* Are a state's bytes those of the empty one at its limit? */
 int is_empty(const struct knitout_state *state);
+
+/* The hooks that complete is decided by, counted one by one: none at a racking, else up to the first that holds a loop. */
+unsigned count_looked(const struct knitout_state *state);
 
 /* Both versions on generated inputs (bench/panel_checks.c): 1 if they differ, with a message. */
 int generated_steps_differ(void);

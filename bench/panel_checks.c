@@ -13,13 +13,15 @@ static const uint8_t byte_values[] = { 0, 1, 2, 3, 4, 5, 6, 7, 8, 9, 127, 128, 2
 static const uint16_t word_values[] = { 0, 1, 2, 249, 250, 256, 257, 258, 259, 512, 65527, 65528, 65535 };
 enum { BYTES = sizeof byte_values, WORDS = sizeof word_values / sizeof word_values[0] };
 
-/* How often each number was given, by the state's limit; and with complete. */
-static unsigned seen[UINT8_MAX + 1][KNITOUT_STRETCHED + 1], seen_complete[UINT8_MAX + 1][KNITOUT_STRETCHED + 1];
+/* How often each number was given, by the state's limit; and with complete; and how often so many hooks were looked at. */
+static unsigned seen[UINT8_MAX + 1][KNITOUT_STRETCHED + 1], seen_complete[UINT8_MAX + 1][KNITOUT_STRETCHED + 1],
+    seen_looked[KNITOUT_HOOKS + 1];
 
 static int differ(const char *what, struct knitout_stepped library, struct knitout_stepped plain)
 {
-    fprintf(stderr, "bench: generated %s: library gives %u, complete %u and %zu, plain C %u, %u and %zu, or contents differ\n",
-            what, library.number, library.complete, library.length, plain.number, plain.complete, plain.length);
+    fprintf(stderr, "bench: generated %s: library gives %u, complete %u, looked %u and %zu, plain C %u, %u, %u and %zu, or "
+            "contents differ\n", what, library.number, library.complete, library.looked, library.length, plain.number,
+            plain.complete, plain.looked, plain.length);
     return 1;
 }
 
@@ -33,9 +35,12 @@ static int step_differs(const struct knitout_state *state, const uint8_t *bytes,
     int agree = library.number == plain.number && library.length == plain.length && states_agree(&other, after);
     if (plain.number && !states_agree(&before, after)) agree = 0;
     int complete = plain.number != KNITOUT_BAD_STATE && is_empty(after);
-    if (!agree || library.complete != complete || plain.complete != complete) return differ("step", library, plain);
+    unsigned looked = plain.number != KNITOUT_BAD_STATE ? count_looked(after) : 0;
+    if (library.complete != complete || plain.complete != complete) agree = 0;
+    if (!agree || library.looked != looked || plain.looked != looked) return differ("step", library, plain);
     seen[before.limit][plain.number]++;
     seen_complete[before.limit][plain.number] += complete;
+    seen_looked[looked]++;
     return 0;
 }
 
@@ -49,8 +54,8 @@ static int list_differs(const struct knitout_state *state, size_t count)
     struct knitout_served plain = plain_carriers(state, of_plain, count);
     int agree = library.number == plain.number && library.length == plain.length
         && memcmp(of_library, of_plain, sizeof of_plain) == 0;
-    if (!agree) return differ("list", (struct knitout_stepped){ library.number, 0, library.length },
-                              (struct knitout_stepped){ plain.number, 0, plain.length });
+    if (!agree) return differ("list", (struct knitout_stepped){ .number = library.number, .length = library.length },
+                              (struct knitout_stepped){ .number = plain.number, .length = plain.length });
     seen[state->limit][plain.number]++;
     return 0;
 }
@@ -260,6 +265,17 @@ static int complete_not_seen(void)
     return 0;
 }
 
+/* Was some count of hooks never given? */
+static int looked_not_seen(void)
+{
+    for (unsigned looked = 0; looked <= KNITOUT_HOOKS; looked++) {
+        if (seen_looked[looked]) continue;
+        fprintf(stderr, "bench: generated step: %u hooks were never looked at\n", looked);
+        return 1;
+    }
+    return 0;
+}
+
 /* Was a number never given, at some limit, that the service may give? */
 static int not_seen(const char *what, unsigned first, unsigned last)
 {
@@ -279,7 +295,7 @@ int generated_steps_differ(void)
         struct knitout_state state;
         if (generate(seed, &state)) return 1;
     }
-    if (nearly_empty_differ(GENERATED) || complete_not_seen()) return 1;
+    if (nearly_empty_differ(GENERATED) || complete_not_seen() || looked_not_seen()) return 1;
     return not_seen("step", KNITOUT_DONE, KNITOUT_DONE) || not_seen("step", KNITOUT_UNKNOWN_KIND, KNITOUT_HOOK_FULL)
         || not_seen("step", KNITOUT_BAD_STATE, KNITOUT_STRETCHED);
 }

@@ -12,11 +12,11 @@ typedef struct knitout_served (*carriers_function)(const struct knitout_state *s
 
 enum { ENTRIES = 12, PAINT = 0xa5 };
 
-/* What is lent to a version, and what it answers: all numbers together, completes and lengths added. */
+/* What is lent to a version, and what it answers: all numbers together, completes, hooks looked at and lengths added. */
 struct lent {
     _Alignas(PAGE) struct knitout_state state;
     _Alignas(LINE) struct knitout_carrier list[ENTRIES];
-    unsigned numbers, complete;
+    unsigned numbers, complete, looked;
     size_t served;
 };
 
@@ -27,7 +27,7 @@ static const struct list_input *list_in;
 static struct knitout_stepped step_nothing(struct knitout_state *state, const uint8_t *bytes, size_t length)
 {
     (void)state, (void)bytes, (void)length;
-    return (struct knitout_stepped){ 0, 0, 0 };
+    return (struct knitout_stepped){ 0 };
 }
 
 static struct knitout_served carriers_nothing(const struct knitout_state *state, struct knitout_carrier *list,
@@ -41,13 +41,15 @@ static const step_function steps[VERSIONS] = { step_nothing, knitout_step, plain
 static const carriers_function lists[VERSIONS] = { carriers_nothing, knitout_carriers, plain_carriers };
 
 /* Does a version's answer differ from the expected one? */
-static int answer_differs(const char *entry, const char *name, unsigned number, unsigned complete, size_t served)
+static int answer_differs(const char *entry, const char *name, unsigned number, unsigned complete, unsigned looked,
+                          size_t served)
 {
     for (int v = LIBRARY; v <= PLAIN; v++) {
         const struct lent *l = &lent[v];
-        if (l->numbers == number && l->complete == complete && l->served == served) continue;
-        fprintf(stderr, "bench: %s %s: %s gives %u, complete %u and %zu, expected %u, %u and %zu\n", entry, name,
-                v == LIBRARY ? "library" : "plain C", l->numbers, l->complete, l->served, number, complete, served);
+        if (l->numbers == number && l->complete == complete && l->looked == looked && l->served == served) continue;
+        fprintf(stderr, "bench: %s %s: %s gives %u, complete %u, looked %u and %zu, expected %u, %u, %u and %zu\n", entry,
+                name, v == LIBRARY ? "library" : "plain C", l->numbers, l->complete, l->looked, l->served, number, complete,
+                looked, served);
         return 1;
     }
     return 0;
@@ -65,13 +67,13 @@ static void prepare(enum version v, const struct knitout_state *state)
 {
     lent[v].state = *state;
     memset(lent[v].list, PAINT, sizeof lent[v].list);
-    lent[v].numbers = lent[v].complete = 0;
+    lent[v].numbers = lent[v].complete = lent[v].looked = 0;
     lent[v].served = 0;
 }
 
 static int step_inputs(void) { return STEP_INPUTS; }
 
-/* Name, steps, number, length, hooks that decide complete. */
+/* Name, steps, number, length, hooks looked at for complete. */
 static void build_steps(int i, struct about *about)
 {
     step_in = build_step(i);
@@ -90,6 +92,7 @@ static void call_steps(enum version v)
         struct knitout_stepped stepped = steps[v](&lent[v].state, step_in->bytes + at, step_in->length - at);
         lent[v].numbers |= stepped.number;
         lent[v].complete += stepped.complete;
+        lent[v].looked += stepped.looked;
         lent[v].served += stepped.length;
     }
 }
@@ -97,7 +100,7 @@ static void call_steps(enum version v)
 /* The answer expected, the same state in both, and the old one if refused. */
 static int steps_differ(void)
 {
-    if (answer_differs("step", step_in->name, step_in->number, step_in->complete, step_in->served)) return 1;
+    if (answer_differs("step", step_in->name, step_in->number, step_in->complete, step_in->looked, step_in->served)) return 1;
     if (contents_differ("step", step_in->name)) return 1;
     if (step_in->number == KNITOUT_DONE || states_agree(&lent[PLAIN].state, &step_in->state)) return 0;
     fprintf(stderr, "bench: step %s: refused, but the state has changed\n", step_in->name);
@@ -129,7 +132,7 @@ static void call_lists(enum version v)
 
 static int lists_differ(void)
 {
-    return answer_differs("carriers", list_in->name, list_in->number, 0, list_in->served)
+    return answer_differs("carriers", list_in->name, list_in->number, 0, 0, list_in->served)
         || contents_differ("carriers", list_in->name);
 }
 

@@ -250,34 +250,41 @@ static inline int first_step(struct knitout_state *s, const uint8_t *bytes, size
     return length < record_size[bytes[0]] ? KNITOUT_CUT_SHORT : step(s, bytes);
 }
 
-/* Is there a loop on any hook? From f.0 up, eight hooks at a time, until one is found; the last eight overlap the others. */
-static inline int any_loop(const uint8_t *loops)
+/* The first of eight hooks that holds a loop; x86-64 has it in the lowest byte that is not 0. */
+static inline unsigned first_of(uint64_t hooks) { return (unsigned)__builtin_ctzll(hooks) / 8; }
+
+/* The first hook that holds a loop, from f.0 up, eight at a time; the last eight overlap the others. KNITOUT_HOOKS if none. */
+static inline unsigned first_loop(const uint8_t *loops)
 {
     enum { WORD = sizeof(uint64_t), LAST = KNITOUT_HOOKS - WORD };
     uint64_t word;
-    for (int i = 0; i < LAST; i += WORD) {
+    for (unsigned i = 0; i < LAST; i += WORD) {
         memcpy(&word, loops + i, WORD);
-        if (word) return 1;
+        if (word) return i + first_of(word);
     }
     memcpy(&word, loops + LAST, WORD);
-    return word != 0;
+    return word ? LAST + first_of(word) : KNITOUT_HOOKS;
 }
 
-/* Is a state in range the empty one? */
-static inline int complete(const struct knitout_state *s)
+/* Is a state in range the empty one, and how many hooks are looked at for that? */
+static inline void decide_complete(const struct knitout_state *s, struct knitout_stepped *stepped)
 {
-    if (s->racking != 0 || any_loop(s->loops)) return 0;
+    if (s->racking != 0) return;
+    unsigned hook = first_loop(s->loops);
+    stepped->looked = (uint16_t)(hook < KNITOUT_HOOKS ? hook + 1 : KNITOUT_HOOKS);
+    if (hook < KNITOUT_HOOKS) return;
     for (int i = 0; i < KNITOUT_CARRIERS; i++)
-        if (s->carriers[i].active) return 0;
-    return 1;
+        if (s->carriers[i].active) return;
+    stepped->complete = 1;
 }
 
 struct knitout_stepped plain_step(struct knitout_state *state, const uint8_t *bytes, size_t length)
 {
     if (!in_range(state)) return (struct knitout_stepped){ .number = KNITOUT_BAD_STATE };
     int number = first_step(state, bytes, length);
-    size_t size = number ? 0 : record_size[bytes[0]];
-    return (struct knitout_stepped){ (uint8_t)number, (uint8_t)complete(state), size };
+    struct knitout_stepped stepped = { .number = (uint8_t)number, .length = number ? 0 : record_size[bytes[0]] };
+    decide_complete(state, &stepped);
+    return stepped;
 }
 
 struct knitout_served plain_carriers(const struct knitout_state *state, struct knitout_carrier *list, size_t count)

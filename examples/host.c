@@ -102,6 +102,18 @@ static bool is_empty(const struct knitout_state *state)
     return memcmp(state, &empty, sizeof empty) == 0;
 }
 
+/* The hooks that tell of a state in range whether it is complete: what a step's looked must say of the panel. */
+static unsigned count_looked(const struct knitout_state *state)
+{
+    unsigned hook = 0;
+
+    if (state->racking != 0)
+        return 0;
+    while (hook < KNITOUT_HOOKS && state->loops[hook] == 0)
+        hook++;
+    return hook < KNITOUT_HOOKS ? hook + 1 : KNITOUT_HOOKS;
+}
+
 /* Whether the output from a byte on and the work area from an entry on are as they were painted. */
 static bool is_painted(size_t byte, size_t entry)
 {
@@ -290,14 +302,14 @@ static struct knitout_stepped step(const uint8_t *bytes, size_t length, size_t p
     show_step(place, stepped, bytes + place);
     if (bytes[place] == KNITOUT_RACK && is_of_record(stepped.number))
         check_rack(stepped.number, bytes + place);
-    if (stepped.complete != is_empty(&panel))
-        check(false, "complete is said of the state that the step leaves");
+    if (stepped.complete != is_empty(&panel) || stepped.looked != count_looked(&panel))
+        check(false, "complete and the hooks looked at are said of the state that the step leaves");
     if (panel.limit != limit)
         check(false, "a step keeps the limit");
-    if (stepped.number != KNITOUT_DONE)
-        check(stepped.length == 0 && is_kept(&panel),
-              stepped.complete ? "the refused step left the panel as it was, complete"
-                               : "the refused step left the panel as it was");
+    if (stepped.number != KNITOUT_DONE) {
+        printf("%s, hooks looked at: %u; ", stepped.complete ? "complete" : "not complete", stepped.looked);
+        check(stepped.length == 0 && is_kept(&panel), "the refused step left the panel as it was");
+    }
     return stepped;
 }
 
@@ -316,7 +328,7 @@ static uint64_t walk(const uint8_t *bytes, size_t length)
         if (stepped.number != KNITOUT_DONE)
             return ((uint64_t)stepped.number << 16) + place;
         if (stepped.complete && !complete)
-            printf("complete again, after the record at place %u\n", (unsigned)place);
+            printf("complete again, after the record at place %u; hooks looked at: %u\n", (unsigned)place, stepped.looked);
         complete = stepped.complete;
         place += stepped.length;
     }
@@ -385,7 +397,7 @@ static bool is_refused_list(const struct knitout_state *state, size_t count, uns
 }
 
 /* A foul state is refused first, even by the drop that would empty a bad hook and for a list too short. It is never
-   complete, empty or not. */
+   complete, empty or not, and no hook is looked at for that. */
 static void try_foul(const char *what, struct knitout_state *foul)
 {
     static const uint8_t drop[] = {KNITOUT_DROP, KNITOUT_FRONT, 3};
@@ -394,10 +406,10 @@ static void try_foul(const char *what, struct knitout_state *foul)
     struct knitout_stepped stepped = knitout_step(foul, drop, sizeof drop);
     printf("%s: step ", what);
     show_served(stepped.number, stepped.length);
-    check_refused(stepped.number == KNITOUT_BAD_STATE && stepped.complete == 0 && stepped.length == 0 &&
+    check_refused(stepped.number == KNITOUT_BAD_STATE && stepped.complete == 0 && stepped.looked == 0 && stepped.length == 0 &&
                       is_refused_list(foul, KNITOUT_CARRIERS - 1, KNITOUT_BAD_STATE) &&
                       is_refused_list(foul, KNITOUT_CARRIERS + 1, KNITOUT_BAD_STATE) && is_kept(foul),
-                  ", not complete, lists of nine and eleven too, nothing written");
+                  ", not complete, no hook looked at, lists of nine and eleven too, nothing written");
 }
 
 /* A pair that is refused with this number has no reason. */

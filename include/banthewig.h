@@ -5,8 +5,9 @@
    In this order: words, limits, records, logs, numbers; calls on programs, on two records, on a machine state; layouts.
 
    For every call:
-   - Only what is lent and the stack are touched, and nothing is kept: no pointer, no static data. No allocator, file or
-     thread is needed; the archive imports memcpy, memmove and memset at most. A call ends, whatever it is lent.
+   - Only what is lent, the stack and the archive's constants are touched, and nothing is kept: no pointer, no static data. No
+     allocator, file or thread is needed; the archive imports memcpy, memmove and memset at most. A call ends, whatever it is
+     lent.
    - A pointer whose length or count is 0 is not read and may be null; a state's is never null.
    - States, carrier lists and work areas lie at even addresses, bytes anywhere.
    - During a call nothing else (thread, interrupt, DMA) writes to anything that is lent, what is only read included. So calls
@@ -28,7 +29,7 @@ extern "C" {
 #endif
 
 /* The number of this interface: header and archive must have the same, else they do not link (see the end). */
-#define KNITOUT_INTERFACE 1
+#define KNITOUT_INTERFACE 2
 
 /* ---- Words
    Needle       stands on the front or the back bed, the beds opposite each other: f.0, f.1 .. and b.0, b.1 ..
@@ -155,11 +156,11 @@ enum knitout_number {
 
 /* Runs a program from the empty state at a hook limit. Reads program[0] to program[length - 1] at most and writes nothing.
    Gives the first that fits: KNITOUT_BAD_STATE (the limit, before all else), KNITOUT_TOO_LONG, the refusal of the first record
-   that has no step, KNITOUT_DONE. A program that is done at a limit is done at every greater one.
-   Stack 1,256 bytes; worst time 66 ms. */
+   that has no step, KNITOUT_DONE. A program that is done at a limit is done at every greater one up to KNITOUT_LIMIT_MOST.
+   Stack 1,176 bytes; worst time 66 ms. */
 uint64_t knitout_run_at(uint8_t limit, const uint8_t *program, size_t length);
 
-/* The same at KNITOUT_LIMIT_MOST. Stack 1,256 bytes; worst time 66 ms. */
+/* The same at KNITOUT_LIMIT_MOST. Stack 1,176 bytes; worst time 66 ms. */
 uint64_t knitout_run(const uint8_t *program, size_t length);
 
 /* Runs a program at a hook limit, copies it to the output and makes a log's swaps there: two neighbours change places exactly
@@ -173,11 +174,11 @@ uint64_t knitout_run(const uint8_t *program, size_t length);
    the swaps before the refused one made it. Every other number writes nothing. Output past the program's length and work past
    the last record's start keep their contents.
    For a further log hand in the output's front as the program and another area as the output.
-   Stack 1,592 bytes; worst time 230 ms. */
+   Stack 1,512 bytes; worst time 230 ms. */
 uint64_t knitout_rewrite_at(uint8_t limit, const uint8_t *program, size_t program_length, const uint8_t *log,
                             size_t log_length, uint8_t *output, size_t output_length, uint16_t *work, size_t work_count);
 
-/* The same at KNITOUT_LIMIT_MOST. Stack 1,592 bytes; worst time 230 ms. */
+/* The same at KNITOUT_LIMIT_MOST. Stack 1,512 bytes; worst time 230 ms. */
 uint64_t knitout_rewrite(const uint8_t *program, size_t program_length, const uint8_t *log, size_t log_length,
                          uint8_t *output, size_t output_length, uint16_t *work, size_t work_count);
 
@@ -187,11 +188,11 @@ uint64_t knitout_rewrite(const uint8_t *program, size_t program_length, const ui
    Output and work as for the rewriter, and numbers too, but that there is no log: KNITOUT_NO_PAIR, KNITOUT_TIED and
    KNITOUT_TORN_LOG do not occur. After KNITOUT_DONE the output begins with the ordered program and work with the starts of its
    records; every other number writes nothing. What lies past them keeps its contents.
-   Stack 1,432 bytes; worst time 83 s, which grows with the square of the length (docs/PERFORMANCE.md). */
+   Stack 1,336 bytes; worst time 83 s, which grows with the square of the length (docs/PERFORMANCE.md). */
 uint64_t knitout_order_at(uint8_t limit, const uint8_t *program, size_t program_length, uint8_t *output,
                           size_t output_length, uint16_t *work, size_t work_count);
 
-/* The same at KNITOUT_LIMIT_MOST. Stack 1,432 bytes; worst time 83 s. */
+/* The same at KNITOUT_LIMIT_MOST. Stack 1,336 bytes; worst time 83 s. */
 uint64_t knitout_order(const uint8_t *program, size_t program_length, uint8_t *output, size_t output_length, uint16_t *work,
                        size_t work_count);
 
@@ -264,10 +265,11 @@ struct knitout_state {
    To empty a state again, assign one that is kept empty. */
 #define KNITOUT_EMPTY(limit) {0, {0}, (limit), {{0, 0, 0, 0, 0}}}
 
-/* The answer of a step. (Bytes before the length are padding, here and below: compare fields, not bytes.) */
+/* The answer of a step. (There is padding before the length, here and below: compare fields, not bytes.) */
 struct knitout_stepped {
     uint8_t number;   /* enum knitout_number */
     uint8_t complete; /* 1 if the state that the step leaves is the empty one at its own limit, else 0 */
+    uint16_t looked;  /* how many hooks were looked at to decide complete, 0 to KNITOUT_HOOKS (see knitout_step) */
     size_t length;    /* the record's length in bytes; 0 if refused */
 };
 
@@ -276,10 +278,15 @@ struct knitout_stepped {
    as at a program's end, KNITOUT_CUT_SHORT.
    After KNITOUT_DONE the state is the one after the record, its limit the same. Every other number writes nothing; which it
    will be is not known beforehand, so the state's memory must be writable.
-   Complete is said of the state as the call leaves it. A refused step leaves it as it was, so complete may be 1 then too; only
-   after KNITOUT_BAD_STATE it is always 0.
-   Steps from the empty state, each where the last record ended, go the way of a run at that limit.
-   Stack 1,368 bytes; worst time 65 microseconds. */
+   Complete and looked are said of the state as the call leaves it. A refused step leaves it as it was, so complete may be 1
+   then too; only after KNITOUT_BAD_STATE both are always 0.
+   A racking that is not 0 decides complete at once, and looked is 0. At racking 0 a walk goes over the hooks, from f.0 up and
+   then from b.0 up, and ends at the first that holds a loop: looked is how many hooks it looked at, that one included, and
+   KNITOUT_HOOKS if none holds a loop. Only then the carriers decide.
+   Steps through a program of at most KNITOUT_PROGRAM_MOST bytes, from the empty state at a limit, each lent the rest where the
+   last record ended, go the way of the program's run at that limit. (A longer program can be stepped too; its run gets
+   KNITOUT_TOO_LONG.)
+   Stack 1,304 bytes; worst time 65 microseconds. */
 struct knitout_stepped knitout_step(struct knitout_state *state, const uint8_t *bytes, size_t length);
 
 /* The answer of a list. */
@@ -295,7 +302,8 @@ struct knitout_served {
 struct knitout_served knitout_carriers(const struct knitout_state *state, struct knitout_carrier *list, size_t count);
 
 /* ---- Layouts that the archive is built with (x86-64); crates/banthewig/proofs/Crossing.antt proves the same of it. A packed
-   carrier or state is known by its alignment alone, since neither has padding; a wider field before padding by its width. */
+   carrier or state is known by its alignment alone, since neither has padding; a wider or narrower field before padding by its
+   width. */
 #ifdef __cplusplus
 #define KNITOUT_ASSERT(holds) static_assert(holds, #holds)
 #define KNITOUT_ALIGNMENT(type) alignof(type)
@@ -330,6 +338,8 @@ KNITOUT_ASSERT(offsetof(struct knitout_state, carriers) == 502);
 KNITOUT_ASSERT(sizeof(struct knitout_stepped) == 16);
 KNITOUT_ASSERT(offsetof(struct knitout_stepped, number) == 0);
 KNITOUT_ASSERT(offsetof(struct knitout_stepped, complete) == 1);
+KNITOUT_ASSERT(offsetof(struct knitout_stepped, looked) == 2);
+KNITOUT_ASSERT(KNITOUT_WIDTH(knitout_stepped, looked) == 2);
 KNITOUT_ASSERT(offsetof(struct knitout_stepped, length) == 8);
 KNITOUT_ASSERT(sizeof(struct knitout_served) == 16);
 KNITOUT_ASSERT(offsetof(struct knitout_served, number) == 0);

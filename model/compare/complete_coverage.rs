@@ -6,7 +6,6 @@ use crate::limit_coverage::{is_bad, Class, BAD_LIMITS};
 use crate::machine::*;
 use crate::panel_coverage::{Source, FIELD_NAMES, SOURCES};
 use crate::raw_state::*;
-use crate::walk::Walk;
 use std::ops::Range;
 
 /// The numbers that a complete state can be refused with: it has no carrier in and no loop.
@@ -24,20 +23,28 @@ pub const EMPTY_REFUSALS: [u8; 6] = [
 const RACKINGS: usize = 17;
 const THINGS: usize = HOOKS + CARRIERS + RACKINGS;
 
+/// Where the walk over a state's hooks ends: at a hook, or it finds no loop, or the racking is not 0
+/// and it is not made.
+const NO_LOOP: usize = HOOKS;
+const RACKED: usize = HOOKS + 1;
+const WALKS: usize = HOOKS + 2;
+
+/// What a step comes to, for its walk; after 15 none is made, and where it would end is counted.
+const OUTCOMES: [&str; 3] = ["done", "refused", "15"];
+
 /// Counts by source and limit; limit l has index l.
 type Sources<T> = [[T; 9]; 2];
 
 /// `done` is by kind, by complete before and by complete then; `refused` by number and complete.
 /// `left` and `taken` are by the one thing in which a state differs from the empty one: after a
-/// step, and before one that leaves a complete state.
+/// step, and before one that leaves a complete state. `walks` are by outcome and end.
 pub struct CompleteCoverage {
     done: Sources<[[[u64; 2]; 2]; KIND_COUNT]>,
     refused: Sources<[[u64; 2]; NUMBERS]>,
     left: [[u64; THINGS]; 2],
     taken: [[u64; THINGS]; 2],
     foul: FoulCoverage,
-    walks: [u64; HOOKS],
-    no_loop: u64,
+    walks: [[u64; WALKS]; 3],
 }
 
 /// Number 15 on states that are empty but for one value; `over` is by the limit and by the number
@@ -58,6 +65,21 @@ fn loaded(state: &RawState) -> usize {
 
 fn first_loaded(state: &RawState) -> Option<usize> {
     state.loops.iter().position(|&count| count > 0)
+}
+
+fn walk_end(state: &RawState) -> usize {
+    match state.racking {
+        0 => first_loaded(state).unwrap_or(NO_LOOP),
+        _ => RACKED,
+    }
+}
+
+fn walk_name(end: usize) -> String {
+    match end {
+        NO_LOOP => "no loop".to_string(),
+        RACKED => "racking not 0".to_string(),
+        hook => format!("first loop on hook {hook}"),
+    }
 }
 
 /// The one thing in which a state in range differs from the empty one.
@@ -156,13 +178,18 @@ impl CompleteCoverage {
             left: [[0; THINGS]; 2],
             taken: [[0; THINGS]; 2],
             foul: FoulCoverage::new(),
-            walks: [0; HOOKS],
-            no_loop: 0,
+            walks: [[0; WALKS]; 3],
         }
     }
 
     pub fn step(&mut self, source: Source, states: [&RawState; 2], bytes: &[u8], given: Stepped) {
         let [before, after] = states;
+        let outcome = match given.number {
+            DONE => 0,
+            FOUL_STATE => 2,
+            _ => 1,
+        };
+        self.walks[outcome][walk_end(after)] += 1;
         if given.number == FOUL_STATE {
             self.foul.state(before, bytes);
             return;
@@ -180,15 +207,6 @@ impl CompleteCoverage {
         }
         if let Some(thing) = only_thing(before).filter(|_| given.complete == 1) {
             self.taken[at][thing] += 1;
-        }
-    }
-
-    /// Counts the model's walk on a state that a step leaves.
-    pub fn walk(&mut self, walk: &Walk) {
-        if walk.none {
-            self.no_loop += 1;
-        } else {
-            self.walks[walk.looked_at - 1] += 1;
         }
     }
 }
@@ -256,10 +274,11 @@ impl CompleteCoverage {
                 classes.push((format!("{source}, {name} alone is taken away"), can, taken));
             }
         }
-        for (hook, &count) in self.walks.iter().enumerate() {
-            classes.push((format!("walk that ends at hook {hook}"), true, count));
+        for (outcome, counts) in OUTCOMES.iter().zip(&self.walks) {
+            for (end, &count) in counts.iter().enumerate() {
+                classes.push((format!("{outcome}, {}", walk_name(end)), true, count));
+            }
         }
-        classes.push(("walk that finds no loop".to_string(), true, self.no_loop));
         classes
     }
 
@@ -376,12 +395,14 @@ impl CompleteCoverage {
     }
 
     fn print_walks(&self) {
-        let (none, found) = (self.no_loop, self.walks.iter().sum::<u64>());
-        let [first, last] = [self.walks[0], self.walks[HOOKS - 1]];
-        println!(
-            "complete: {} walks agree; no loop {none}, first hook {first}, last hook {last}",
-            none + found
-        );
+        for (outcome, counts) in OUTCOMES.iter().zip(&self.walks) {
+            let [first, last] = [counts[0], counts[HOOKS - 1]];
+            let [none, racked] = [counts[NO_LOOP], counts[RACKED]];
+            println!(
+                "looked: {} steps agree, {outcome}; first hook {first}, last hook {last}, no loop {none}, racking not 0 {racked}",
+                counts.iter().sum::<u64>()
+            );
+        }
     }
 }
 

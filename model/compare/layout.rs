@@ -34,6 +34,7 @@ const _: () = assert!(offset_of!(Served, length) == size_of::<usize>());
 const _: () = assert!(size_of::<Stepped>() == 2 * size_of::<usize>());
 const _: () = assert!(offset_of!(Stepped, number) == 0);
 const _: () = assert!(offset_of!(Stepped, complete) == 1);
+const _: () = assert!(offset_of!(Stepped, looked) == 2);
 const _: () = assert!(offset_of!(Stepped, length) == size_of::<usize>());
 const _: () = assert!(size_of::<Tied>() == 16);
 const _: () = assert!(align_of::<Tied>() == 4);

@@ -132,7 +132,7 @@ impl Panel {
         self.coverage
             .step(source, [&before, state], bytes, expected);
         if expected.number != FOUL_STATE {
-            self.walk(state, expected.complete == 1);
+            walk_agrees(state, expected);
         }
         expected
     }
@@ -157,23 +157,6 @@ impl Panel {
             self.coverage.locked(Service::Step, number);
         }
         given
-    }
-
-    /// The model's walk on the state that a step leaves: it ends at the first loop, and tells with
-    /// racking and carriers what complete is.
-    fn walk(&mut self, left: &RawState, complete: bool) {
-        let state = left.state();
-        let walk = walk(&state);
-        let first = left.loops.iter().position(|&count| count > 0);
-        let ends = match first {
-            Some(hook) => !walk.none && walk.looked_at == hook + 1,
-            None => walk.none && walk.looked_at == HOOKS,
-        };
-        if !ends || complete_by_walk(&state) != complete {
-            show("state", &state_bytes(left));
-            fail("the model's walk differs from the hooks or from complete");
-        }
-        self.coverage.complete.walk(&walk);
     }
 
     /// Compares the answer, and every byte of the lent state with what it must hold.
@@ -270,6 +253,24 @@ impl Panel {
         };
         self.compare_state(&call, state);
         call
+    }
+}
+
+/// The model's walk on the state that a step leaves must end at the first loop, and tell with racking
+/// and carriers what complete is; at racking 0 its hooks are those looked at.
+fn walk_agrees(left: &RawState, told: Stepped) {
+    let state = left.state();
+    let walk = walk(&state);
+    let first = left.loops.iter().position(|&count| count > 0);
+    let ends = match first {
+        Some(hook) => !walk.none && walk.looked_at == hook + 1,
+        None => walk.none && walk.looked_at == HOOKS,
+    };
+    let looked = usize::from(left.racking == 0) * walk.looked_at;
+    let as_told = (u8::from(complete_by_walk(&state)), looked as u16);
+    if !ends || as_told != (told.complete, told.looked) {
+        show("state", &state_bytes(left));
+        fail("the model's walk differs from the hooks, from complete or from looked");
     }
 }
 

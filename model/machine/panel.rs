@@ -3,29 +3,37 @@
 use crate::machine::*;
 use crate::raw_state::*;
 use crate::rewrite::NO_BENCH;
+use crate::walk::looked_for_complete;
 
 /// Number 15, or what the run gives for the first record; only 0 changes the state. Complete is
 /// "for the state it leaves and that state's limit (no after 15)" (02, W4): after any other refusal
-/// this is the state as it was.
+/// this is the state as it was. After 15 no hook is looked at.
 pub fn step_first(lent: &mut RawState, bytes: &[u8]) -> Stepped {
     if lent.foul() {
-        return stepped(FOUL_STATE, false, 0);
+        return Stepped {
+            number: FOUL_STATE,
+            complete: 0,
+            looked: 0,
+            length: 0,
+        };
     }
     let mut state = lent.state();
     match look(&state, bytes) {
-        Err(number) => stepped(number, state.complete(), 0),
+        Err(number) => stepped(number, &state, 0),
         Ok((record, length)) => {
             apply(&mut state, &record);
             *lent = RawState::of(&state);
-            stepped(DONE, state.complete(), length)
+            stepped(DONE, &state, length)
         }
     }
 }
 
-fn stepped(number: u8, complete: bool, length: usize) -> Stepped {
+/// The answer of a step that leaves this state.
+fn stepped(number: u8, left: &State, length: usize) -> Stepped {
     Stepped {
         number,
-        complete: u8::from(complete),
+        complete: u8::from(left.complete()),
+        looked: looked_for_complete(left) as u16,
         length,
     }
 }

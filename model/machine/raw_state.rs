@@ -39,12 +39,14 @@ pub struct Served {
     pub length: usize,
 }
 
-/// The answer of the step: "The one-record step now gives it too" (02, W4), complete as 1 or 0.
+/// The answer of the step: "The one-record step now gives it too" (02, W4), complete as 1 or 0, and
+/// the hooks that its walk looked at.
 #[repr(C)]
 #[derive(Clone, Copy, PartialEq, Eq, Debug)]
 pub struct Stepped {
     pub number: u8,
     pub complete: u8,
+    pub looked: u16,
     pub length: usize,
 }
 

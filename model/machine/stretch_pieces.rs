@@ -258,8 +258,15 @@ fn parked(racking: i8, carrier: usize, slot: i16, side: u8, needle: u16) -> RawS
     state
 }
 
+/// There is no loop: all hooks are looked at if the racking left is 0, else none.
 fn step(name: &'static str, state: RawState, racking: i32, number: u8) -> StepPiece {
-    row(name, state, &rack(racking), number, 0)
+    let left = if number == DONE {
+        racking
+    } else {
+        state.racking.into()
+    };
+    let looked = if left == 0 { 500 } else { 0 };
+    row(name, state, &rack(racking), number, (0, looked))
 }
 
 /// Steps by a rack. A refused one leaves the state, which is not complete: a carrier is in.

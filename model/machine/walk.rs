@@ -25,6 +25,15 @@ pub fn walk(state: &State) -> Walk {
     Walk { none, looked_at }
 }
 
+/// The hooks looked at for complete. A racking that is not 0 settles it without a walk, and none is
+/// looked at then (the C header's words: 02 does not speak of that).
+pub fn looked_for_complete(state: &State) -> usize {
+    match state.racking {
+        0 => walk(state).looked_at,
+        _ => 0,
+    }
+}
+
 /// Complete as the walk and paper 01 tell it: "The empty state has racking 0, no loops and no
 /// active carrier".
 pub fn complete_by_walk(state: &State) -> bool {
