@@ -1,0 +1,13 @@
+/* The board's start-up code, as its programs see it. */
+#ifndef BOARD_H
+#define BOARD_H
+
+/* The status of a program that ended in a fault. */
+enum { FAULTED = 99 };
+
+void board_reset(void);
+
+/* Called at a memory fault; a program may have one of its own. */
+void board_memory_fault(void);
+
+#endif
