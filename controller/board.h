@@ -7,6 +7,9 @@ enum { FAULTED = 99 };
 
 void board_reset(void);
 
+/* Ends the program without closing anything. */
+void _exit(int status) __attribute__((noreturn));
+
 /* Called at a memory fault; a program may have one of its own. */
 void board_memory_fault(void);
 

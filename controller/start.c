@@ -16,11 +16,12 @@ extern char board_data_kept[], board_data[], board_data_end[], board_bss[], boar
 int main(int count, char **words);
 
 /* ---- Semihosting: ARM's numbers of calls, and handles of files */
-enum { SYS_OPEN = 1, SYS_CLOSE = 2, SYS_WRITE0 = 4, SYS_WRITE = 5, SYS_READ = 6, SYS_GET_CMDLINE = 0x15, SYS_EXIT_EXTENDED = 0x20 };
+enum { SYS_OPEN = 1, SYS_CLOSE = 2, SYS_WRITE0 = 4, SYS_WRITE = 5, SYS_READ = 6, SYS_FLEN = 12, SYS_GET_CMDLINE = 0x15,
+       SYS_EXIT_EXTENDED = 0x20 };
 enum { OPEN_READ_BINARY = 1, OPEN_WRITE = 4, OPEN_APPEND = 8 };
 enum { APPLICATION_EXIT = 0x20026 };
-/* newlib's numbers of opened files begin here: those below are input, output and errors. */
-enum { FIRST_FILE = 16 };
+/* newlib's numbers of opened files begin here, the lower ones are input, output and errors; QEMU's handles stay below 16. */
+enum { FIRST_FILE = 16, HANDLES = 16 };
 
 static intptr_t ask(intptr_t number, const void *block)
 {
@@ -91,9 +92,14 @@ void board_reset(void)
     exit(main(count, words));
 }
 
-__attribute__((section(".vectors"), used)) static void (*const vectors[16])(void) = {
-    (void (*)(void))board_stack_top, board_reset, unexpected, hard_fault, board_memory_fault, bus_fault, usage_fault,
-    NULL, NULL, NULL, NULL, unexpected, unexpected, NULL, unexpected, unexpected};
+/* The first word is the stack's top. */
+__attribute__((section(".vectors"), used)) static const union {
+    char *stack;
+    void (*handler)(void);
+} vectors[16] = {{board_stack_top}, {.handler = board_reset}, {.handler = unexpected}, {.handler = hard_fault},
+                 {.handler = board_memory_fault}, {.handler = bus_fault}, {.handler = usage_fault}, {NULL}, {NULL}, {NULL},
+                 {NULL}, {.handler = unexpected}, {.handler = unexpected}, {NULL}, {.handler = unexpected},
+                 {.handler = unexpected}};
 
 /* ---- newlib's system calls */
 
@@ -116,24 +122,35 @@ int _write(int file, const char *at, int n)
     return n - (int)ask(SYS_WRITE, block);
 }
 
+/* Files of which nothing was read yet. */
+static char unread[HANDLES];
+
 int _open(const char *name, int flags, int mode)
 {
     (void)flags, (void)mode;
     const uintptr_t block[3] = {(uintptr_t)name, OPEN_READ_BINARY, strlen(name)};
     intptr_t handle = ask(SYS_OPEN, block);
-    if (handle >= 0) return (int)handle + FIRST_FILE;
+    if (handle >= 0 && handle < HANDLES) {
+        unread[handle] = 1;
+        return (int)handle + FIRST_FILE;
+    }
     errno = ENOENT;
     return -1;
 }
 
+/* What has a length and gives nothing, as a folder, can't be read. */
 int _read(int file, char *at, int n)
 {
-    const uintptr_t block[3] = {(uintptr_t)(file - FIRST_FILE), (uintptr_t)at, (uintptr_t)n};
+    int handle = file - FIRST_FILE;
+    const uintptr_t block[3] = {(uintptr_t)handle, (uintptr_t)at, (uintptr_t)n};
     if (file < FIRST_FILE) return 0;
     intptr_t left = ask(SYS_READ, block);
-    if (left >= 0 && left <= n) return n - (int)left;
-    errno = EIO;
-    return -1;
+    if (left < 0 || left > n || (left == n && unread[handle] && ask(SYS_FLEN, block) > 0)) {
+        errno = EIO;
+        return -1;
+    }
+    if (left < n) unread[handle] = 0;
+    return n - (int)left;
 }
 
 int _close(int file)

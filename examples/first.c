@@ -30,7 +30,7 @@ int main(void)
         if (step.number != KNITOUT_DONE)
             return 1; /* not after a rewrite that is done, unless something else wrote to panel or output */
         printf("knit the %u bytes at %u\n", (unsigned)step.length, (unsigned)place);
-        place += step.length;
+        place += (size_t)step.length;
     }
     if (knitout_carriers(&panel, list, KNITOUT_CARRIERS).number == KNITOUT_DONE)
         for (int k = 1; k <= KNITOUT_CARRIERS; k++)

@@ -32,12 +32,8 @@ enum { ENTRIES = sizeof work / sizeof *work };
 static struct knitout_state panel, before;
 /* Lent to the list: the ten carriers and one entry more, which no call may change; and what it held before. */
 static struct knitout_carrier list[KNITOUT_CARRIERS + 1], kept[KNITOUT_CARRIERS + 1];
-/* The house orders of two programs, and their answers. */
-static struct ordered {
-    uint64_t answer;
-    size_t length;
-    uint8_t bytes[KNITOUT_PROGRAM_MOST];
-} orders[2];
+/* The house order of the first of two programs, kept while the second's is made. */
+static uint8_t first_order[KNITOUT_PROGRAM_MOST];
 /* A program and its records' starts, as the rewriter writes them. */
 struct written {
     const uint8_t *bytes;
@@ -149,7 +145,7 @@ static void show_answer(const char *call, uint64_t answer)
 }
 
 /* Number and length of a step's or a list's answer. */
-static void show_served(unsigned number, size_t length)
+static void show_served(unsigned number, uint64_t length)
 {
     printf("%u %s, length %u", number, knitout_word(number), (unsigned)length);
 }
@@ -330,7 +326,7 @@ static uint64_t walk(const uint8_t *bytes, size_t length)
         if (stepped.complete && !complete)
             printf("complete again, after the record at place %u; hooks looked at: %u\n", (unsigned)place, stepped.looked);
         complete = stepped.complete;
-        place += stepped.length;
+        place += (size_t)stepped.length;
     }
     if (bytes == output)
         check(is_painted(length, record), "past the program, output and work are as they were");
@@ -729,50 +725,52 @@ static int serve(size_t length, size_t log_length)
     return KNITOUT_NUMBER(run) == KNITOUT_DONE && KNITOUT_NUMBER(rewrite) == KNITOUT_DONE ? KNITTABLE : REFUSED;
 }
 
-/* Orders the loaded program, and looks whether the call kept its promises. */
-static void order(const char *name, size_t length, struct ordered *to)
+/* Orders the loaded program, and looks whether the call kept its promises. Whether it is done. */
+static bool order(const char *name, size_t length)
 {
     paint();
-    to->answer = knitout_order_at(limit, program, length, output, sizeof output, work, ENTRIES);
-    to->length = length;
+    uint64_t answer = knitout_order_at(limit, program, length, output, sizeof output, work, ENTRIES);
+
     printf("%s, ", name);
-    show_answer("order", to->answer);
-    check(is_same_answer(to->answer, knitout_run_at(limit, program, length)), "it answers as the run does");
+    show_answer("order", answer);
+    check(is_same_answer(answer, knitout_run_at(limit, program, length)), "it answers as the run does");
     if (limit == KNITOUT_LIMIT_MOST)
-        check(is_again(to->answer, knitout_order(program, length, output_again, sizeof output_again, work_again, ENTRIES)),
+        check(is_again(answer, knitout_order(program, length, output_again, sizeof output_again, work_again, ENTRIES)),
               "the call without a limit does the same");
-    if (KNITOUT_NUMBER(to->answer) != KNITOUT_DONE) {
+    if (KNITOUT_NUMBER(answer) != KNITOUT_DONE) {
         check(is_painted(0, 0), "the refused order wrote nothing");
-        return;
+        return false;
     }
-    memcpy(to->bytes, output, length);
     memset(output_again, PAINT, sizeof output_again);
     memset(work_again, PAINT, sizeof work_again);
-    check(is_again(KNITOUT_DONE, knitout_order_at(limit, to->bytes, length, output_again, sizeof output_again, work_again,
+    check(is_again(KNITOUT_DONE, knitout_order_at(limit, output, length, output_again, sizeof output_again, work_again,
                                                   ENTRIES)),
           "ordered twice it is the same");
+    return true;
 }
 
 /* Orders two programs and compares; if the orders are equal, shows it by its steps. Gives the exit status. */
 static int compare(char **names)
 {
-    for (int i = 0; i < 2; i++) {
-        size_t length;
+    size_t first_length, length;
 
-        if (!load(names[i], program, sizeof program, &length))
-            return UNREADABLE;
-        order(names[i], length, &orders[i]);
-    }
-    if (KNITOUT_NUMBER(orders[0].answer) != KNITOUT_DONE || KNITOUT_NUMBER(orders[1].answer) != KNITOUT_DONE) {
+    if (!load(names[0], program, sizeof program, &first_length))
+        return UNREADABLE;
+    bool first_done = order(names[0], first_length);
+
+    memcpy(first_order, output, sizeof first_order);
+    if (!load(names[1], program, sizeof program, &length))
+        return UNREADABLE;
+    if (!order(names[1], length) || !first_done) {
         puts("not compared");
         return REFUSED;
     }
-    if (orders[0].length != orders[1].length || memcmp(orders[0].bytes, orders[1].bytes, orders[0].length) != 0) {
+    if (first_length != length || memcmp(first_order, output, length) != 0) {
         puts("other bytes: no accepted swaps lead from one to the other");
         return REFUSED;
     }
     puts("equal bytes: accepted swaps lead from one to the other, and one is enough to keep");
-    check(walk(output, orders[1].length) == KNITOUT_DONE, "the order runs to its end");
+    check(walk(output, length) == KNITOUT_DONE, "the order runs to its end");
     return KNITTABLE;
 }
 

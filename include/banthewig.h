@@ -29,7 +29,7 @@ extern "C" {
 #endif
 
 /* The number of this interface: header and archive must have the same, else they do not link (see the end). */
-#define KNITOUT_INTERFACE 2
+#define KNITOUT_INTERFACE 3
 
 /* ---- Words
    Needle       stands on the front or the back bed, the beds opposite each other: f.0, f.1 .. and b.0, b.1 ..
@@ -270,7 +270,7 @@ struct knitout_stepped {
     uint8_t number;   /* enum knitout_number */
     uint8_t complete; /* 1 if the state that the step leaves is the empty one at its own limit, else 0 */
     uint16_t looked;  /* how many hooks were looked at to decide complete, 0 to KNITOUT_HOOKS (see knitout_step) */
-    size_t length;    /* the record's length in bytes; 0 if refused */
+    uint64_t length;  /* the record's length in bytes; 0 if refused */
 };
 
 /* Makes the step of the first record of bytes[0] to bytes[length - 1] on the lent state, at that state's limit. What follows
@@ -291,8 +291,8 @@ struct knitout_stepped knitout_step(struct knitout_state *state, const uint8_t *
 
 /* The answer of a list. */
 struct knitout_served {
-    uint8_t number; /* enum knitout_number */
-    size_t length;  /* the entries written, KNITOUT_CARRIERS; 0 if refused */
+    uint8_t number;  /* enum knitout_number */
+    uint64_t length; /* the entries written, KNITOUT_CARRIERS; 0 if refused */
 };
 
 /* Lists the carriers of a state: carrier k to list[k - 1]; count is in entries. Gives the first that fits: KNITOUT_BAD_STATE,

@@ -17,7 +17,7 @@ extern "C" {
         second: *const u8,
         second_length: usize,
     ) -> Tied;
-    fn knitout_interface_2() -> u32;
+    fn knitout_interface_3() -> u32;
 }
 
 /// One in so many calls is lent memory that can only be read.
@@ -29,7 +29,7 @@ const EXCHANGED_EVERY: u64 = 4;
 /// What the library's interface says of itself.
 pub fn interface() -> u32 {
     // SAFETY: it takes nothing.
-    unsafe { knitout_interface_2() }
+    unsafe { knitout_interface_3() }
 }
 
 /// A racking, and bytes with a record at their front or none.

@@ -25,8 +25,8 @@ const RACKINGS: RangeInclusive<i32> = -MAX_RACKING..=MAX_RACKING;
 
 pub fn compare(ties: &mut Ties, seed: u64) {
     let mut random = Random::new(seed.rotate_left(48));
-    if interface() != 2 {
-        fail("the interface is not 2");
+    if interface() != 3 {
+        fail("the interface is not 3");
     }
     pieces(ties);
     every_pair(&mut random, ties);

@@ -13,10 +13,10 @@ ghost use Rattle.banthewig.specs.Entries.{packed};
 // The interface's number, in its name too: include/banthewig.h refers to it by name, so that a header and an archive of
 // different numbers do not link.
 #[no_mangle]
-pub extern "C" fn knitout_interface_2() -> u32
-    ensures { λ n. ⌜ n ≡ 2 ⌝ }
+pub extern "C" fn knitout_interface_3() -> u32
+    ensures { λ n. ⌜ n ≡ 3 ⌝ }
 {
-    2
+    3
 }
 
 // Number and place in one word.
