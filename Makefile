@@ -12,7 +12,11 @@ ifeq ($(origin CXX),default)
 CXX = c++
 endif
 
-.PHONY: run test bench archive model example header
+# The controller's core, by the name that compilers have for it: controller/build lists them.
+CPU = cortex-m4
+MODULE = target/controller/module.ll
+
+.PHONY: run test bench archive model example header controller controller-test
 
 # Runs the C host on a bundled program and log.
 run: $(OUT)/host
@@ -37,6 +41,18 @@ $(LIB): $(SOURCES)
 	@echo "Proving the library's $(words $(PROVED)) crates ($(PROVED)) and writing $(LIB):"
 	@echo "about 3 minutes on two cores, with nothing to see meanwhile. Once it is built, this is not done again."
 	@$(MAKE) --no-print-directory archive
+
+# The library for the controller: the module of the proved archive, kept and shown to be it, is converted and compiled.
+controller: $(MODULE)
+	@controller/build archive $(CPU)
+
+$(MODULE): $(LIB)
+	@echo "Keeping the module of $(LIB) (under a minute):"
+	@controller/build module
+
+# That library in QEMU, against the x86-64 one. Needs what `controller/test needs` names.
+controller-test: $(MODULE)
+	controller/test build && controller/test cases && controller/test wrong && controller/test examples
 
 # The library against the Rust model. The model is a crate of its own, so that it cannot name the comparison.
 model: $(LIB)

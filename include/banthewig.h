@@ -301,9 +301,9 @@ struct knitout_served {
    Stack 224 bytes; worst time 26 microseconds. */
 struct knitout_served knitout_carriers(const struct knitout_state *state, struct knitout_carrier *list, size_t count);
 
-/* ---- Layouts that the archive is built with (x86-64); crates/banthewig/proofs/Crossing.antt proves the same of it. A packed
-   carrier or state is known by its alignment alone, since neither has padding; a wider or narrower field before padding by its
-   width. */
+/* ---- Layouts that the archive is built with, on 32 and on 64 bits; crates/banthewig/proofs/Crossing.antt proves the same of it.
+   A packed carrier or state is known by its alignment alone, since neither has padding; a wider or narrower field before padding
+   by its width. */
 #ifdef __cplusplus
 #define KNITOUT_ASSERT(holds) static_assert(holds, #holds)
 #define KNITOUT_ALIGNMENT(type) alignof(type)
@@ -314,6 +314,7 @@ struct knitout_served knitout_carriers(const struct knitout_state *state, struct
 #define KNITOUT_WIDTH(name, field) sizeof(((struct name *)0)->field)
 #endif
 KNITOUT_ASSERT(sizeof(struct knitout_tied) == 16);
+KNITOUT_ASSERT(KNITOUT_ALIGNMENT(struct knitout_tied) == 4);
 KNITOUT_ASSERT(offsetof(struct knitout_tied, left) == 0);
 KNITOUT_ASSERT(offsetof(struct knitout_tied, right) == 4);
 KNITOUT_ASSERT(offsetof(struct knitout_tied, number) == 8);
@@ -336,12 +337,14 @@ KNITOUT_ASSERT(offsetof(struct knitout_state, loops) == 1);
 KNITOUT_ASSERT(offsetof(struct knitout_state, limit) == 501);
 KNITOUT_ASSERT(offsetof(struct knitout_state, carriers) == 502);
 KNITOUT_ASSERT(sizeof(struct knitout_stepped) == 16);
+KNITOUT_ASSERT(KNITOUT_ALIGNMENT(struct knitout_stepped) == 8);
 KNITOUT_ASSERT(offsetof(struct knitout_stepped, number) == 0);
 KNITOUT_ASSERT(offsetof(struct knitout_stepped, complete) == 1);
 KNITOUT_ASSERT(offsetof(struct knitout_stepped, looked) == 2);
 KNITOUT_ASSERT(KNITOUT_WIDTH(knitout_stepped, looked) == 2);
 KNITOUT_ASSERT(offsetof(struct knitout_stepped, length) == 8);
 KNITOUT_ASSERT(sizeof(struct knitout_served) == 16);
+KNITOUT_ASSERT(KNITOUT_ALIGNMENT(struct knitout_served) == 8);
 KNITOUT_ASSERT(offsetof(struct knitout_served, number) == 0);
 KNITOUT_ASSERT(KNITOUT_WIDTH(knitout_served, number) == 1);
 KNITOUT_ASSERT(offsetof(struct knitout_served, length) == 8);
@@ -357,11 +360,18 @@ KNITOUT_ASSERT(offsetof(struct knitout_served, length) == 8);
    It relies on the attribute 'used', which keeps the pointer in the object, and for links with --gc-sections on 'retain' (gcc
    11, clang 13, binutils 2.36 and later), which keeps it in the program: without 'retain' such links are not checked, and
    with a compiler that has not GNU C's attributes none is. (-Wattributes: gcc knows 'retain' even where its assembler does
-   not, and warns.) */
+   not, and warns.) gcc for ARM leaves 'retain' out though its assembler has it, so there the assembler is told. */
 #define KNITOUT_PASTED(name, number) name##number
 #define KNITOUT_PASTE(name, number) KNITOUT_PASTED(name, number)
 uint32_t KNITOUT_PASTE(knitout_interface_, KNITOUT_INTERFACE)(void);
-#ifdef __GNUC__
+#if defined(__arm__) && defined(__ELF__) && !defined(__clang__) && defined(__GNUC__) && __GNUC__ >= 11
+#define KNITOUT_QUOTED(name) #name
+#define KNITOUT_QUOTE(name) KNITOUT_QUOTED(name)
+__asm__(".pushsection .rodata.knitout_interface, \"aR\", %progbits\n\t.balign 4\n\t.word "
+        KNITOUT_QUOTE(KNITOUT_PASTE(knitout_interface_, KNITOUT_INTERFACE)) "\n\t.popsection");
+#undef KNITOUT_QUOTE
+#undef KNITOUT_QUOTED
+#elif defined(__GNUC__)
 #define KNITOUT_KEPT __attribute__((used))
 #ifdef __has_attribute
 #if __has_attribute(retain)
