@@ -1,13 +1,11 @@
 /* Lists, counts and times the measured work through the library and plain C, and checks that both do the same. */
 #define _POSIX_C_SOURCE 200809L
 
-#include "work.h"
+#include "machine.h"
 
 #include <stdio.h>
 #include <stdlib.h>
 #include <string.h>
-#include <time.h>
-#include <valgrind/callgrind.h>
 
 /* Short work is called often enough for the clock. */
 enum { TIMED_RECORDS = 20000 };
@@ -23,9 +21,11 @@ const struct group *const groups[GROUPS] = { &run_group, &rewrite_group, &order_
 
 static int usage(void)
 {
-    fputs("usage: bench check\n"
+    fputs("usage: bench [NAME=VALUE..] COMMAND, with values put into the environment, which a board has not by itself\n"
+          "       bench check\n"
           "       bench list\n"
           "       bench count (under callgrind: one dump each, named by entry, input and version)\n"
+          "       bench call ENTRY INPUT (the library and the entry that does nothing, once: for a trace)\n"
           "       bench time REPETITIONS\n"
           "       bench stack\n", stderr);
     return 2;
@@ -42,35 +42,28 @@ static int list(const struct group *g, int i, const struct about *about)
     return g->differs();
 }
 
-/* Counts one call, on an aligned stack. */
-static void count_call(const struct group *g, enum version v)
-{
-    _Alignas(PAGE) volatile char top = 0;
-    (void)top;
-    CALLGRIND_TOGGLE_COLLECT;
-    g->call(v);
-    CALLGRIND_TOGGLE_COLLECT;
-}
-
-/* Counts one call of each version; the figures are in callgrind's dumps. */
+/* Counts one call of each version. */
 static int count(const struct group *g, int i, const struct about *about)
 {
     char name[64];
     (void)about;
     for (int v = NOTHING; v < VERSIONS; v++) {
         g->prepare(v);
-        count_call(g, v);
         snprintf(name, sizeof name, "%s %d %s", g->entry, i, version_names[v]);
-        CALLGRIND_DUMP_STATS_AT(name);
+        count_call(g->call, v, name);
     }
     return g->differs();
 }
 
-static double nanoseconds(void)
+/* One call of the library and of the entry that does nothing. */
+static int call(const struct group *g, int i, const struct about *about)
 {
-    struct timespec t;
-    clock_gettime(CLOCK_MONOTONIC, &t);
-    return (double)t.tv_sec * 1e9 + (double)t.tv_nsec;
+    (void)i, (void)about;
+    for (int v = NOTHING; v <= LIBRARY; v++) {
+        g->prepare(v);
+        g->call(v);
+    }
+    return 0;
 }
 
 /* The time of some calls, with what comes before each. */
@@ -104,21 +97,27 @@ static int take_time(const struct group *g, int i, const struct about *about)
     return g->differs();
 }
 
-static int treat(const struct group *g, treatment chosen)
+static int treat(const struct group *g, int i, treatment chosen)
 {
-    for (int i = 0; i < g->inputs(); i++) {
-        struct about about;
-        g->build(i, &about);
-        if (chosen(g, i, &about)) return 1;
-    }
-    return 0;
+    struct about about;
+    g->build(i, &about);
+    return chosen(g, i, &about);
 }
 
 static int treat_all(treatment chosen)
 {
-    for (int i = 0; i < GROUPS; i++)
-        if (treat(groups[i], chosen)) return 1;
+    for (int n = 0; n < GROUPS; n++)
+        for (int i = 0; i < groups[n]->inputs(); i++)
+            if (treat(groups[n], i, chosen)) return 1;
     return 0;
+}
+
+/* One input of one entry. */
+static int treat_one(const char *entry, int i, treatment chosen)
+{
+    for (int n = 0; n < GROUPS; n++)
+        if (strcmp(groups[n]->entry, entry) == 0 && 0 <= i && i < groups[n]->inputs()) return treat(groups[n], i, chosen);
+    return usage();
 }
 
 /* The inputs that are not measured. */
@@ -129,15 +128,37 @@ static int check_all(void)
     return 0;
 }
 
-int main(int argc, char **argv)
+/* Puts NAME=VALUE before the command into the environment; how many there are. */
+static int take_values(char **words)
 {
-    const char *command = argc > 1 ? argv[1] : "";
-    if (argc == 3) repetitions = strtoul(argv[2], NULL, 10);
-    if (argc == 3 && strcmp(command, "time") == 0) return treat_all(take_time);
-    if (argc != 2) return usage();
+    int n = 0;
+    for (char *value; words[n] && (value = strchr(words[n], '=')); n++) {
+        *value = 0;
+        if (setenv(words[n], value + 1, 1) != 0) exit(1);
+    }
+    return n;
+}
+
+static int obey(int words_given, char **words)
+{
+    if (words_given == 0) return usage();
+    const char *command = words[0];
+    if (words_given == 2 && strcmp(command, "time") == 0) {
+        repetitions = strtoul(words[1], NULL, 10);
+        return treat_all(take_time);
+    }
+    if (words_given == 3 && strcmp(command, "call") == 0) return treat_one(words[1], atoi(words[2]), call);
+    if (words_given != 1) return usage();
     if (strcmp(command, "check") == 0) return check_all();
     if (strcmp(command, "list") == 0) return treat_all(list);
-    if (strcmp(command, "count") == 0) return treat_all(count);
+    if (strcmp(command, "count") == 0) return counts_fail() || treat_all(count);
     if (strcmp(command, "stack") == 0) return print_stacks();
     return usage();
+}
+
+int main(int argc, char **argv)
+{
+    if (argc == 0) return usage();
+    int values = take_values(argv + 1);
+    return obey(argc - 1 - values, argv + 1 + values);
 }

@@ -47,7 +47,8 @@ static void build(int i, struct about *about)
     in = build_order(i);
     about->records = in->records;
     about->timed = in->longest;
-    snprintf(about->text, sizeof about->text, "%s %zu %u %d", in->name, in->length, in->records, in->longest);
+    snprintf(about->text, sizeof about->text, "%s %lu %u %d", in->name, (unsigned long)in->length,
+             in->records, in->longest);
 }
 
 static void prepare(enum version v) { memset(&lent[v], PAINT, sizeof lent[v]); }
@@ -68,8 +69,8 @@ static int contents_differ(void)
 static int versions_differ(const char *name, size_t length)
 {
     if (lent[LIBRARY].answer == lent[PLAIN].answer && !contents_differ()) return 0;
-    fprintf(stderr, "bench: order of %s, %zu bytes: library %" PRIx64 ", plain C %" PRIx64 ", contents %s\n", name, length,
-            lent[LIBRARY].answer, lent[PLAIN].answer, contents_differ() ? "differ" : "agree");
+    fprintf(stderr, "bench: order of %s, %lu bytes: library %" PRIx64 ", plain C %" PRIx64 ", contents %s\n", name,
+            (unsigned long)length, lent[LIBRARY].answer, lent[PLAIN].answer, contents_differ() ? "differ" : "agree");
     return 1;
 }
 

@@ -6,8 +6,8 @@
 #include <stdlib.h>
 #include <string.h>
 
-/* The inputs for complete alone. */
-enum { LOOKED = 7 };
+/* The inputs for complete alone, and those with ten carriers attached at one needle. */
+enum { LOOKED = 7, TEN = 5 };
 
 /* A program before its last record of a kind. */
 struct moment {
@@ -151,6 +151,39 @@ static void build_looked(int i)
     step.state.loops[left[i].looked - 1] = (uint8_t)left[i].loops;
 }
 
+static void attach_ten(struct knitout_state *state, struct knitout_carrier carrier)
+{
+    for (int i = 0; i < KNITOUT_CARRIERS; i++) state->carriers[i] = carrier;
+}
+
+/* The dearest found: ten carriers attached at one needle, and a step after which no hook holds a loop, or the last alone. */
+static void build_ten(int i)
+{
+    enum { MIDDLE = 100, LAST = KNITOUT_NEEDLES - 1, AWAY = 30 };
+    static const struct {
+        const char *name;
+        struct knitout_carrier carrier;
+        int8_t racking;
+        uint8_t record[KNITOUT_RECORD_MOST];
+        uint16_t loop; /* the hook of the only loop before the step; KNITOUT_HOOKS: none */
+    } ten[TEN] = {
+        { "rack-nearer", { 1, KNITOUT_RIGHT, MIDDLE + 1 - AWAY, KNITOUT_BACK, MIDDLE }, KNITOUT_RACKING_MOST, { RACK, 0 },
+          KNITOUT_HOOKS },
+        { "xfer-ten", { 1, KNITOUT_RIGHT, MIDDLE + 1, KNITOUT_FRONT, MIDDLE }, 0, { XFER, KNITOUT_FRONT, MIDDLE, MIDDLE },
+          KNITOUT_HOOKS - 1 },
+        { "drop-ten", { 1, KNITOUT_RIGHT, MIDDLE + 1, KNITOUT_FRONT, MIDDLE }, 0, { DROP, KNITOUT_FRONT, MIDDLE }, MIDDLE },
+        { "plated-last", { 1, KNITOUT_RIGHT, LAST, KNITOUT_BACK, LAST - 1 }, 0, { PLATED_KNIT, RIGHT, KNITOUT_BACK, LAST, 1, 2 },
+          KNITOUT_HOOKS },
+        { "split-last", { 1, KNITOUT_LEFT, LAST, KNITOUT_BACK, LAST }, 0, { SPLIT, RIGHT, KNITOUT_BACK, LAST, 1, LAST },
+          KNITOUT_HOOKS },
+    };
+    step = (struct step_input){ .name = ten[i].name, .state = empty, .bytes = ten[i].record, .length = KNITOUT_RECORD_MOST,
+                                .steps = 1, .served = record_size[ten[i].record[0]] };
+    step.state.racking = ten[i].racking;
+    attach_ten(&step.state, ten[i].carrier);
+    if (ten[i].loop < KNITOUT_HOOKS) step.state.loops[ten[i].loop] = 1;
+}
+
 /* How many of the steps leave the empty state, by its bytes, and the hooks looked at; neither of a state out of range. */
 static void count_complete(void)
 {
@@ -172,7 +205,8 @@ const struct step_input *build_step(int i)
     else if (i == PLATED_KNIT + 1) step_through(find_program("plated-mix"));
     else if (i == PLATED_KNIT + 2) one_step("rack-ten", find_rack("rack-ten"), KNITOUT_DONE);
     else if (i < PLATED_KNIT + 3 + LOOKED) build_looked(i - (PLATED_KNIT + 3));
-    else build_refused(i - (PLATED_KNIT + 3 + LOOKED), moments);
+    else if (i < PLATED_KNIT + 3 + LOOKED + TEN) build_ten(i - (PLATED_KNIT + 3 + LOOKED));
+    else build_refused(i - (PLATED_KNIT + 3 + LOOKED + TEN), moments);
     count_complete();
     return &step;
 }
@@ -182,11 +216,14 @@ const struct list_input *build_list(int i)
     static const struct list_input lists[LIST_INPUTS] = {
         { .name = "ten", .count = 10, .served = 10 },
         { .name = "twelve", .count = 12, .served = 10 },
+        { .name = "attached", .count = 10, .served = 10 },
         { .name = "refused-2", .count = 9, .number = KNITOUT_NO_ROOM },
         { .name = "refused-15-carrier-10", .count = 10, .number = KNITOUT_BAD_STATE },
     };
     list = lists[i];
     list.state = find_moments()[KNIT].state;
     if (list.number == KNITOUT_BAD_STATE) make_foul(&list.state);
+    if (strcmp(list.name, "attached") == 0)
+        attach_ten(&list.state, (struct knitout_carrier){ 1, KNITOUT_RIGHT, 101, KNITOUT_BACK, 100 });
     return &list;
 }

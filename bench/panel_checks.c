@@ -19,9 +19,9 @@ static unsigned seen[UINT8_MAX + 1][KNITOUT_STRETCHED + 1], seen_complete[UINT8_
 
 static int differ(const char *what, struct knitout_stepped library, struct knitout_stepped plain)
 {
-    fprintf(stderr, "bench: generated %s: library gives %u, complete %u, looked %u and %zu, plain C %u, %u, %u and %zu, or "
-            "contents differ\n", what, library.number, library.complete, library.looked, library.length, plain.number,
-            plain.complete, plain.looked, plain.length);
+    fprintf(stderr, "bench: generated %s: library gives %u, complete %u, looked %u and %lu, plain C %u, %u, %u and %lu, or "
+            "contents differ\n", what, library.number, library.complete, library.looked, (unsigned long)library.length,
+            plain.number, plain.complete, plain.looked, (unsigned long)plain.length);
     return 1;
 }
 

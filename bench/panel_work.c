@@ -47,9 +47,9 @@ static int answer_differs(const char *entry, const char *name, unsigned number, 
     for (int v = LIBRARY; v <= PLAIN; v++) {
         const struct lent *l = &lent[v];
         if (l->numbers == number && l->complete == complete && l->looked == looked && l->served == served) continue;
-        fprintf(stderr, "bench: %s %s: %s gives %u, complete %u, looked %u and %zu, expected %u, %u, %u and %zu\n", entry,
-                name, v == LIBRARY ? "library" : "plain C", l->numbers, l->complete, l->looked, l->served, number, complete,
-                looked, served);
+        fprintf(stderr, "bench: %s %s: %s gives %u, complete %u, looked %u and %lu, expected %u, %u, %u and %lu\n", entry,
+                name, v == LIBRARY ? "library" : "plain C", l->numbers, l->complete, l->looked, (unsigned long)l->served,
+                number, complete, looked, (unsigned long)served);
         return 1;
     }
     return 0;
@@ -79,8 +79,8 @@ static void build_steps(int i, struct about *about)
     step_in = build_step(i);
     about->records = 10 * step_in->steps;
     about->timed = 1;
-    snprintf(about->text, sizeof about->text, "%s %u %u %zu %u", step_in->name, step_in->steps, step_in->number,
-             step_in->served, step_in->looked);
+    snprintf(about->text, sizeof about->text, "%s %u %u %lu %u", step_in->name, step_in->steps, step_in->number,
+             (unsigned long)step_in->served, step_in->looked);
 }
 
 static void prepare_steps(enum version v) { prepare(v, &step_in->state); }
@@ -118,7 +118,8 @@ static void build_lists(int i, struct about *about)
     list_in = build_list(i);
     about->records = 10;
     about->timed = 1;
-    snprintf(about->text, sizeof about->text, "%s 1 %u %zu", list_in->name, list_in->number, list_in->served);
+    snprintf(about->text, sizeof about->text, "%s 1 %u %lu", list_in->name, list_in->number,
+             (unsigned long)list_in->served);
 }
 
 static void prepare_lists(enum version v) { prepare(v, &list_in->state); }

@@ -77,12 +77,13 @@ static void use_case(int i)
 /* Table, program, bytes, records, log, position, swaps, number. */
 static void build(int i, struct about *about)
 {
-    static const char *const logs[] = { "one", "spread", "ends", "found", "forth-and-back" };
+    static const char *const logs[] = { "one", "spread", "ends", "found", "forth-and-back", "again" };
     use_case(i);
     about->records = in->records + swap_case->swaps;
     about->timed = swap_case->log != AT;
-    snprintf(about->text, sizeof about->text, "%s %s %zu %u %s %u %u %u", swap_case->table, swap_case->program,
-             in->length, in->records, logs[swap_case->log], swap_case->position, swap_case->swaps, swap_case->number);
+    snprintf(about->text, sizeof about->text, "%s %s %lu %u %s %u %u %u", swap_case->table, swap_case->program,
+             (unsigned long)in->length, in->records, logs[swap_case->log], swap_case->position, swap_case->swaps,
+             swap_case->number);
 }
 
 static void prepare(enum version v) { memset(&lent[v], PAINT, sizeof lent[v]); }
@@ -110,9 +111,9 @@ static int contents_differ(void)
 static int versions_differ(void)
 {
     if (lent[LIBRARY].answer == lent[PLAIN].answer && !contents_differ()) return 0;
-    fprintf(stderr, "bench: rewrite %s of %u records, log of %zu bytes: library %" PRIx64 ", plain C %" PRIx64
-            ", contents %s\n", swap_case->program, in->records, log_length, lent[LIBRARY].answer, lent[PLAIN].answer,
-            contents_differ() ? "differ" : "agree");
+    fprintf(stderr, "bench: rewrite %s of %u records, log of %lu bytes: library %" PRIx64 ", plain C %" PRIx64
+            ", contents %s\n", swap_case->program, in->records, (unsigned long)log_length, lent[LIBRARY].answer,
+            lent[PLAIN].answer, contents_differ() ? "differ" : "agree");
     return 1;
 }
 

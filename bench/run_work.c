@@ -41,7 +41,7 @@ static void build(int i, struct about *about)
     about->records = program->records;
     about->timed = 1;
     char *at = about->text, *end = at + sizeof about->text;
-    at += snprintf(at, (size_t)(end - at), "%s %zu %u %u %u", program->name, program->length, program->records,
+    at += snprintf(at, (size_t)(end - at), "%s %lu %u %u %u", program->name, (unsigned long)program->length, program->records,
                    KNITOUT_NUMBER(program->answer), KNITOUT_PLACE(program->answer));
     for (int kind = 1; kind < KIND_LIMIT; kind++)
         if (program->of_kind[kind])

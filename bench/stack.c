@@ -1,17 +1,13 @@
 /* Measures the stack of each entry on every measured input, on a stack painted beforehand. */
-#define _XOPEN_SOURCE 700
-
-#include "work.h"
+#include "machine.h"
 
 #include <stdio.h>
 #include <stdlib.h>
 #include <string.h>
-#include <ucontext.h>
 
 enum { STACK_SIZE = 1 << 18 };
 
-static unsigned char stack[STACK_SIZE];
-static ucontext_t here, there;
+static _Alignas(16) unsigned char stack[STACK_SIZE];
 static const struct group *group;
 static enum version version;
 
@@ -22,12 +18,7 @@ static size_t changed(unsigned char paint)
 {
     memset(stack, paint, STACK_SIZE);
     group->prepare(version);
-    if (getcontext(&there) != 0) exit(1);
-    there.uc_stack.ss_sp = stack;
-    there.uc_stack.ss_size = STACK_SIZE;
-    there.uc_link = &here;
-    makecontext(&there, call, 0);
-    if (swapcontext(&here, &there) != 0) exit(1);
+    call_on(stack, STACK_SIZE, call);
     size_t low = 0;
     while (low < STACK_SIZE && stack[low] == paint) low++;
     if (low == 0) {
@@ -45,11 +36,11 @@ static size_t deepest(enum version v)
     return a > b ? a : b;
 }
 
-/* Raises the most to this input's, less what a call that does nothing takes; its return address is the call's own.
+/* Raises the most to this input's, less what a call that does nothing takes; a return address is the call's own.
    Arguments that are handed over on the stack are the caller's. */
 static int take_input(size_t most[VERSIONS])
 {
-    size_t without = deepest(NOTHING) - sizeof(void *);
+    size_t without = deepest(NOTHING) - return_address_size;
     for (int v = LIBRARY; v <= PLAIN; v++) {
         size_t taken = deepest(v) - without;
         if (taken > most[v]) most[v] = taken;
@@ -66,7 +57,7 @@ static int print_stack(const struct group *g)
         g->build(i, &about);
         if (take_input(most)) return 1;
     }
-    printf("%s %zu %zu\n", g->entry, most[LIBRARY], most[PLAIN]);
+    printf("%s %lu %lu\n", g->entry, (unsigned long)most[LIBRARY], (unsigned long)most[PLAIN]);
     return 0;
 }
 

@@ -16,6 +16,9 @@ enum { STRIDE = 64 };
    one is enough where it is refused. */
 enum { MANY = 1000, FEW = 200, FULL = KNITOUT_LOG_MOST / SWAP_SIZE };
 
+/* The dearest program: its records, and where its two stand that swap. */
+enum { DEAREST = 16351, DEAREST_AT = 2 * STRIDE - 1 };
+
 static struct swap_case cases[CASES_LIMIT];
 static int case_count;
 static struct swap_input input;
@@ -89,6 +92,9 @@ static void add_full_logs(void)
     add_with_empty("full", "knit", 6500, SPREAD, FULL);
     add_with_empty("full", "mixed", mixed, FORTH_AND_BACK, FULL);
     add_with_empty("full", "knit", 6500, ENDS, FULL);
+    struct swap_case dearest = { "full", "dearest", DEAREST, AGAIN, DEAREST_AT, FULL, KNITOUT_DONE, 0 };
+    add_empty(dearest);
+    add(dearest);
 }
 
 /* The longest program of knits once more, at limit 1. */
@@ -173,6 +179,21 @@ static void build_racks(unsigned records, unsigned position)
     }
 }
 
+/* Two-byte records as far as can be, each a rack that looks at ten attachments on the back bed: ten in and ten tucks, the
+   first two carriers at one needle, where a plated knit follows with a drop, behind 63 racks of which the last is to 0. */
+static void build_dearest(unsigned records)
+{
+    for (unsigned i = 0; i < 2 * KNITOUT_CARRIERS; i++) {
+        unsigned k = i / 2 + 1, needle = k <= 2 ? 0 : WIDTH * (k - 1);
+        append((uint8_t[]){ i % 2 ? TUCK : IN, RIGHT, KNITOUT_BACK, (uint8_t)needle, (uint8_t)k });
+    }
+    for (unsigned i = input.records; i < records; i++) {
+        if (i == DEAREST_AT) append((uint8_t[]){ PLATED_KNIT, RIGHT, KNITOUT_BACK, 1, 1, 2 });
+        else if (i == DEAREST_AT + 1) append((uint8_t[]){ DROP, KNITOUT_FRONT, 100 });
+        else append((uint8_t[]){ RACK, i + 1 == DEAREST_AT ? 0 : (uint8_t)(i * 5 % 17 - 8) });
+    }
+}
+
 static void build_listed(const struct program *p)
 {
     memcpy(input.program, p->bytes, p->length);
@@ -227,12 +248,12 @@ static void build_forth_and_back(unsigned swaps)
     }
 }
 
-/* The i-th position: AT one place; SPREAD over all records but the last few, with one sequence modulo 64 in all
-   programs; or at both ENDS in turn. Of the last two, each swap is undone two swaps later, so that none is refused. */
+/* The i-th position: AT one place, or AGAIN and again in a full log; SPREAD over all records but the last few, with one
+   sequence modulo 64 in all programs; or at both ENDS in turn. Of the last two, each swap is undone two swaps later, so that none is refused. */
 static unsigned position_of(const struct swap_case *c, unsigned i)
 {
     unsigned strides = (c->records - 1) / STRIDE, pair = i / 4, second = i % 2, spread = 2 * pair + second;
-    if (c->log == AT) return c->position;
+    if (c->log == AT || c->log == AGAIN) return c->position;
     if (c->log == SPREAD) return spread * 37 % strides * STRIDE + spread * 13 % STRIDE;
     return second * (strides - 1) * STRIDE + pair * 13 % STRIDE;
 }
@@ -247,6 +268,7 @@ static void build_program_of(const struct swap_case *c)
     if (strcmp(c->program, "knit") == 0 || strcmp(c->program, "knit-at-1") == 0) build_knit(c->records);
     else if (strcmp(c->program, "plated-knit") == 0) build_plated_knit(c->records);
     else if (strcmp(c->program, "rack") == 0) build_racks(c->records, c->records);
+    else if (strcmp(c->program, "dearest") == 0) build_dearest(c->records);
     else if (strcmp(c->program, "two-drops") == 0) build_racks(c->records, c->position);
     else build_listed(find_program(c->program));
 }

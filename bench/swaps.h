@@ -5,7 +5,7 @@
 #include "kinds.h"
 
 /* How a log's positions go; `bench/swaps.c` says more. */
-enum log_kind { AT, SPREAD, ENDS, FOUND, FORTH_AND_BACK };
+enum log_kind { AT, SPREAD, ENDS, FOUND, FORTH_AND_BACK, AGAIN };
 
 /* What a case is named by: `bench/swaps.c` says what each program holds. */
 struct swap_case {
@@ -13,7 +13,7 @@ struct swap_case {
     const char *program;
     unsigned records;
     enum log_kind log;
-    unsigned position; /* of the two drops, and of every swap AT it */
+    unsigned position; /* of the two drops, and of every swap AT it or AGAIN */
     unsigned swaps;    /* records of the log */
     unsigned number;   /* of the answer: 0 if every swap is accepted */
     uint8_t at;        /* the limit of the entry at a limit; 0: the entry at 8 */

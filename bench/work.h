@@ -9,7 +9,7 @@ enum version { NOTHING, LIBRARY, PLAIN, VERSIONS };
 
 /* What is said of an input. */
 struct about {
-    char text[200];    /* for the script */
+    char text[200];    /* for the script; formats are those that the board's C library has, too: no %zu */
     unsigned records;  /* that a call goes through, roughly */
     int timed;         /* is its wall time taken? */
 };
