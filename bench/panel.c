@@ -151,11 +151,6 @@ static void build_looked(int i)
     step.state.loops[left[i].looked - 1] = (uint8_t)left[i].loops;
 }
 
-static void attach_ten(struct knitout_state *state, struct knitout_carrier carrier)
-{
-    for (int i = 0; i < KNITOUT_CARRIERS; i++) state->carriers[i] = carrier;
-}
-
 /* The dearest found: ten carriers attached at one needle, and a step after which no hook holds a loop, or the last alone. */
 static void build_ten(int i)
 {
@@ -180,7 +175,7 @@ static void build_ten(int i)
     step = (struct step_input){ .name = ten[i].name, .state = empty, .bytes = ten[i].record, .length = KNITOUT_RECORD_MOST,
                                 .steps = 1, .served = record_size[ten[i].record[0]] };
     step.state.racking = ten[i].racking;
-    attach_ten(&step.state, ten[i].carrier);
+    for (int k = 0; k < KNITOUT_CARRIERS; k++) step.state.carriers[k] = ten[i].carrier;
     if (ten[i].loop < KNITOUT_HOOKS) step.state.loops[ten[i].loop] = 1;
 }
 
@@ -216,14 +211,11 @@ const struct list_input *build_list(int i)
     static const struct list_input lists[LIST_INPUTS] = {
         { .name = "ten", .count = 10, .served = 10 },
         { .name = "twelve", .count = 12, .served = 10 },
-        { .name = "attached", .count = 10, .served = 10 },
         { .name = "refused-2", .count = 9, .number = KNITOUT_NO_ROOM },
         { .name = "refused-15-carrier-10", .count = 10, .number = KNITOUT_BAD_STATE },
     };
     list = lists[i];
     list.state = find_moments()[KNIT].state;
     if (list.number == KNITOUT_BAD_STATE) make_foul(&list.state);
-    if (strcmp(list.name, "attached") == 0)
-        attach_ten(&list.state, (struct knitout_carrier){ 1, KNITOUT_RIGHT, 101, KNITOUT_BACK, 100 });
     return &list;
 }

@@ -4,7 +4,7 @@
 
 #include "programs.h"
 
-enum { STEP_INPUTS = 32, LIST_INPUTS = 5 };
+enum { STEP_INPUTS = 32, LIST_INPUTS = 4 };
 
 /* A program of 32,768 bytes has no more records. */
 enum { PLACES_LIMIT = KNITOUT_PROGRAM_MOST / 2 };

@@ -17,7 +17,7 @@ enum { STRIDE = 64 };
 enum { MANY = 1000, FEW = 200, FULL = KNITOUT_LOG_MOST / SWAP_SIZE };
 
 /* The dearest program: its records, and where its two stand that swap. */
-enum { DEAREST = 16351, DEAREST_AT = 2 * STRIDE - 1 };
+enum { DEAREST = 16350, DEAREST_AT = 255 * STRIDE - 1 };
 
 static struct swap_case cases[CASES_LIMIT];
 static int case_count;
@@ -179,17 +179,18 @@ static void build_racks(unsigned records, unsigned position)
     }
 }
 
-/* Two-byte records as far as can be, each a rack that looks at ten attachments on the back bed: ten in and ten tucks, the
-   first two carriers at one needle, where a plated knit follows with a drop, behind 63 racks of which the last is to 0. */
+/* Two-byte records as far as can be, each a rack that looks at ten attachments on the back bed: ten in and ten tucks before,
+   three of them at one needle; near the end, where no mark is near, a tuck on the front and a plated tuck on the back at one
+   column, whose layers do not meet. */
 static void build_dearest(unsigned records)
 {
     for (unsigned i = 0; i < 2 * KNITOUT_CARRIERS; i++) {
-        unsigned k = i / 2 + 1, needle = k <= 2 ? 0 : WIDTH * (k - 1);
+        unsigned k = i / 2 + 1, needle = k <= 3 ? 0 : WIDTH * (k - 1);
         append((uint8_t[]){ i % 2 ? TUCK : IN, RIGHT, KNITOUT_BACK, (uint8_t)needle, (uint8_t)k });
     }
     for (unsigned i = input.records; i < records; i++) {
-        if (i == DEAREST_AT) append((uint8_t[]){ PLATED_KNIT, RIGHT, KNITOUT_BACK, 1, 1, 2 });
-        else if (i == DEAREST_AT + 1) append((uint8_t[]){ DROP, KNITOUT_FRONT, 100 });
+        if (i == DEAREST_AT) append((uint8_t[]){ TUCK, RIGHT, KNITOUT_FRONT, 1, 1 });
+        else if (i == DEAREST_AT + 1) append((uint8_t[]){ PLATED_TUCK, RIGHT, KNITOUT_BACK, 1, 2, 3 });
         else append((uint8_t[]){ RACK, i + 1 == DEAREST_AT ? 0 : (uint8_t)(i * 5 % 17 - 8) });
     }
 }
@@ -249,7 +250,8 @@ static void build_forth_and_back(unsigned swaps)
 }
 
 /* The i-th position: AT one place, or AGAIN and again in a full log; SPREAD over all records but the last few, with one
-   sequence modulo 64 in all programs; or at both ENDS in turn. Of the last two, each swap is undone two swaps later, so that none is refused. */
+   sequence modulo 64 in all programs; or at both ENDS in turn. Of the last two, each swap is undone two swaps later, so that
+   none is refused. */
 static unsigned position_of(const struct swap_case *c, unsigned i)
 {
     unsigned strides = (c->records - 1) / STRIDE, pair = i / 4, second = i % 2, spread = 2 * pair + second;
