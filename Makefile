@@ -28,8 +28,12 @@ run: $(OUT)/host
 test:
 	.ci/run
 
+# On x86-64, and on the M4 where QEMU and its compiler are there.
 bench: archive
 	sh bench/run
+	@missing=$$(controller/test needs); if [ -n "$$missing" ]; then \
+		echo "bench: nothing is counted on the M4: missing" $$missing; \
+	else $(MAKE) --no-print-directory controller CPU=cortex-m4 && sh bench/run_controller; fi
 
 # Proves the entries over the proved crates and writes the archive. (Touched, since rt may find nothing to write anew.)
 archive:

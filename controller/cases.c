@@ -265,7 +265,8 @@ static void call_too_long(void)
 {
     place(&program, 1);
     const uint8_t *at = lent(&program);
-    size_t claimed = KNITOUT_PROGRAM_MOST + 1 + below(1u << 30);
+    uint32_t beyond = below(1u << 30);
+    size_t claimed = one_in(2) ? SIZE_MAX - beyond : KNITOUT_PROGRAM_MOST + 1 + beyond;
     fences_up();
     uint64_t answer = knitout_run(at, claimed);
     fences_down();

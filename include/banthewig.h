@@ -1,13 +1,14 @@
 /* The C interface of Banthewig, a proved library for the carriage controller of a V-bed knitting machine. It runs a knitout
    program on a model of the machine, makes a log's swaps in it, writes its house order, tells what ties two records, and
-   serves the panel: one step of a machine state, and a list of its carriers. For C11, C++11 and later ones, on x86-64 Linux.
+   serves the panel: one step of a machine state, and a list of its carriers. For C11, C++11 and later ones, on x86-64 Linux
+   and, tested, not promised, on Cortex-M cores (README.md, 'For the controller').
 
    In this order: words, limits, records, logs, numbers; calls on programs, on two records, on a machine state; layouts.
 
    For every call:
    - Only what is lent, the stack and the archive's constants are touched, and nothing is kept: no pointer, no static data. No
-     allocator, file or thread is needed; the archive imports memcpy, memmove and memset at most. A call ends, whatever it is
-     lent.
+     allocator, file or thread is needed; the archive imports memcpy, memmove and memset at most, on ARM by their __aeabi_
+     names. A call ends, whatever it is lent.
    - A pointer whose length or count is 0 is not read and may be null; a state's is never null.
    - States, carrier lists and work areas lie at even addresses, bytes anywhere.
    - During a call nothing else (thread, interrupt, DMA) writes to anything that is lent, what is only read included. So calls
@@ -16,8 +17,8 @@
      read may share bytes.
    If one of the last four is not kept, no promise holds, not even that a call stays within what it was lent.
 
-   Stack is measured on x86-64 (make bench). Worst time is an estimate for a controller at 120 MHz from instructions counted
-   on x86-64; nothing was measured on the controller (docs/PERFORMANCE.md). */
+   Stack and worst time are a Cortex-M4's, as QEMU has it: stack that was painted beforehand; instructions counted on the dearest
+   input found, weighed as cycles at 120 MHz without wait states (docs/PERFORMANCE.md). Neither is proved. */
 #ifndef BANTHEWIG_H
 #define BANTHEWIG_H
 
@@ -157,10 +158,10 @@ enum knitout_number {
 /* Runs a program from the empty state at a hook limit. Reads program[0] to program[length - 1] at most and writes nothing.
    Gives the first that fits: KNITOUT_BAD_STATE (the limit, before all else), KNITOUT_TOO_LONG, the refusal of the first record
    that has no step, KNITOUT_DONE. A program that is done at a limit is done at every greater one up to KNITOUT_LIMIT_MOST.
-   Stack 1,176 bytes; worst time 66 ms. */
+   Stack 1,192 bytes; worst time 56 ms. */
 uint64_t knitout_run_at(uint8_t limit, const uint8_t *program, size_t length);
 
-/* The same at KNITOUT_LIMIT_MOST. Stack 1,176 bytes; worst time 66 ms. */
+/* The same at KNITOUT_LIMIT_MOST. Stack 1,192 bytes; worst time 56 ms. */
 uint64_t knitout_run(const uint8_t *program, size_t length);
 
 /* Runs a program at a hook limit, copies it to the output and makes a log's swaps there: two neighbours change places exactly
@@ -174,11 +175,11 @@ uint64_t knitout_run(const uint8_t *program, size_t length);
    the swaps before the refused one made it. Every other number writes nothing. Output past the program's length and work past
    the last record's start keep their contents.
    For a further log hand in the output's front as the program and another area as the output.
-   Stack 1,512 bytes; worst time 230 ms. */
+   Stack 1,512 bytes; worst time 188 ms. */
 uint64_t knitout_rewrite_at(uint8_t limit, const uint8_t *program, size_t program_length, const uint8_t *log,
                             size_t log_length, uint8_t *output, size_t output_length, uint16_t *work, size_t work_count);
 
-/* The same at KNITOUT_LIMIT_MOST. Stack 1,512 bytes; worst time 230 ms. */
+/* The same at KNITOUT_LIMIT_MOST. Stack 1,512 bytes; worst time 188 ms. */
 uint64_t knitout_rewrite(const uint8_t *program, size_t program_length, const uint8_t *log, size_t log_length,
                          uint8_t *output, size_t output_length, uint16_t *work, size_t work_count);
 
@@ -188,11 +189,11 @@ uint64_t knitout_rewrite(const uint8_t *program, size_t program_length, const ui
    Output and work as for the rewriter, and numbers too, but that there is no log: KNITOUT_NO_PAIR, KNITOUT_TIED and
    KNITOUT_TORN_LOG do not occur. After KNITOUT_DONE the output begins with the ordered program and work with the starts of its
    records; every other number writes nothing. What lies past them keeps its contents.
-   Stack 1,336 bytes; worst time 83 s, which grows with the square of the length (docs/PERFORMANCE.md). */
+   Stack 1,352 bytes; worst time 55 s, which grows with the square of the length (docs/PERFORMANCE.md). */
 uint64_t knitout_order_at(uint8_t limit, const uint8_t *program, size_t program_length, uint8_t *output,
                           size_t output_length, uint16_t *work, size_t work_count);
 
-/* The same at KNITOUT_LIMIT_MOST. Stack 1,336 bytes; worst time 83 s. */
+/* The same at KNITOUT_LIMIT_MOST. Stack 1,352 bytes; worst time 55 s. */
 uint64_t knitout_order(const uint8_t *program, size_t program_length, uint8_t *output, size_t output_length, uint16_t *work,
                        size_t work_count);
 
@@ -229,7 +230,7 @@ struct knitout_tied {
    After a rewriter's KNITOUT_TIED at place p the log's position is i = log[p + 1] * 256 + log[p + 2]. The pair stands at
    output + work[i] and output + work[i + 1], with program_length - work[i] and program_length - work[i + 1] bytes left; the
    racking in force is that of the last rack before record i in the output, 0 if there is none.
-   Stack 168 bytes; worst time 8 microseconds. */
+   Stack 152 bytes; worst time 5 microseconds. */
 struct knitout_tied knitout_tie(int8_t racking, const uint8_t *first, size_t first_length, const uint8_t *second,
                                 size_t second_length);
 
@@ -286,7 +287,7 @@ struct knitout_stepped {
    Steps through a program of at most KNITOUT_PROGRAM_MOST bytes, from the empty state at a limit, each lent the rest where the
    last record ended, go the way of the program's run at that limit. (A longer program can be stepped too; its run gets
    KNITOUT_TOO_LONG.)
-   Stack 1,304 bytes; worst time 65 microseconds. */
+   Stack 2,056 bytes; worst time 82 microseconds. */
 struct knitout_stepped knitout_step(struct knitout_state *state, const uint8_t *bytes, size_t length);
 
 /* The answer of a list. */
@@ -298,7 +299,7 @@ struct knitout_served {
 /* Lists the carriers of a state: carrier k to list[k - 1]; count is in entries. Gives the first that fits: KNITOUT_BAD_STATE,
    KNITOUT_NO_ROOM, KNITOUT_DONE. After KNITOUT_DONE entries from list[KNITOUT_CARRIERS] on keep their contents; every other
    number writes nothing. The list may not be the state's own carriers.
-   Stack 224 bytes; worst time 26 microseconds. */
+   Stack 1,368 bytes; worst time 39 microseconds. */
 struct knitout_served knitout_carriers(const struct knitout_state *state, struct knitout_carrier *list, size_t count);
 
 /* ---- Layouts that the archive is built with, on 32 and on 64 bits; crates/banthewig/proofs/Crossing.antt proves the same of it.
