@@ -125,8 +125,8 @@ static void list_carriers(void)
 /* ---- Records that often have their step, from the state that they are to be stepped in */
 
 static const uint8_t sizes[12] = {1, 2, 3, 4, 5, 5, 5, 5, 5, 6, 6, 6};
-static int first_column; /* where carriers of this case come in */
-static unsigned carriers;   /* how many it has: with few, each goes far */
+static int first_column;  /* where carriers of this case come in */
+static unsigned carriers; /* how many it has: with few, each goes far */
 
 /* Another carrier that is parked at the same slot, if there is one. */
 static unsigned beside(const struct knitout_state *s, unsigned k)
@@ -179,9 +179,9 @@ static size_t refused_size;
 
 static void append(const uint8_t *record, size_t size)
 {
-    if (length + size > KNITOUT_PROGRAM_MOST) return;
-    if (size) memcpy(bytes + length, record, size);
-    if (size) starts[records++] = (uint16_t)length;
+    if (size == 0 || length + size > KNITOUT_PROGRAM_MOST) return;
+    memcpy(bytes + length, record, size);
+    starts[records++] = (uint16_t)length;
     length += size;
 }
 
@@ -196,10 +196,13 @@ static void extend(void)
     size_t size = choose_record(&now, chosen);
     place(&part, one_in(40) ? below((unsigned)size) : size);
     memcpy(part.at, chosen, part.length);
-    if (step(&part).number == KNITOUT_DONE) {
+    unsigned number = step(&part).number;
+    mix_area(&part);
+    if (number == KNITOUT_DONE) {
         append(chosen, size);
         return;
     }
+    mix_area(&panel);
     refused_size = size;
     memcpy(refused, chosen, size);
 }
