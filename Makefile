@@ -43,7 +43,7 @@ archive:
 
 $(LIB): $(SOURCES)
 	@echo "Proving the library's $(words $(PROVED)) crates ($(PROVED)) and writing $(LIB):"
-	@echo "about 3 minutes on two cores, with nothing to see meanwhile. Once it is built, this is not done again."
+	@echo "3 to 6 minutes on two cores, with nothing to see meanwhile. Once it is built, this is not done again."
 	@$(MAKE) --no-print-directory archive
 
 # The library for the controller: the module of the proved archive, kept and shown to be it, is converted and compiled.

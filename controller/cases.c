@@ -33,12 +33,12 @@ static const char *const names[ENTRIES] = {"knitout_run", "knitout_run_at", "kni
 static unsigned long seen[ENTRIES][NUMBERS + 1]; /* the last: any other number */
 static uint32_t hash = 0x811c9dc5u, hashes;
 
+/* A byte that differs makes all later values of hash differ; hashes, which keeps them apart further, goes by calls. */
 static void mix(const void *bytes, size_t n)
 {
-    for (const uint8_t *at = bytes, *end = at + n; at != end; at++) {
-        hash = (hash ^ *at) * 0x01000193u;
-        hashes = hashes * 31 + hash;
-    }
+    uint32_t h = hash;
+    for (const uint8_t *at = bytes, *end = at + n; at != end; at++) h = (h ^ *at) * 0x01000193u;
+    hash = h, hashes = hashes * 31 + h;
 }
 
 static void mix_number(uint64_t n)
@@ -197,12 +197,11 @@ static void extend(void)
     place(&part, one_in(40) ? below((unsigned)size) : size);
     memcpy(part.at, chosen, part.length);
     unsigned number = step(&part).number;
-    mix_area(&part);
+    mix_area(&part), mix_area(&panel);
     if (number == KNITOUT_DONE) {
         append(chosen, size);
         return;
     }
-    mix_area(&panel);
     refused_size = size;
     memcpy(refused, chosen, size);
 }
@@ -218,7 +217,6 @@ static void make_program(uint8_t limit, unsigned tries)
     memcpy(panel.at, &empty, sizeof empty);
     length = refused_size = records = 0;
     while (tries-- && length < KNITOUT_PROGRAM_MOST) extend();
-    mix_area(&panel);
 }
 
 /* ---- Calls of a case */
@@ -273,7 +271,7 @@ static void call_too_long(void)
     fences_up();
     uint64_t answer = knitout_run(at, claimed);
     fences_down();
-    mix_answer(RUN, answer);
+    mix_answer(RUN, answer), mix_area(&program);
 }
 
 static void make_log(void)
