@@ -1,4 +1,6 @@
 // The C interface: thin entries over the proved crates.
+#![tactic(auto)]
+
 ghost use Rattle.std.specs.Prelude.{◌≡◌, ◌+◌, ◌*◌, ◌<◌, length};
 ghost use Rattle.machine.specs.Limits.{limit_most};
 ghost use Rattle.run.specs.Run.{run_of};

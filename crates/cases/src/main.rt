@@ -1,4 +1,6 @@
 // The listings of stored inputs: a folder of data/ each, written by tools/cases with what is to be printed.
+#![tactic(auto)]
+
 ghost use Rattle.std.specs.Prelude.{◌≤◌, ◌≡◌, length, take};
 ghost use Rattle.cases.specs.Paths.{path_of};
 

@@ -1,4 +1,6 @@
 // The house order: between racks, always next the least of the records that are tied to no earlier remaining one.
+#![tactic(auto)]
+
 ghost use Rattle.std.specs.Prelude.{◌≡◌, ◌++◌, ◌⊎◌, ◌+◌, ◌/◌, ◌≤◌, ◌<◌, length, drop, get_or};
 ghost use Rattle.record.specs.Kinds.{RACK};
 ghost use Rattle.record.specs.Format.{byte, signed_of};
@@ -17,7 +19,7 @@ use record::{RACK, Record};
 use run::{Answer, Ended};
 
 // Needles by their numbers, from low to high.
-#[derive(Drop)]
+#[derive(Clone, Copy)]
 struct Near {
     low: u16,
     high: u16,

@@ -1,4 +1,6 @@
 // The listing program: the files knit.prg and swap.log, as the rewriter answers on them.
+#![tactic(auto)]
+
 use libc::STDOUT_FILENO;
 
 fn main() {

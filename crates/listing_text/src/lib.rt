@@ -1,4 +1,6 @@
 // The listing of what the rewriter answers on two files: number, place, state and the output's program bytes.
+#![tactic(auto)]
+
 ghost use Rattle.std.specs.Prelude.{◌≤◌, ◌<◌, ◌+◌, min, ◌≡◌, [], ◌∷◌, length, take};
 ghost use Rattle.machine.specs.Limits.{limit_most};
 ghost use Rattle.listing_text.specs.Grown.{Grown};

@@ -1,4 +1,6 @@
 // The knitting machine: needles, columns, slots, racking, carriers, and the machine state by value.
+#![tactic(auto)]
+
 ghost use Rattle.std.specs.Prelude.{◌≡◌, ℕ, ◌<◌, cond, map, ◌-ℤ◌, nat_abs, leb, ltb};
 ghost use Rattle.std.specs.Int.Signed.{mag};
 ghost use Rattle.machine.specs.Machine.{OnBed, inactive, empty_state, hook_of, same_needle, attached_at, moved_to, all, inactive_carrier, complete_of};
@@ -14,31 +16,31 @@ pub mod numbers;
 
 // A needle by its bed (0 front, 1 back) and its number there: where a program says it is.
 #[repr(C)]
-#[derive(Drop)]
+#[derive(Clone, Copy)]
 pub struct Needle(pub u16, pub u16);
 
 // A physical column, which only a racking gives to a needle.
 #[repr(C)]
-#[derive(Drop)]
+#[derive(Clone, Copy)]
 pub struct Column(pub i32);
 
 // A place between columns where a carrier parks: slot z lies just left of column z.
 #[repr(C)]
-#[derive(Drop)]
+#[derive(Clone, Copy)]
 pub struct Slot(pub i16);
 
 // A slot beside a needle, which may lie where no carrier parks: in a state with any values a needle has any number.
-#[derive(Drop)]
+#[derive(Clone, Copy)]
 struct FarSlot(i32);
 
 // How far the back bed is shifted to the right.
 #[repr(C)]
-#[derive(Drop)]
+#[derive(Clone, Copy)]
 pub struct Racking(pub i8);
 
 // A yarn carrier. Fields without meaning are 0: all of an inactive carrier's, the needle of an unattached one.
 #[repr(C)]
-#[derive(Drop)]
+#[derive(Clone, Copy)]
 pub struct Carrier {
     // 1 parked, 0 inactive
     pub active: u8,
@@ -50,7 +52,7 @@ pub struct Carrier {
 
 // The machine state: racking, loops on each hook (front bed first), the most that a hook holds, carriers 1 to 10.
 #[repr(C)]
-#[derive(Drop)]
+#[derive(Clone, Copy)]
 pub struct State {
     pub racking: Racking,
     pub loops: [u8; State::HOOKS],
@@ -59,7 +61,7 @@ pub struct State {
 }
 
 // What a walk over the hooks found: whether none holds a loop, and how many hooks were looked at.
-#[derive(Drop)]
+#[derive(Clone, Copy)]
 pub struct Walked {
     pub none: bool,
     pub looked: usize,

@@ -1,4 +1,6 @@
 // The panel's services by value: the step of one record and the answer to a carrier list. 15 is looked at first.
+#![tactic(auto)]
+
 ghost use Rattle.std.specs.Prelude.{◌≡◌, ◌<◌, get_or};
 ghost use Rattle.machine.specs.Machine.{inactive};
 ghost use Rattle.panel.specs.Panel.{panel_step, list_answer};
@@ -8,7 +10,7 @@ use machine::{Carrier, State};
 
 // What the carrier list gives besides the loan: a number, and the entries written (0 if refused).
 #[repr(C)]
-#[derive(Drop)]
+#[derive(Clone, Copy)]
 pub struct Served {
     pub number: u8,
     pub length: usize,
@@ -17,7 +19,7 @@ pub struct Served {
 // What the step gives besides the loan: a number, whether the state that it leaves is the empty one (1 or 0; 0 after 15),
 // the hooks that were looked at for it, and the record's length (0 if refused).
 #[repr(C)]
-#[derive(Drop)]
+#[derive(Clone, Copy)]
 pub struct Stepped {
     pub number: u8,
     pub complete: u8,

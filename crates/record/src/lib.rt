@@ -1,6 +1,8 @@
 // The byte format: the kinds and lengths of records, their fields, and a record decoded.
+#![tactic(auto)]
+
 ghost use Rattle.std.specs.Prelude.{◌≡◌, ◌≤◌, ◌<◌, length, get_or};
-ghost use Rattle.record.specs.Kinds.{RACK, DROP, XFER, IN, PLATED-KNIT, size_of, carriers_named};
+ghost use Rattle.record.specs.Kinds.{RACK, DROP, XFER, IN, PLATED_KNIT, size_of, carriers_named};
 ghost use Rattle.record.specs.Format.{signed_of, needle_ok, carrier_number_ok, work_ok, blank_record, byte, fields_ok, refused_as, read_of, decode_of};
 ghost use Rattle.record.specs.Names.{outline_of};
 
@@ -8,7 +10,7 @@ use machine::numbers::{CUT_SHORT, FIELD_RANGE, UNKNOWN_KIND};
 use machine::{Needle, Racking, State};
 
 // A record by its fields; 0 where its kind has no such field.
-#[derive(Drop)]
+#[derive(Clone, Copy)]
 pub struct Record {
     pub kind: u8,
     pub racking: Racking,
@@ -22,7 +24,7 @@ pub struct Record {
 }
 
 // The first record of a slice: a refusal's number, or 0 with the record and its length.
-#[derive(Drop)]
+#[derive(Clone, Copy)]
 pub struct Decoded {
     pub number: u8,
     pub size: usize,
@@ -208,7 +210,7 @@ fn bare(kind: u8, l: &[u8]) -> Decoded
 // A record with a carrier: direction, bed, needle, carrier; of a split also the needle on the other bed, of a plated
 // stitch the second carrier.
 fn work(kind: u8, l: &[u8]) -> Decoded
-    requires { (byte l.now 0 ≡ kind) × (IN ≤ kind) × (kind ≤ PLATED-KNIT) }
+    requires { (byte l.now 0 ≡ kind) × (IN ≤ kind) × (kind ≤ PLATED_KNIT) }
     ensures { result ≡ read_of l.now }
 {
     let size = size_of(kind);
@@ -319,7 +321,7 @@ fn bare_ok(kind: u8, l: &[u8]) -> bool
 
 // Whether the fields of a record with a carrier are in range.
 fn carried_ok(kind: u8, l: &[u8]) -> bool
-    requires { (byte l.now 0 ≡ kind) × (IN ≤ kind) × (kind ≤ PLATED-KNIT) × (size_of kind ≤ length l.now) }
+    requires { (byte l.now 0 ≡ kind) × (IN ≤ kind) × (kind ≤ PLATED_KNIT) × (size_of kind ≤ length l.now) }
     ensures { result ≡ fields_ok l.now }
 {
     let right = byte(l, 1);

@@ -1,4 +1,6 @@
 // The rewriter: extents and ties, starts, and swaps made in the lent output only where the rule lets them.
+#![tactic(auto)]
+
 ghost use Rattle.std.specs.Prelude.{◌≡◌, List, ◌++◌, ℕ, ◌+◌, ◌-◌, ◌*◌, ◌/◌, ◌≤◌, ◌<◌, length, take, drop};
 ghost use Rattle.record.specs.Names.{carriers_of};
 ghost use Rattle.rewrite.specs.Extents.{member, half_column, layer_of, narrow, broad, smaller, greater, form_extent, extent_of, meets, share_carrier};
@@ -12,7 +14,7 @@ use record::{DROP, IN, KNIT, MISS, PLATED_KNIT, PLATED_TUCK, RACK, Record, SPLIT
 use run::{Answer, Ended};
 
 // What a record covers: half columns from left to right, layers from low to high.
-#[derive(Drop)]
+#[derive(Clone, Copy)]
 pub struct Extent {
     pub left: i32,
     pub right: i32,
@@ -21,7 +23,7 @@ pub struct Extent {
 }
 
 // Where two neighbours stand: the one from first to second, the other from there to end.
-#[derive(Drop)]
+#[derive(Clone, Copy)]
 struct Pair {
     first: usize,
     second: usize,
@@ -29,7 +31,7 @@ struct Pair {
 }
 
 // What a log record is read as: torn, or a swap of records i and i + 1.
-#[derive(Drop)]
+#[derive(Clone, Copy)]
 enum LogRecord {
     Torn,
     Swap(usize),

@@ -1,8 +1,10 @@
 // The step of a record and the run of a program, with the refusals 1, 3 to 11, 15 of a limit, 16 and 17.
+#![tactic(auto)]
+
 ghost use Rattle.std.specs.Prelude.{◌≡◌, ◌≤◌, ◌<◌, get_or, set, eqb, not, cond};
 ghost use Rattle.machine.specs.Machine.{OnBed, hook_of, inactive, empty_state, state_with};
 ghost use Rattle.machine.specs.Geometry.{column_of, entry_of, exit_of};
-ghost use Rattle.record.specs.Kinds.{IN, OUT, TUCK, SPLIT, PLATED-KNIT};
+ghost use Rattle.record.specs.Kinds.{IN, OUT, TUCK, SPLIT, PLATED_KNIT};
 ghost use Rattle.run.specs.Relation.{unattached, reparked, attached};
 ghost use Rattle.run.specs.Step.{look_of, parked_no, float_no, or_number, asked_no, both_no};
 ghost use Rattle.run.specs.Loops.{tuck_no, tucked, form_no, formed_loops, transfer_no, transferred_loops};
@@ -16,7 +18,7 @@ use machine::{Carrier, Needle, Racking, Slot, State};
 use record::{DROP, IN, KNIT, MISS, OUT, PLATED_KNIT, PLATED_TUCK, RACK, SPLIT, TUCK, XFER};
 
 // Where a run stopped: the refusal's number and the record's start, or 0 and 0, and the state.
-#[derive(Drop)]
+#[derive(Clone, Copy)]
 pub struct Reached {
     pub number: u8,
     pub place: usize,
@@ -24,14 +26,14 @@ pub struct Reached {
 }
 
 // Where a run or a log ended: number and place alone.
-#[derive(Drop)]
+#[derive(Clone, Copy)]
 pub struct Ended {
     pub number: u8,
     pub place: usize,
 }
 
 // All of it, with whether the state is the empty one.
-#[derive(Drop)]
+#[derive(Clone, Copy)]
 pub struct Answer {
     pub number: u8,
     pub place: usize,
@@ -41,7 +43,7 @@ pub struct Answer {
 
 // One step: the refusal's number and 0, or 0 and the record's length, the state, whether that is the empty one (1 or 0), and
 // the hooks that were looked at for it.
-#[derive(Drop)]
+#[derive(Clone, Copy)]
 pub struct Stepped {
     pub number: u8,
     pub complete: u8,
@@ -51,7 +53,7 @@ pub struct Stepped {
 }
 
 // Where the run's loop stopped, besides the loops, which it is lent.
-#[derive(Drop)]
+#[derive(Clone, Copy)]
 struct Halted {
     pub place: usize,
     pub carriers: [Carrier; State::CARRIERS],
@@ -211,7 +213,7 @@ fn tuck(loops: &mut [u8; State::HOOKS], n: Needle, v: u8, limit: u8) -> u8
 // The loops that a tuck or a knit forms on the needle's hook, plain or plated: 0, or 11 and no store. (One loop always
 // fits.)
 fn form(kind: u8, loops: &mut [u8; State::HOOKS], n: Needle, limit: u8) -> u8
-    requires { (TUCK ≤ kind) × (kind ≤ PLATED-KNIT) × (kind ≡ SPLIT → ⊥) × (OnBed n) }
+    requires { (TUCK ≤ kind) × (kind ≤ PLATED_KNIT) × (kind ≡ SPLIT → ⊥) × (OnBed n) }
     ensures { (result ≡ form_no limit kind (get_or loops.old (hook_of n) 0)) × (loops.new ≡ formed_loops limit kind loops.old n) }
 {
     match kind {

@@ -1,5 +1,7 @@
 // Whether two records are tied at a racking, and why: a rack, else the least carrier that both name, else the half columns
 // and layers that both extents cover.
+#![tactic(auto)]
+
 ghost use Rattle.std.specs.Prelude.{◌≡◌};
 ghost use Rattle.rewrite.specs.Extents.{smaller, greater};
 ghost use Rattle.tie.specs.Tie.{lower, called_in, least_shared, rightmost, leftmost, common, only_number, tied_by, tie_of_extents, tie_of_two, tie_of};
@@ -11,7 +13,7 @@ use rewrite::Extent;
 
 // What is told of two records: 0 in a field without meaning.
 #[repr(C)]
-#[derive(Drop)]
+#[derive(Clone, Copy)]
 pub struct Tied {
     // the half columns that both extents cover
     pub left: i32,
