@@ -12,6 +12,8 @@ ghost use Rattle.listing_text.specs.Listed.{listed_of, ListsRead};
 use machine::{Carrier, Racking, State};
 use rewrite::{rewrite, writes};
 use run::Answer;
+use std::fs::{File, Files};
+use std::io::Read;
 
 // Puts a byte behind a text of length at; like all that follow, it answers the text's length then.
 fn put(text: &mut [u8], at: usize, b: u8) -> usize
@@ -81,6 +83,7 @@ fn put_signed(text: &mut [u8], at: usize, n: i16) -> usize
 }
 
 // The bed of a needle: f or b.
+#[tactic(auto, unfolding(crate::specs::Text::letter_of))]
 fn letter(bed: u16) -> u8
     ensures { result ≡ letter_of bed }
 {
@@ -88,6 +91,7 @@ fn letter(bed: u16) -> u8
 }
 
 // The side of an attachment: - for left, + for right.
+#[tactic(auto, unfolding(crate::specs::Text::sign_of))]
 fn sign(side: u8) -> u8
     ensures { result ≡ sign_of side }
 {
@@ -95,6 +99,7 @@ fn sign(side: u8) -> u8
 }
 
 // Whether a state is complete: 1 or 0.
+#[tactic(auto, unfolding(crate::specs::Text::flag_of))]
 fn flag(complete: bool) -> u8
     ensures { result ≡ flag_of complete }
 {
@@ -300,18 +305,34 @@ fn room() -> [u8; State::PROGRAM_MOST + 1]
     [0u8; State::PROGRAM_MOST + 1]
 }
 
-// Reads the front of a file into buf and answers how many bytes: none where it cannot be opened.
-fn load(path: &[u8], buf: &mut [u8]) -> usize
+// Reads until buf is full, the file ends or a read fails, and answers how many bytes it put at the front of buf.
+fn read_full(file: &mut impl Read, buf: &mut [u8]) -> usize
+    ensures { (result ≤ length buf.new) × (result ≡ length (take result buf.new)) }
+{
+    let mut done = 0;
+    while done < buf.len() {
+        let n = file.read(&mut buf[done..]).unwrap_or(0);
+        if n == 0 {
+            break;
+        }
+        done += n;
+    }
+    done
+}
+
+// Reads the front of a file into buf and answers how many bytes: none where it cannot be opened, as where its path is
+// not UTF-8.
+fn load(files: &impl Files, path: &[u8], buf: &mut [u8]) -> usize
     ensures upper_bound { (result ≤ length buf.new) × (result ≡ length (take result buf.new)) }
     ensures below { Below 256 (take result buf.new) }
 {
-    let fd = os::open_read(path);
-    if fd < 0 {
+    let Ok(name) = str::from_utf8(path) else {
         return 0;
-    }
-    let n = io::read_full(fd, buf);
-    libc::close(fd);
-    n
+    };
+    let Ok(mut file) = File::open(files, name) else {
+        return 0;
+    };
+    read_full(&mut file, buf)
 }
 
 // No listing has more bytes.
@@ -319,13 +340,19 @@ pub const LONGEST: usize = 88307;
 
 // Puts the listing of the program and the log in two files at the front of the text and answers its length. A text of
 // LONGEST bytes holds it whole.
-pub fn list_files_at(limit: u8, program_path: &[u8], log_path: &[u8], text: &mut [u8]) -> usize
+pub fn list_files_at(
+    files: &impl Files,
+    limit: u8,
+    program_path: &[u8],
+    log_path: &[u8],
+    text: &mut [u8],
+) -> usize
     ensures { ListsRead limit text.old text.new result }
 {
     let mut program = room();
-    let program_length = load(program_path, &mut program);
+    let program_length = load(files, program_path, &mut program);
     let mut log = room();
-    let log_length = load(log_path, &mut log);
+    let log_length = load(files, log_path, &mut log);
     let mut output = [0u8; State::PROGRAM_MOST];
     let mut work = [0u16; State::PROGRAM_MOST / 2];
     list(
@@ -339,8 +366,13 @@ pub fn list_files_at(limit: u8, program_path: &[u8], log_path: &[u8], text: &mut
 }
 
 // The same at limit 8, at which the listing program runs.
-pub fn list_files(program_path: &[u8], log_path: &[u8], text: &mut [u8]) -> usize
+pub fn list_files(
+    files: &impl Files,
+    program_path: &[u8],
+    log_path: &[u8],
+    text: &mut [u8],
+) -> usize
     ensures { ListsRead limit_most text.old text.new result }
 {
-    list_files_at(State::LIMIT_MOST, program_path, log_path, text)
+    list_files_at(files, State::LIMIT_MOST, program_path, log_path, text)
 }
