@@ -69,20 +69,14 @@ module _ (p o₀ w₀ : List ℕ) (s : Starts p w₀) (room : length p ≤ lengt
       pub next_small : at + length x ≤ length p
       next_small = omega (arith, next_place, upto_total (i + 1))
 
-      -- the copy to the rest of the output
-      next_bytes : (q t : List ℕ) (m : ℕ) → q ≡ x → m ≡ length output - at → t ≡ take (length q) q ++ drop (length q) (take m (drop at output))
-          → take at output ++ (t ++ drop m (drop at output)) ≡ flat (take (i + 1) all) ++ drop (at + length x) o₀
-      next_bytes q t m e f g =
+      -- the copy to its place in the output
+      next_bytes : (t : List ℕ) (k : ℕ) → t ≡ x → k ≡ length x → take at output ++ (t ++ drop k (drop at output)) ≡ flat (take (i + 1) all) ++ drop (at + length x) o₀
+      next_bytes t k e f =
           let F = flat (take i all) in
           let before : take at output ≡ F = ap (take at) o.bytes ∙ take_at F (drop at o₀) at (sym o.place) in
           let rest : drop at output ≡ drop at o₀ = ap (drop at) o.bytes ∙ drop_at F (drop at o₀) at (sym o.place) in
-          let n : length (drop at o₀) ≤ m = omega (arith, length-drop at o₀, output_long) in
-          let lent : take m (drop at output) ≡ drop at o₀ = ap (take m) rest ∙ take_all m (drop at o₀) n in
-          let none : drop m (drop at output) ≡ [] = ap (drop m) rest ∙ drop_of_length-le (drop at o₀) n in
-          let copied : t ≡ x ++ drop (at + length x) o₀ =
-          g ∙ ap (λ (y : List ℕ). take (length y) y ++ drop (length y) (take m (drop at output))) e ∙ (λ k. take-length x k ++ drop (length x) (lent k)) ∙ ap (λ (l : List ℕ). x ++ l) (drop-drop (length x) at o₀) in
-          (λ k. before k ++ (copied k ++ none k)) ∙ ap (λ (l : List ℕ). F ++ l) (append-nil (x ++ drop (at + length x) o₀))
-          ∙ sym (append_assoc F x (drop (at + length x) o₀)) ∙ ap (λ (l : List ℕ). l ++ drop (at + length x) o₀) (sym flat_more)
+          let behind : drop k (drop at output) ≡ drop (at + length x) o₀ = ap (drop k) rest ∙ ap (λ (n : ℕ). drop n (drop at o₀)) f ∙ drop-drop (length x) at o₀ in
+          (λ q. before q ++ (e q ++ behind q)) ∙ sym (append_assoc F x (drop (at + length x) o₀)) ∙ ap (λ (l : List ℕ). l ++ drop (at + length x) o₀) (sym flat_more)
 
       -- its start
       start_is : get_or (starts_of 0 all) i 0 ≡ at
@@ -100,13 +94,12 @@ module _ (p o₀ w₀ : List ℕ) (s : Starts p w₀) (room : length p ≤ lengt
           ∙ (λ q. o.front q ++ sym start_is q ∷ [])
           ∙ sym (take-suc own i 0 (omega (arith, starts_length 0 all, all_length, o.long))) ∙ ap (λ (m : ℕ). take m own) (sym (add-one i))
 
-      pub one_written : (q t : List ℕ) (m n : ℕ) → q ≡ x → m ≡ length output - at → t ≡ take (length q) q ++ drop (length q) (take m (drop at output)) → n ≡ length x
-          → Written p o₀ w₀ (take at output ++ (t ++ drop m (drop at output))) (set work i at) (at + n) (i + 1)
-      one_written q t m n e f g z =
+      pub one_written : (t : List ℕ) (k n : ℕ) → t ≡ x → k ≡ length x → n ≡ length x → Written p o₀ w₀ (take at output ++ (t ++ drop k (drop at output))) (set work i at) (at + n) (i + 1)
+      one_written t k n e f z =
           record {
             upto = omega (arith, o.long);
             place = ap (λ (k : ℕ). at + k) z ∙ next_place;
-            bytes = next_bytes q t m e f g ∙ ap (λ (k : ℕ). flat (take (i + 1) all) ++ drop (at + k) o₀) (sym z);
+            bytes = next_bytes t k e f ∙ ap (λ (m : ℕ). flat (take (i + 1) all) ++ drop (at + m) o₀) (sym z);
             long = length-set work i at ∙ o.long;
             front = next_front;
             past = past_next work w₀ i at o.past;

@@ -101,10 +101,7 @@ pub sound_run : (limit : ℕ) (p : List ℕ) → length p ≤ program_most → (
 sound_run limit p h e = record { records = accepted_records limit p e; short = h }
 
 -- the output after the copy
-module _ (p output o : List ℕ) (h : length p ≤ length output) (copied : o ≡ take (length p) p ++ drop (length p) output) where
-  joined : o ≡ p ++ drop (length p) output
-  joined = copied ∙ ap (λ (q : List ℕ). q ++ drop (length p) output) (take-length p)
-
+module _ (p output o : List ℕ) (h : length p ≤ length output) (joined : o ≡ p ++ drop (length p) output) where
   pub copy_front : take (length p) o ≡ p
   copy_front = ap (take (length p)) joined ∙ take_at p _ (length p) refl
 

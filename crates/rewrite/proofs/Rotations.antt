@@ -14,45 +14,35 @@ abbrev pub turned : List ℕ → ℕ → List ℕ
 turned p k = drop k p ++ take k p
 
 -- ---- by three copies
--- a copy of s to the front of d
-abbrev copied : List ℕ → List ℕ → List ℕ
-copied s d = take (length s) s ++ drop (length s) d
-
-copied_all : (s d : List ℕ) → length d ≤ length s → copied s d ≡ s
-copied_all s d h = (λ i. take-length s i ++ drop_of_length-le d h i) ∙ append-nil s
-
--- p is the part and k the bytes of its front; o the temporary after the first copy, q the part after the second, t its last k bytes after the third
-module _ (p z o q t : List ℕ) (k : ℕ) (h : k ≤ length p) (first : o ≡ take (length p) p ++ z) where
+-- p is the part and k the bytes of its front; o the temporary's front after the first copy and z what is behind it, q the part's front after the second, t its last k bytes after the third
+module _ (p z o q t : List ℕ) (k : ℕ) (h : k ≤ length p) (first : o ≡ p) where
   abbrev m : ℕ
   m = length p - k
 
-  whole : o ≡ p ++ z
-  whole = first ∙ ap (λ (l : List ℕ). l ++ z) (take-length p)
+  whole : o ++ z ≡ p ++ z
+  whole = ap (λ (l : List ℕ). l ++ z) first
 
-  back : take m (drop k o) ≡ drop k p
+  back : take m (drop k (o ++ z)) ≡ drop k p
   back = ap (λ (l : List ℕ). take m (drop k l)) whole ∙ ap (take m) (drop-append-le k p z h) ∙ take_at (drop k p) z m (length-drop k p)
 
-  front : take k o ≡ take k p
+  front : take k (o ++ z) ≡ take k p
   front = ap (take k) whole ∙ take-append-le k p z h
 
-  module _ (second : q ≡ copied (take m (drop k o)) p) where
-    two : q ≡ drop k p ++ drop (length (drop k p)) p
-    two = second ∙ ap (λ (l : List ℕ). copied l p) back ∙ ap (λ (l : List ℕ). l ++ drop (length (drop k p)) p) (take-length (drop k p))
+  module _ (second : q ≡ take m (drop k (o ++ z))) where
+    moved : q ≡ drop k p
+    moved = second ∙ back
 
-    kept : take m q ≡ drop k p
-    kept = ap (take m) two ∙ take_at (drop k p) _ m (length-drop k p)
+    long : length q ≡ m
+    long = ap length moved ∙ length-drop k p
 
-    last_long : length (drop m q) ≡ k
-    last_long = ap (λ (l : List ℕ). length (drop m l)) two ∙ ap length (drop_at (drop k p) _ m (length-drop k p)) ∙ length-drop (length (drop k p)) p ∙ omega (arith, length-drop k p)
+    abbrev both : List ℕ
+    both = q ++ drop m p
 
-    pub turned_by_copies : t ≡ copied (take k o) (take (length q - m) (drop m q)) → take m q ++ (t ++ drop (length q - m) (drop m q)) ≡ turned p k
+    pub turned_by_copies : t ≡ take k (o ++ z) → take m both ++ (t ++ drop (length both - m) (drop m both)) ≡ turned p k
     turned_by_copies third =
-        let rest : drop (length q - m) (drop m q) ≡ [] = drop_of_length-le (drop m q) {i = length q - m} (omega (arith, length-drop m q)) in
-        let lent : take (length q - m) (drop m q) ≡ drop m q = take_all (length q - m) (drop m q) (omega (arith, length-drop m q)) in
-        let t-is : t ≡ take k p =
-        third ∙ ap (λ (l : List ℕ). copied l (take (length q - m) (drop m q))) front
-        ∙ copied_all (take k p) _ (omega (arith, ap length lent, last_long, length-take-le k p h)) in
-        (λ i. kept i ++ (t-is i ++ rest i)) ∙ ap (λ (l : List ℕ). drop k p ++ l) (append-nil (take k p))
+        let kept : take m both ≡ q = take_at q (drop m p) m long in
+        let rest : drop (length both - m) (drop m both) ≡ [] = drop_of_length-le (drop m both) {i = length both - m} (omega (arith, length-drop m both)) in
+        (λ i. (kept ∙ moved) i ++ ((third ∙ front) i ++ rest i)) ∙ ap (λ (l : List ℕ). drop k p ++ l) (append-nil (take k p))
 
 -- ---- by equal halves
 -- the first i bytes of the halves a and b have changed places

@@ -7,15 +7,15 @@ use Rattle.banthewig.specs.Entries.{packed}
 use Rattle.banthewig.proofs.knitout_run_at.Statement.{statement}
 use Rattle.banthewig.proofs.knitout_run_at.Tie as tie
 
-outcome-requires : tie.Need-outcome-requires
+outcome-requires : tie.Need-outcome-a-requires
 outcome-requires c κs = search rules
 
 word-requires : tie.Need-word-requires
-word-requires c κs = omega (arith, c.outcome.ensures.1, place_bound c.before.before.args.limit c.before.before.args.program.now)
+word-requires c κs = omega (arith, c.outcome-a.ensures.1, place_bound c.args.limit c.args.program.now)
 
 returns : tie.Need-returns
 unfolding packed
-returns c = c.word.ensures ∙ simp (c.before.outcome.ensures.0, c.before.outcome.ensures.1)
+returns c = c.word.ensures ∙ simp (c.outcome-a.ensures.0, c.outcome-a.ensures.1)
 
 pub knitout_run_at_spec : {M : Type 1} → statement M
 knitout_run_at_spec = tie.close (tie.spec outcome-requires word-requires returns)

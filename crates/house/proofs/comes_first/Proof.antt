@@ -10,65 +10,54 @@ use borrow.Author.Rules.{rules}
 use Rattle.house.proofs.comes_first.Statement.{statement}
 use Rattle.house.proofs.comes_first.Tie as tie
 
-abbrev invariant-loop : tie.invariant-loop
+abbrev invariant-loop : tie.invariant-loop-i
 invariant-loop x y n i₀ i = (i ≤ n) × (bytes_first (drop i x) (drop i y) ≡ bytes_first x y)
 
-abbrev decreases-loop : tie.decreases-loop
+abbrev decreases-loop : tie.decreases-loop-i
 decreases-loop x y n i₀ i = n - i
 
-shorter-requires : tie.Need-shorter-requires invariant-loop decreases-loop
+shorter-requires : tie.Need-shorter-n-requires invariant-loop decreases-loop
 shorter-requires c κs = search rules
 
-loop-holds : tie.Need-loop-init invariant-loop decreases-loop
+loop-holds : tie.Need-loop-i-init invariant-loop decreases-loop
 loop-holds c = (omega arith, refl)
 
-shared-slice-read-if1 : tie.Need-shared-slice-read-if1 invariant-loop decreases-loop
-shared-slice-read-if1 c = omega (arith, c.before.loop-test.true, c.before.before.before.shorter.ensures.0)
+shared-slice-read-if1 : tie.Need-bounds-x-i invariant-loop decreases-loop
+shared-slice-read-if1 c = omega (arith, c.loop-i-test.true, c.shorter-n.ensures.0)
 
-shared-slice-read-if1-2 : tie.Need-shared-slice-read-if1-2 invariant-loop decreases-loop
-shared-slice-read-if1-2 c = omega (arith, c.before.before.loop-test.true, c.before.before.before.before.shorter.ensures.1)
+shared-slice-read-if1-2 : tie.Need-bounds-y-i invariant-loop decreases-loop
+shared-slice-read-if1-2 c = omega (arith, c.loop-i-test.true, c.shorter-n.ensures.1)
 
-shared-slice-read-result : tie.Need-shared-slice-read-result invariant-loop decreases-loop
-shared-slice-read-result c = omega (arith, c.before.before.before.before.loop-test.true, c.before.before.before.before.before.before.shorter.ensures.0)
+shared-slice-read-result : tie.Need-bounds-x-i-then-x-i invariant-loop decreases-loop
+shared-slice-read-result c = omega (arith, c.loop-i-test.true, c.shorter-n.ensures.0)
 
-shared-slice-read-result-2 : tie.Need-shared-slice-read-result-2 invariant-loop decreases-loop
-shared-slice-read-result-2 c = omega (arith, c.before.before.before.before.before.loop-test.true, c.before.before.before.before.before.before.before.shorter.ensures.1)
+shared-slice-read-result-2 : tie.Need-bounds-y-i-then-x-i invariant-loop decreases-loop
+shared-slice-read-result-2 c = omega (arith, c.loop-i-test.true, c.shorter-n.ensures.1)
 
-returns : tie.Need-returns invariant-loop decreases-loop
-returns c = let k = c.before.before.before.before.before.before.before.before.before.before in let v = c.before.before.before.before.before.before.loop in
-    let s = c.before.before.before.before.before.before.before.shorter in let t = c.before.before.before.before.before.loop-test.true in
-    sym (differ k.args.x.now k.args.y.now v.i (omega (arith, t, s.ensures.0)) (omega (arith, t, s.ensures.1)) c.before.before.if1.true) ∙ v.invariant.1
+returns : tie.Need-returns-then-x-i invariant-loop decreases-loop
+returns c = let k = c in let v = c.loop-i in
+    let s = c.shorter-n in let t = c.loop-i-test.true in
+    sym (differ k.args.x.now k.args.y.now v.i (omega (arith, t, s.ensures.0)) (omega (arith, t, s.ensures.1)) c.if-x-i.true) ∙ v.invariant.1
 
-add-i : tie.Need-overflow-add-i invariant-loop decreases-loop
+add-i : tie.Need-overflow_add-i invariant-loop decreases-loop
 add-i c = search rules
 
-loop-less : tie.Need-loop-smaller invariant-loop decreases-loop
-loop-less c = omega (arith, c.before.before.before.loop-test.true)
+loop-less : tie.Need-loop-i-smaller invariant-loop decreases-loop
+loop-less c = omega (arith, c.loop-i-test.true)
 
-loop-again : tie.Need-loop-preserved invariant-loop decreases-loop
-loop-again c = let k = c.before.before.before.before.before.before.before.before in let v = c.before.before.before.before.loop in
-    let s = c.before.before.before.before.before.shorter in let t = c.before.before.before.loop-test.true in
-    (omega (arith, t), sym (agree k.args.x.now k.args.y.now v.i (omega (arith, t, s.ensures.0)) (omega (arith, t, s.ensures.1)) c.if1.false) ∙ v.invariant.1)
+loop-again : tie.Need-loop-i-preserved invariant-loop decreases-loop
+loop-again c = let k = c in let v = c.loop-i in
+    let s = c.shorter-n in let t = c.loop-i-test.true in
+    (omega (arith, t), sym (agree k.args.x.now k.args.y.now v.i (omega (arith, t, s.ensures.0)) (omega (arith, t, s.ensures.1)) c.if-x-i.false) ∙ v.invariant.1)
 
-returns-2 : tie.Need-returns-2 invariant-loop decreases-loop
-returns-2 c = let k = c.before.before.before.before.before in let v = c.before.loop in let s = c.before.before.shorter in
-    let e : v.i ≡ s.result = omega (arith, v.invariant.0, c.loop-test.false) in
+returns-2 : tie.Need-returns invariant-loop decreases-loop
+returns-2 c = let k = c in let v = c.loop-i in let s = c.shorter-n in
+    let e : v.i ≡ s.result = omega (arith, v.invariant.0, c.loop-i-test.false) in
     ends k.args.x.now k.args.y.now v.i (omega (arith, e, s.ensures.0)) (omega (arith, e, s.ensures.1)) (⊎_elim (λ f. inl (e ∙ f)) (λ f. inr (e ∙ f)) s.ensures.2) ∙ v.invariant.1
 
-pub comes-first-spec : {M : Type 1} → statement M
-comes-first-spec =
+pub comes_first_spec : {M : Type 1} → statement M
+comes_first_spec =
     tie.close
     (tie.spec
-    invariant-loop
-    decreases-loop
-    shorter-requires
-    loop-holds
-    shared-slice-read-if1
-    shared-slice-read-if1-2
-    shared-slice-read-result
-    shared-slice-read-result-2
-    returns
-    add-i
-    loop-less
-    loop-again
-    returns-2)
+    invariant-loop decreases-loop shorter-requires loop-holds shared-slice-read-if1 shared-slice-read-if1-2
+    shared-slice-read-result shared-slice-read-result-2 returns add-i loop-less loop-again returns-2)

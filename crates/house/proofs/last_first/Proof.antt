@@ -9,83 +9,68 @@ use borrow.Author.Rules.{rules}
 use Rattle.house.proofs.last_first.Statement.{statement}
 use Rattle.house.proofs.last_first.Tie as tie
 
-abbrev invariant-loop : tie.invariant-loop
+abbrev invariant-loop : tie.invariant-loop-i
 invariant-loop part₀ i₀ a part i = (i < length part₀) × (part ≡ shifted part₀ i)
 
-abbrev decreases-loop : tie.decreases-loop
+abbrev decreases-loop : tie.decreases-loop-i
 decreases-loop part₀ i₀ a part i = i
 
-sub-i : tie.Need-overflow-sub-i invariant-loop decreases-loop
+sub-i : tie.Need-overflow_sub-i invariant-loop decreases-loop
 sub-i c = search rules
 
-mul-a : tie.Need-overflow-mul-a invariant-loop decreases-loop
+mul-a : tie.Need-offset_bounds-part-i invariant-loop decreases-loop
 mul-a c = search rules
 
-slice-read-a : tie.Need-slice-read-a invariant-loop decreases-loop
-slice-read-a c = omega (arith, c.before.requires)
+slice-read-a : tie.Need-bounds-part-i invariant-loop decreases-loop
+slice-read-a c = omega (arith, c.requires)
 
-loop-holds : tie.Need-loop-init invariant-loop decreases-loop
-loop-holds c = let k = c.before in (omega (arith, k.requires), shift_first k.args.part.now k.requires)
+loop-holds : tie.Need-loop-i-init invariant-loop decreases-loop
+loop-holds c = let k = c in (omega (arith, k.requires), shift_first k.args.part.now k.requires)
 
 -- the part is as long as before
-long : (c : tie.At-loop invariant-loop decreases-loop) → length c.loop.part ≡ length c.before.before.args.part.now
-long c = ap length c.loop.invariant.1 ∙ shift_length c.before.before.args.part.now c.loop.i c.loop.invariant.0
+long : (c : tie.At-loop-i invariant-loop decreases-loop) → length c.loop-i.part ≡ length c.args.part.now
+long c = ap length c.loop-i.invariant.1 ∙ shift_length c.args.part.now c.loop-i.i c.loop-i.invariant.0
 
-sub_part : tie.Need-overflow-sub-part invariant-loop decreases-loop
+sub_part : tie.Need-overflow_sub-part invariant-loop decreases-loop
 sub_part c = search rules
 
-mul-part : tie.Need-overflow-mul-part invariant-loop decreases-loop
+mul-part : tie.Need-offset_bounds-part-i-in-loop-i invariant-loop decreases-loop
 mul-part c = search rules
 
-slice-read-part : tie.Need-slice-read-part invariant-loop decreases-loop
-slice-read-part c = omega (arith, long c.before.before, c.before.before.loop.invariant.0)
+slice-read-part : tie.Need-bounds-part-i-in-loop-i invariant-loop decreases-loop
+slice-read-part c = omega (arith, long c.before.before, c.loop-i.invariant.0)
 
-mul-part-2 : tie.Need-overflow-mul-part-2 invariant-loop decreases-loop
+mul-part-2 : tie.Need-offset_bounds-part-i-in-loop-i-2 invariant-loop decreases-loop
 mul-part-2 c = search rules
 
-slice-write-part : tie.Need-slice-write-part invariant-loop decreases-loop
-slice-write-part c = omega (arith, long c.before.before, c.before.before.loop.invariant.0)
+slice-write-part : tie.Need-bounds-part-i-in-loop-i-2 invariant-loop decreases-loop
+slice-write-part c = omega (arith, long c.before.before, c.loop-i.invariant.0)
 
-sub-i-2 : tie.Need-overflow-sub-i-2 invariant-loop decreases-loop
+sub-i-2 : tie.Need-overflow_sub-i-in-loop-i invariant-loop decreases-loop
 sub-i-2 c = search rules
 
-loop-less : tie.Need-loop-smaller invariant-loop decreases-loop
-loop-less c = omega (arith, c.before.loop-test.true)
+loop-less : tie.Need-loop-i-smaller invariant-loop decreases-loop
+loop-less c = omega (arith, c.loop-i-test.true)
 
-loop-again : tie.Need-loop-preserved invariant-loop decreases-loop
-loop-again c = let k = c.before.before.before.before in let v = c.before.before.loop in (
+loop-again : tie.Need-loop-i-preserved invariant-loop decreases-loop
+loop-again c = let k = c in let v = c.loop-i in (
   omega (arith, v.invariant.0),
-  ap (λ (l : List ℕ). set l v.i (get_or l (v.i - 1) 0)) v.invariant.1 ∙ shift_on k.args.part.now v.i c.before.loop-test.true v.invariant.0,
+  ap (λ (l : List ℕ). set l v.i (get_or l (v.i - 1) 0)) v.invariant.1 ∙ shift_on k.args.part.now v.i c.loop-i-test.true v.invariant.0,
 )
 
-slice-write-part-2 : tie.Need-slice-write-part-2 invariant-loop decreases-loop
-slice-write-part-2 c = omega (arith, long c.before, c.before.loop.invariant.0)
+slice-write-part-2 : tie.Need-bounds-part-0 invariant-loop decreases-loop
+slice-write-part-2 c = omega (arith, long c.before, c.loop-i.invariant.0)
 
-same_length : tie.Need-same-length invariant-loop decreases-loop
-same_length c = length-set c.before.loop.part 0 _ ∙ long c.before
+same_length : tie.Need-shape_of-part invariant-loop decreases-loop
+same_length c = search rules
 
 returns : tie.Need-returns invariant-loop decreases-loop
-returns c = let k = c.before.before.before in let v = c.before.loop in
-    ap (λ (l : List ℕ). set l 0 (get_or k.args.part.now (length k.args.part.now - 1) 0)) v.invariant.1 ∙ shift_last k.args.part.now v.i c.loop-test.false k.requires
+returns c = let k = c in let v = c.loop-i in
+    ap (λ (l : List ℕ). set l 0 (get_or k.args.part.now (length k.args.part.now - 1) 0)) v.invariant.1 ∙ shift_last k.args.part.now v.i c.loop-i-test.false k.requires
 
-pub last-first-spec : {M : Type 1} → statement M
-last-first-spec =
+pub last_first_spec : {M : Type 1} → statement M
+last_first_spec =
     tie.close
     (tie.spec
-    invariant-loop
-    decreases-loop
-    sub-i
-    mul-a
-    slice-read-a
-    loop-holds
-    sub_part
-    mul-part
-    slice-read-part
-    mul-part-2
-    slice-write-part
-    sub-i-2
-    loop-less
-    loop-again
-    slice-write-part-2
-    same_length
-    returns)
+    invariant-loop decreases-loop sub-i mul-a slice-read-a loop-holds sub_part mul-part slice-read-part mul-part-2
+    slice-write-part sub-i-2 loop-less loop-again slice-write-part-2 same_length returns)

@@ -14,26 +14,27 @@ use Rattle.house.proofs.meet_at.Tie as tie
 extent_is : (r : Racking) (x u : Record) (e : Extent) → e ≡ extent_of r u → u ≡ outline_of x → e ≡ extent_of r x
 extent_is r x u e f g = f ∙ ap (extent_of r) g ∙ outline_extent r x
 
-outline-at-requires : tie.Need-outline-at-requires
-outline-at-requires c κs = let k = c.before in (k.requires.0, k.requires.1)
+outline-at-requires : tie.Need-outline_at-requires
+outline-at-requires c κs = let k = c in (k.requires.0, k.requires.1)
 
-extent-of-requires : tie.Need-extent-of-requires
+extent-of-requires : tie.Need-extent_of-e-requires
 extent-of-requires c κs = search rules
 
-outline-at-requires-2 : tie.Need-outline-at-requires-2
-outline-at-requires-2 c κs = let k = c.before.before.before in (k.requires.2, k.requires.3)
+outline-at-requires-2 : tie.Need-outline_at-requires-2
+outline-at-requires-2 c κs = let k = c in (k.requires.2, k.requires.3)
 
-extent-of-requires-2 : tie.Need-extent-of-requires-2
+extent-of-requires-2 : tie.Need-extent_of-requires
 extent-of-requires-2 c κs = search rules
 
 meets-requires : tie.Need-meets-requires
 meets-requires c κs = search rules
 
 returns : tie.Need-returns
-returns c = let k = c.before.before.before.before.before.before in let r = k.args.r in
+returns c = let k = c in let r = k.args.r in
     c.meets.ensures
-    ∙ (λ i. meets (extent_is r _ _ _ c.before.before.before.extent-of.ensures c.before.before.before.before.outline_at_lem.ensures i)
-    (extent_is r _ _ _ c.before.extent-of2.ensures c.before.before.outline-at2.ensures i))
+    ∙ (λ i. meets (extent_is r _ _ _ c.extent_of-e.ensures c.outline_at.ensures i)
+    (extent_is r _ _ _ c.extent_of.ensures c.outline_at-2.ensures i))
 
 pub meet_at_spec : {M : Type 1} → statement M
-meet_at_spec = tie.close (tie.spec outline-at-requires extent-of-requires outline-at-requires-2 extent-of-requires-2 meets-requires returns)
+meet_at_spec = tie.close (tie.spec
+    outline-at-requires extent-of-requires outline-at-requires-2 extent-of-requires-2 meets-requires returns)

@@ -14,7 +14,7 @@ use Rattle.house.proofs.order.Statement.{statement}
 use Rattle.house.proofs.order.Tie as tie
 
 -- what is lent will do
-module _ (c : tie.Else1) where
+module _ (c : tie.Else-number-ne0) where
   abbrev k : tie.Start
   k = c.before.before.before.before.before
 
@@ -28,49 +28,50 @@ module _ (c : tie.Else1) where
   w = k.args.work.now
 
   will_do : lent_no k.args.limit (length p) 0 (length out) (length w) ≡ 0
-  will_do = sym c.before.lent.ensures ∙ c.if1.false
+  will_do = sym c.lent-number.ensures ∙ c.if-number-ne0.false
 
   lends : Enough (length p) 0 (length out) (length w)
   lends = enough _ _ _ _ _ will_do
 
-lent-requires : tie.Need-lent-requires
+lent-requires : tie.Need-lent-number-requires
 lent-requires c κs = search rules
 
 refused-requires : tie.Need-refused-requires
 refused-requires c κs = search rules
 
-returns : tie.Need-returns
+returns : tie.Need-returns-then-number-ne0
 unfolding Gives
-returns c = let s = c.before.before.before.before.before.before in
-    gives_lent s.args.limit s.args.program.now s.args.output.now s.args.work.now c.before.before.lent.result c.refused.result c.before.before.lent.ensures c.before.if1.true c.refused.ensures
+returns c = let s = c in
+    gives_lent s.args.limit s.args.program.now s.args.output.now s.args.work.now c.lent-number.result c.refused.result c.lent-number.ensures c.if-number-ne0.true c.refused.ensures
 
-run-requires : tie.Need-run-requires
+run-requires : tie.Need-run-a-requires
 run-requires c κs = search rules
 
-returns-2 : tie.Need-returns-2
+returns-2 : tie.Need-returns-then-a-ne0
 unfolding Gives
-returns-2 c = let l = c.before.before.before in let a = c.before.before.run.ensures in
+returns-2 c = let l = c.before.before.before in let a = c.run-a.ensures in
     as_run (k l).args.limit (p l) (out l) (w l) (out l) (w l) _ a
-    (gives_refused (k l).args.limit (p l) (out l) (w l) (will_do l) (λ z. c.if2.true (ap (λ (b : Answer). b.number) a ∙ z)))
+    (gives_refused (k l).args.limit (p l) (out l) (w l) (will_do l) (λ z. c.if-a-ne0.true (ap (λ (b : Answer). b.number) a ∙ z)))
 
 -- the run has accepted the program
-accepts : (c : tie.Else2) → (run_of (k c.before.before.before).args.limit (p c.before.before.before)).number ≡ 0
-accepts c = sym (ap (λ (b : Answer). b.number) c.before.before.run.ensures) ∙ c.if2.false
+accepts : (c : tie.Else-a-ne0) → (run_of (k c.before.before.before).args.limit (p c.before.before.before)).number ≡ 0
+accepts c = sym (ap (λ (b : Answer). b.number) c.run-a.ensures) ∙ c.if-a-ne0.false
 
-write-order-requires : tie.Need-write-order-requires
+write-order-requires : tie.Need-write_order-requires
 write-order-requires c κs = let e = c.before.before in let l = lends e.before.before.before in (sound_run _ _ l.short (accepts e), l.room, l.entries)
 
-same_length : tie.Need-same-length
+same_length : tie.Need-shape_of-output
 same_length c = search rules
 
-same-length-2 : tie.Need-same-length-2
+same-length-2 : tie.Need-shape_of-work
 same-length-2 c = search rules
 
-returns-3 : tie.Need-returns-3
+returns-3 : tie.Need-returns
 unfolding Gives
-returns-3 c = let e = c.before.before.before.before.before.before.before in let l = e.before.before.before in let y = c.before.before.before.before.write-order.ensures in
-    as_run (k l).args.limit (p l) (out l) (w l) _ _ _ e.before.before.run.ensures
+returns-3 c = let e = c.before.before.before.before.before.before.before in let l = e.before.before.before in let y = c.write_order.ensures in
+    as_run (k l).args.limit (p l) (out l) (w l) _ _ _ e.run-a.ensures
     (gives_ordered (k l).args.limit (p l) (out l) (w l) (will_do l) (accepts e) _ _ y.0 y.1)
 
 pub order_spec : {M : Type 1} → statement M
-order_spec = tie.close (tie.spec lent-requires refused-requires returns run-requires returns-2 write-order-requires same_length same-length-2 returns-3)
+order_spec = tie.close (tie.spec
+    lent-requires refused-requires returns run-requires returns-2 write-order-requires same_length same-length-2 returns-3)

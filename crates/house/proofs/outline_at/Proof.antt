@@ -13,23 +13,23 @@ use Rattle.house.proofs.outline_at.Statement.{statement}
 use Rattle.house.proofs.outline_at.Tie as tie
 
 -- the bytes are the record's
-part : (c : tie.After-end) → take (c.end.result - c.before.before.args.a) (drop c.before.before.args.a c.before.before.args.program.now) ≡ record_in c.before.before.args.program.now c.before.before.args.a
-part c = let k = c.before.before in part_in k.args.program.now k.args.a k.requires.0 c.end.result c.end.ensures
+part : (c : tie.After-end-e) → take (c.end-e.result - c.args.a) (drop c.args.a c.args.program.now) ≡ record_in c.args.program.now c.args.a
+part c = let k = c in part_in k.args.program.now k.args.a k.requires.0 c.end-e.result c.end-e.ensures
 
-end-requires : tie.Need-end-requires
-end-requires c κs = c.before.requires.0
+end-requires : tie.Need-end-e-requires
+end-requires c κs = c.requires.0
 
-sub-outline : tie.Need-overflow-sub-outline
-sub-outline c = omega (arith, c.end.ensures)
+sub-outline : tie.Need-slice_bounds-outline-count
+sub-outline c = omega (arith, c.end-e.ensures)
 
-part-outline-start : tie.Need-slice-bounds-outline-start
-part-outline-start c = omega (arith, c.end.ensures)
+part-outline-start : tie.Need-slice_bounds-outline-start
+part-outline-start c = omega (arith, c.end-e.ensures)
 
-part-outline-end : tie.Need-slice-bounds-outline-end
-part-outline-end c = omega (arith, c.end.ensures, c.before.before.requires.0.ends)
+part-outline-end : tie.Need-slice_bounds-outline-end
+part-outline-end c = omega (arith, c.end-e.ensures, c.requires.0.ends)
 
 outline-requires : tie.Need-outline-requires
-outline-requires c κs = let k = c.before.before.before in let e = part c.before in (
+outline-requires c κs = let k = c in let e = part c.before in (
   ap (λ (l : List ℕ). (decode_of l).number) e ∙ reads k.args.program.now k.args.a k.requires.0,
   (λ q. k.requires.1 (kind_in k.args.program.now k.args.a k.requires.0 ∙ sym (ap (λ (l : List ℕ). byte l 0) e) ∙ q)),
 )

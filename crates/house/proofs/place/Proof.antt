@@ -4,14 +4,14 @@ use borrow.Author.Rules.{rules}
 use Rattle.house.proofs.place.Statement.{statement}
 use Rattle.house.proofs.place.Tie as tie
 
-mul-result : tie.Need-overflow-mul-result
+mul-result : tie.Need-offset_bounds-work-i
 mul-result c = search rules
 
-shared-slice-read-result : tie.Need-shared-slice-read-result
+shared-slice-read-result : tie.Need-bounds-work-i
 shared-slice-read-result c = search rules
 
-cast-result : tie.Need-overflow-cast-result
-cast-result c = omega (arith, c.shared-slice-known.given c.before.args.i)
+cast-result : tie.Need-overflow_cast-result
+cast-result c = search rules
 
 returns : tie.Need-returns
 returns c = search rules

@@ -4,14 +4,15 @@ use mathlib.Core.Logic.{⊎_elim}
 use Prim.Native.Nat.{◌+◌, ◌-◌}
 use native.Mathlib.Omega.{arith}
 use Rattle.house.proofs.within.Statement.{statement}
+use Rattle.house.proofs.within.Lts.{then-n-reach, else-n-reach}
 use Rattle.house.proofs.within.Tie as tie
 
-add-high : tie.Need-overflow-add-high
-add-high c = omega (arith, c.before.requires.0, c.before.requires.1)
+add-high : tie.Need-overflow_add-high
+add-high c = omega (arith, c.requires.0, c.requires.1)
 
 returns : tie.Need-returns
-returns c = let k = c.before in
-    let e : c.if1.low ≡ k.args.n - k.args.reach = ⊎_elim {C = c.if1.low ≡ k.args.n - k.args.reach} (λ u. omega (arith, u.0.taken, u.1)) (λ u. omega (arith, u.0.left, u.1)) c.if1.branch in
+returns c = let k = c in
+    let e : c.if-n-reach.low ≡ k.args.n - k.args.reach = elim c.if-n-reach.branch [ then-n-reach u ↦ omega arith | else-n-reach u ↦ omega arith ] in
     λ i. record { low = e i; high = k.args.n + k.args.reach }
 
 pub within_spec : {M : Type 1} → statement M

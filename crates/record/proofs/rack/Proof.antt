@@ -24,31 +24,31 @@ module _ (k : tie.Start) where
 
   fields : fields_ok l ≡ rack_ok (byte l 1)
   unfolding fields_ok
-  fields = simp k.pre
+  fields = simp k.requires
 
   reads : record_from l ≡ rack_record (signed_of (byte l 1))
   unfolding record_from
-  reads = simp k.pre
+  reads = simp k.requires
 
   two : size_of (byte l 0) ≡ 2
   unfolding by_kind
-  two = simp k.pre
+  two = simp k.requires
 
 -- as many bytes are there
-sized : (b : tie.After-size-of) → b.type_size.result ≡ 2
+sized : (b : tie.After-size_of-size) → b.size_of-size.result ≡ 2
 unfolding by_kind
-sized b = b.type_size.ensures
+sized b = b.size_of-size.ensures
 
-module _ (b : tie.Else1) where
+module _ (b : tie.Else-l-size) where
   abbrev begin : tie.Start
   begin = b.before.before.before
 
   long : size_of (byte (l begin) 0) ≤ length (l begin)
-  long = omega (arith, two begin, sized b.before, b.if1.left)
+  long = omega (arith, two begin, sized b.before, b.if-l-size.false)
 
 -- what code tested is the byte's racking
-module _ (n : tie.After-in-range) where
-  abbrev there : tie.Else1
+module _ (n : tie.After-in_range) where
+  abbrev there : tie.Else-l-size
   there = n.before.before.before
 
   abbrev bytes : List ℕ
@@ -62,17 +62,17 @@ module _ (n : tie.After-in-range) where
 
   ok : n.in_range.result ≡ fields_ok bytes
   unfolding rack_ok
-  ok = n.in_range.ensures ∙ ap racking_ok (back w8 z n.before.signed.ok ∙ is) ∙ sym (fields (begin there))
+  ok = n.in_range.ensures ∙ ap racking_ok (back w8 z (search rules) ∙ is) ∙ sym (fields (begin there))
 
-size-of-requires : tie.Need-size-of-requires
+size-of-requires : tie.Need-size_of-size-requires
 size-of-requires c κs = search rules
 
 refused-requires : tie.Need-refused-requires
 refused-requires c κs = search rules
 
-returns : tie.Need-returns
-returns c = let k = c.before.before.before.before in
-    c.refused.ensures ∙ sym (read_cut (l k) (omega (arith, two k, sized c.before.before, c.before.if1.true)))
+returns : tie.Need-returns-then-l-size
+returns c = let k = c in
+    c.refused.ensures ∙ sym (read_cut (l k.before.before.before.before) (omega (arith, two k.before.before.before.before, sized c.before.before, c.before.if-l-size.true)))
 
 byte-requires : tie.Need-byte-requires
 byte-requires c κs = omega (arith, two (begin c), long c)
@@ -80,27 +80,27 @@ byte-requires c κs = omega (arith, two (begin c), long c)
 signed-requires : tie.Need-signed-requires
 signed-requires c κs = search rules
 
-in-range-requires : tie.Need-in-range-requires
+in-range-requires : tie.Need-in_range-requires
 in-range-requires c κs = search rules
 
-refused-requires-2 : tie.Need-refused-requires-2
+refused-requires-2 : tie.Need-refused-requires-then-not-in_range
 refused-requires-2 c κs = search rules
 
-returns-2 : tie.Need-returns-2
-returns-2 c = let n = c.before.before in
-    c.refused2.ensures ∙ sym (read_outside (bytes n) (long (there n)) (sym (ok n) ∙ not-true _ c.before.if2.true))
+returns-2 : tie.Need-returns-then-not-in_range
+returns-2 c = let n = c in
+    c.refused-then-not-in_range.ensures ∙ sym (read_outside (bytes n.before.before) (long (there n.before.before)) (sym (ok n.before.before) ∙ c.before.if-not-in_range.true))
 
-blank-requires : tie.Need-blank-requires
+blank-requires : tie.Need-blank-what-requires
 blank-requires c κs = search rules
 
-returns-3 : tie.Need-returns-3
-returns-3 c = let n = c.before.before in
-    simp (c.blank.ensures, sized (there n).before ∙ sym (two (begin (there n))), back w8 (z n) n.before.signed.type-inv ∙ is n)
-    (sym (read_inside (bytes n) (long (there n)) (sym (ok n) ∙ not-false _ c.before.if2.false)
-    ∙ ap (λ (x : Record). record { number = 0; size = size_of (byte (bytes n) 0); what = x }) (reads (begin (there n)))))
+returns-3 : tie.Need-returns
+returns-3 c = let n = c in
+    simp (c.blank-what.ensures, sized (there n.before.before).before ∙ sym (two (begin (there n.before.before))), back w8 (z n.before.before) (search rules) ∙ is n.before.before)
+    (sym (read_inside (bytes n.before.before) (long (there n.before.before)) (sym (ok n.before.before) ∙ c.before.if-not-in_range.false)
+    ∙ ap (λ (x : Record). record { number = 0; size = size_of (byte (bytes n.before.before) 0); what = x }) (reads (begin (there n.before.before)))))
 
-pub rack-spec : {M : Type 1} → statement M
-rack-spec =
+pub rack_spec : {M : Type 1} → statement M
+rack_spec =
     tie.close (tie.spec
     size-of-requires refused-requires returns byte-requires signed-requires in-range-requires refused-requires-2 returns-2 blank-requires
     returns-3)

@@ -19,11 +19,11 @@ module _ (k : tie.Start) where
 
   fields : fields_ok l ≡ rack_ok (byte l 1)
   unfolding fields_ok
-  fields = simp k.pre.0
+  fields = simp k.requires.0
 
   two : 1 < length l
   unfolding by_kind
-  two = omega (arith, k.pre.1)
+  two = omega (arith, k.requires.1)
 
 byte-requires : tie.Need-byte-requires
 byte-requires c κs = two c.before
@@ -31,13 +31,13 @@ byte-requires c κs = two c.before
 signed-requires : tie.Need-signed-requires
 signed-requires c κs = search rules
 
-in-range-requires : tie.Need-in-range-requires
+in-range-requires : tie.Need-in_range-requires
 in-range-requires c κs = search rules
 
 returns : tie.Need-returns
 unfolding rack_ok
 returns c = let z = c.before.signed.result in
-    c.in_range.ensures ∙ ap racking_ok (back w8 z c.before.signed.type-inv ∙ c.before.signed.ensures ∙ ap signed_of c.before.before.byte.ensures) ∙ sym (fields c.before.before.before.before)
+    c.in_range.ensures ∙ ap racking_ok (back w8 z c.before.signed.type_inv ∙ c.before.signed.ensures ∙ ap signed_of c.before.before.byte.ensures) ∙ sym (fields c.before.before.before.before)
 
 pub rack_ok_spec : {M : Type 1} → statement M
 rack_ok_spec = tie.close (tie.spec byte-requires signed-requires in-range-requires returns)

@@ -25,24 +25,24 @@ high : (b : ℕ) (z : ℤ) → b < 256 → 128 ≤ b → z ≡ negsuc (255 - b) 
 unfolding signed_of
 high b z h k e = simp (e, back w16 (negsuc (255 - b)) (omega arith), back w8 (negsuc (255 - b)) (omega arith), le-ltb b 128 k)
 
-cast-result : tie.Need-overflow-cast-result
+cast-result : tie.Need-overflow_cast-result
 cast-result c = search rules
 
-cast-result-2 : tie.Need-overflow-cast-result-2
+cast-result-2 : tie.Need-overflow_cast-result-else-b-lt128
 cast-result-2 c = search rules
 
-sub-result : tie.Need-overflow-sub-result
+sub-result : tie.Need-overflow_sub-result
 sub-result c = simp (less c.before.args.b (search rules)) (fits w16 (negsuc (255 - c.before.args.b)) (omega arith))
 
-cast-result-3 : tie.Need-overflow-cast-result-3
+cast-result-3 : tie.Need-overflow_cast-result-else-b-lt128-2
 cast-result-3 c = simp (less c.before.args.b (search rules), back w16 (negsuc (255 - c.before.args.b)) (omega arith)) (fits w8 (negsuc (255 - c.before.args.b)) (omega arith))
 
-returns : tie.Need-returns
-returns c = low c.before.args.b c.if1.true
+returns : tie.Need-returns-then-b-lt128
+returns c = low c.before.args.b c.if-b-lt128.true
 
-returns-2 : tie.Need-returns-2
-returns-2 c = high c.before.args.b _ (search rules) c.if1.false (less c.before.args.b (search rules))
+returns-2 : tie.Need-returns-else-b-lt128
+returns-2 c = high c.before.args.b _ (search rules) c.if-b-lt128.false (less c.before.args.b (search rules))
 
-pub signed-spec : {M : Type 1} → statement M
-signed-spec =
+pub signed_spec : {M : Type 1} → statement M
+signed_spec =
     tie.close (tie.spec cast-result cast-result-2 sub-result cast-result-3 returns returns-2)

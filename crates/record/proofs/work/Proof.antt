@@ -25,190 +25,190 @@ module _ (k : tie.Start) where
   l = k.args.l.now
 
   is : byte l 0 ≡ k.args.kind
-  is = k.pre.0
+  is = k.requires.0
 
   low : IN ≤ byte l 0
-  low = omega (arith, is, k.pre.1)
+  low = omega (arith, is, k.requires.1)
 
   high : byte l 0 ≤ PLATED_KNIT
-  high = omega (arith, is, k.pre.2)
+  high = omega (arith, is, k.requires.2)
 
 -- as many are there
-module _ (b : tie.Else1) where
+module _ (b : tie.Else-l-size) where
   abbrev begin : tie.Start
   begin = b.before.before.before
 
-  size : b.before.type_size.result ≡ size_of (byte (l begin) 0)
-  size = b.before.type_size.ensures ∙ ap size_of (sym (is begin))
+  size : b.before.size_of-size.result ≡ size_of (byte (l begin) 0)
+  size = b.before.size_of-size.ensures ∙ ap size_of (sym (is begin))
 
   long : size_of (byte (l begin) 0) ≤ length (l begin)
-  long = omega (arith, size, b.if1.left)
+  long = omega (arith, size, b.if-l-size.false)
 
   five : 5 ≤ length (l begin)
   five = omega (arith, long, carried_size (l begin) (low begin) (high begin))
 
 -- the fields as they were tested
-module _ (n : tie.After-work-ok) where
-  abbrev there : tie.Else1
+module _ (n : tie.After-work_ok) where
+  abbrev there : tie.Else-l-size
   there = n.before.before.before.before.before
 
   abbrev bytes : List ℕ
   bytes = l (begin there)
 
-  right_is : n.before.before.before.before.byte.result ≡ byte bytes 1
-  right_is = n.before.before.before.before.byte.ensures
+  right_is : n.before.before.before.before.byte-right.result ≡ byte bytes 1
+  right_is = n.before.before.before.before.byte-right.ensures
 
-  ok : n.work-ok.result ≡ work_fields_ok bytes
+  ok : n.work_ok.result ≡ work_fields_ok bytes
   ok =
-      n.work-ok.ensures
-      ∙ (λ i. work_ok (right_is i) (n.before.before.before.byte2.ensures i) (n.before.before.byte3.ensures i) (n.before.byte4.ensures i))
+      n.work_ok.ensures
+      ∙ (λ i. work_ok (right_is i) (n.before.before.before.byte-bed.ensures i) (n.before.before.byte-n.ensures i) (n.before.byte-k.ensures i))
 
   -- in range: the direction is one of two
   module _ (good : work_fields_ok bytes ≡ true) where
-    to_right : not (eqb n.before.before.before.before.byte.result 0) ≡ eqb (byte bytes 1) 1
+    to_right : not (eqb n.before.before.before.before.byte-right.result 0) ≡ eqb (byte bytes 1) 1
     to_right = ap (λ (b : ℕ). not (eqb b 0)) right_is ∙ sym (direction (byte bytes 1) (work_right (byte bytes 1) (byte bytes 2) (byte bytes 3) (byte bytes 4) good))
 
-size-of-requires : tie.Need-size-of-requires
+size-of-requires : tie.Need-size_of-size-requires
 size-of-requires c κs = search rules
 
 refused-requires : tie.Need-refused-requires
 refused-requires c κs = search rules
 
-returns : tie.Need-returns
-returns c = let k = c.before.before.before.before in
-    c.refused.ensures ∙ sym (read_cut (l k) (omega (arith, c.before.if1.true, c.before.before.type_size.ensures ∙ ap size_of (sym (is k)))))
+returns : tie.Need-returns-then-l-size
+returns c = let k = c in
+    c.refused.ensures ∙ sym (read_cut (l k.before.before.before.before) (omega (arith, c.before.if-l-size.true, c.before.before.size_of-size.ensures ∙ ap size_of (sym (is k.before.before.before.before)))))
 
-byte-requires : tie.Need-byte-requires
+byte-requires : tie.Need-byte-right-requires
 byte-requires c κs = omega (arith, five c)
 
-byte-requires-2 : tie.Need-byte-requires-2
+byte-requires-2 : tie.Need-byte-bed-requires
 byte-requires-2 c κs = omega (arith, five c.before)
 
-byte-requires-3 : tie.Need-byte-requires-3
+byte-requires-3 : tie.Need-byte-n-requires
 byte-requires-3 c κs = omega (arith, five c.before.before)
 
-byte-requires-4 : tie.Need-byte-requires-4
+byte-requires-4 : tie.Need-byte-k-requires
 byte-requires-4 c κs = omega (arith, five c.before.before.before)
 
-work-ok-requires : tie.Need-work-ok-requires
+work-ok-requires : tie.Need-work_ok-requires
 work-ok-requires c κs = search rules
 
-refused-requires-2 : tie.Need-refused-requires-2
+refused-requires-2 : tie.Need-refused-requires-then-not-work_ok
 refused-requires-2 c κs = search rules
 
-returns-2 : tie.Need-returns-2
-returns-2 c = let n = c.before.before in let k = begin (there n) in
-    c.refused2.ensures ∙ sym (read_outside (bytes n) (long (there n)) (carried_outside (bytes n) (low k) (high k) (sym (ok n) ∙ not-true _ c.before.if2.true)))
+returns-2 : tie.Need-returns-then-not-work_ok
+returns-2 c = let n = c in let k = begin (there n.before.before) in
+    c.refused-then-not-work_ok.ensures ∙ sym (read_outside (bytes n.before.before) (long (there n.before.before)) (carried_outside (bytes n.before.before) (low k) (high k) (sym (ok n.before.before) ∙ c.before.if-not-work_ok.true)))
 
-blank-requires : tie.Need-blank-requires
+blank-requires : tie.Need-blank-what-requires
 blank-requires c κs = search rules
 
-cast-t16 : tie.Need-overflow-cast-t16
+cast-t16 : tie.Need-overflow_cast-at
 cast-t16 c = search rules
 
-cast-t17 : tie.Need-overflow-cast-t17
+cast-t17 : tie.Need-overflow_cast-at-2
 cast-t17 c = search rules
 
 -- the first four fields are in range, and what is common is stored
-module _ (t : tie.After-blank) where
-  abbrev tested : tie.After-work-ok
+module _ (t : tie.After-blank-what) where
+  abbrev tested : tie.After-work_ok
   tested = t.before.before
 
   abbrev all : List ℕ
   all = bytes tested
 
   good : work_fields_ok all ≡ true
-  good = sym (ok tested) ∙ not-false _ t.before.if2.left
+  good = sym (ok tested) ∙ t.before.if-not-work_ok.false
 
   -- the record, once its bytes are read
   inside : (x : Record) → fields_ok all ≡ true → record_from all ≡ x → record { number = 0; size = size_of (byte all 0); what = x } ≡ read_of all
   inside x f e = sym (read_inside all (long (there tested)) f ∙ ap (λ (y : Record). record { number = 0; size = size_of (byte all 0); what = y }) e)
 
 -- a split, its second needle read
-module _ (t : tie.At-match-keys1) where
+module _ (t : tie.In-9) where
   split : byte (all t.before) 0 ≡ SPLIT
-  split = is (begin (there (tested t.before))) ∙ t.match.keys1
+  split = is (begin (there (tested t.before))) ∙ t.in-9.is
 
-byte-requires-5 : tie.Need-byte-requires-5
+byte-requires-5 : tie.Need-byte-m-requires
 byte-requires-5 c κs = omega (arith, long (there (tested c.before)), split_size (all c.before) (split c))
 
-refused-requires-3 : tie.Need-refused-requires-3
+refused-requires-3 : tie.Need-refused-requires-then-m-gt-NEEDLE_MOST
 refused-requires-3 c κs = search rules
 
-returns-3 : tie.Need-returns-3
-returns-3 c = let t = c.before.before.before in let b = t.before in
-    c.refused3.ensures ∙ sym (read_outside (all b) (long (there (tested b))) (split_fields (all b) (split t) ∙ simp (← c.before.before.byte5.ensures, lt-leb _ _ c.before.if3.true, and-false (work_fields_ok (all b)))))
+returns-3 : tie.Need-returns-then-m-gt-NEEDLE_MOST
+returns-3 c = let t = c in let b = t in
+    c.refused-then-m-gt-NEEDLE_MOST.ensures ∙ sym (read_outside (all b.before.before.before.before) (long (there (tested b.before.before.before.before))) (split_fields (all b.before.before.before.before) (split t.before.before.before) ∙ simp (← c.before.before.byte-m.ensures, lt-leb _ _ c.before.if-m-gt-NEEDLE_MOST.true, and-false (work_fields_ok (all b.before.before.before.before)))))
 
-sub-t19 : tie.Need-overflow-sub-t19
-sub-t19 c = let b = c.before.before.before in let n = tested b in
-    omega (arith, n.before.before.before.byte2.ensures, work_bed (byte (all b) 1) (byte (all b) 2) (byte (all b) 3) (byte (all b) 4) (good b))
+sub-t19 : tie.Need-overflow_sub-to
+sub-t19 c = let b = c in let n = tested b.before.before.before in
+    omega (arith, n.before.before.before.byte-bed.ensures, work_bed (byte (all b.before.before.before) 1) (byte (all b.before.before.before) 2) (byte (all b.before.before.before) 3) (byte (all b.before.before.before) 4) (good b.before.before.before))
 
-cast-t20 : tie.Need-overflow-cast-t20
+cast-t20 : tie.Need-overflow_cast-to
 cast-t20 c = search rules
 
-cast-t21 : tie.Need-overflow-cast-t21
+cast-t21 : tie.Need-overflow_cast-to-in-9
 cast-t21 c = search rules
 
 -- a plated stitch, its second carrier read
-module _ (t : tie.Then5) where
-  abbrev stored : tie.After-blank
-  stored = t.before.before.before
+module _ (t : tie.In-10-to-11) where
+  abbrev stored : tie.After-blank-what
+  stored = t.before
 
   abbrev from : tie.Start
   from = begin (there (tested stored))
 
   plated_low : PLATED_TUCK ≤ byte (all stored) 0
-  plated_low = omega (arith, is from, t.before.if4.left)
+  plated_low = omega (arith, is from, t.in-10-to-11.if-kind-lt9-own.false)
 
-byte-requires-6 : tie.Need-byte-requires-6
+byte-requires-6 : tie.Need-byte-j-requires
 byte-requires-6 c κs = let b = stored c in omega (arith, long (there (tested b)), plated_size (byte (all b) 0) (plated_low c) (high (from c)))
 
-carrier-ok-requires : tie.Need-carrier-ok-requires
+carrier-ok-requires : tie.Need-carrier_ok-requires
 carrier-ok-requires c κs = search rules
 
-refused-requires-4 : tie.Need-refused-requires-4
+refused-requires-4 : tie.Need-refused-requires-then-not-carrier_ok
 refused-requires-4 c κs = search rules
 
 -- whether the second carrier is in range
-module _ (t : tie.After-carrier-ok) where
-  abbrev way : tie.Then5
+module _ (t : tie.After-carrier_ok) where
+  abbrev way : tie.In-10-to-11
   way = t.before.before
 
-  second_ok : t.carrier_ok_lem.result ≡ carrier_number_ok (byte (all (stored way)) 5)
-  second_ok = t.carrier_ok_lem.ensures ∙ ap carrier_number_ok t.before.byte6.ensures
+  second_ok : t.carrier_ok.result ≡ carrier_number_ok (byte (all (stored way)) 5)
+  second_ok = t.carrier_ok.ensures ∙ ap carrier_number_ok t.before.byte-j.ensures
 
-returns-4 : tie.Need-returns-4
-returns-4 c = let t = c.before.before in let w = way t in let b = stored w in
-    c.refused4.ensures
+returns-4 : tie.Need-returns-then-not-carrier_ok
+returns-4 c = let t = c in let w = way t.before.before in let b = stored w in
+    c.refused-then-not-carrier_ok.ensures
     ∙ sym (read_outside (all b) (long (there (tested b))) (plated_fields (all b) (plated_low w) (high (from w))
-    ∙ simp (sym (second_ok t) ∙ not-true _ c.before.if6.true, and-false (work_fields_ok (all b)))))
+    ∙ simp (sym (second_ok t.before.before) ∙ c.before.if-not-carrier_ok.true, and-false (work_fields_ok (all b)))))
 
-returns-5 : tie.Need-returns-5
-returns-5 c = let t = c.before.before in let b = t.before in let n = tested b in
-    simp (b.blank.ensures, size (there n), to_right n (good b), c.before.byte5.ensures, n.before.byte4.ensures, n.before.before.byte3.ensures, n.before.before.before.byte2.ensures)
-    (inside b _ (split_fields (all b) (split t) ∙ simp (good b, ← c.before.byte5.ensures) (le-leb _ _ c.if3.false))
-    (split_record_lem (all b) (split t)
-    ∙ ap (λ (k : ℕ). record_of k (pos 0) (eqb (byte (all b) 1) 1) (needle (byte (all b) 2) (byte (all b) 3)) (byte (all b) 4) 0 (needle (1 - byte (all b) 2) (byte (all b) 5))) (sym t.match.keys1)))
+returns-5 : tie.Need-returns-else-m-gt-NEEDLE_MOST
+returns-5 c = let t = c in let b = t in let n = tested b.before.before.before in
+    simp (b.before.before.before.blank-what.ensures, size (there n), to_right n (good b.before.before.before), c.before.byte-m.ensures, n.before.byte-k.ensures, n.before.before.byte-n.ensures, n.before.before.before.byte-bed.ensures)
+    (inside b.before.before.before _ (split_fields (all b.before.before.before) (split t.before.before) ∙ simp (good b.before.before.before, ← c.before.byte-m.ensures) (le-leb _ _ c.if-m-gt-NEEDLE_MOST.false))
+    (split_record_lem (all b.before.before.before) (split t.before.before)
+    ∙ ap (λ (k : ℕ). record_of k (pos 0) (eqb (byte (all b.before.before.before) 1) 1) (needle (byte (all b.before.before.before) 2) (byte (all b.before.before.before) 3)) (byte (all b.before.before.before) 4) 0 (needle (1 - byte (all b.before.before.before) 2) (byte (all b.before.before.before) 5))) (sym t.before.before.in-9.is)))
 
-returns-6 : tie.Need-returns-6
-returns-6 c = let r = c.before in let b = r.before in let n = tested b in let k = begin (there n) in
-    let knit : byte (all b) 0 ≤ KNIT = omega (arith, is k, c.if4.true, r.match.rest.1) in
-    simp (b.blank.ensures, size (there n), to_right n (good b), n.before.byte4.ensures, n.before.before.byte3.ensures, n.before.before.before.byte2.ensures)
-    (inside b _ (work_fields (all b) (low k) knit ∙ good b)
-    (work_record_lem (all b) (low k) knit ∙ ap (λ (m : ℕ). work_record m (eqb (byte (all b) 1) 1) (needle (byte (all b) 2) (byte (all b) 3)) (byte (all b) 4)) (is k)))
+returns-6 : tie.Need-returns-then-kind-lt9
+returns-6 c = let r = c in let b = r in let n = tested b.before.before in let k = begin (there n) in
+    let knit : byte (all b.before.before) 0 ≤ KNIT = omega (arith, is k, c.if-kind-lt9-1.true, r.before.in_default-1.rest.1) in
+    simp (b.before.before.blank-what.ensures, size (there n), to_right n (good b.before.before), n.before.byte-k.ensures, n.before.before.byte-n.ensures, n.before.before.before.byte-bed.ensures)
+    (inside b.before.before _ (work_fields (all b.before.before) (low k) knit ∙ good b.before.before)
+    (work_record_lem (all b.before.before) (low k) knit ∙ ap (λ (m : ℕ). work_record m (eqb (byte (all b.before.before) 1) 1) (needle (byte (all b.before.before) 2) (byte (all b.before.before) 3)) (byte (all b.before.before) 4)) (is k)))
 
-returns-7 : tie.Need-returns-7
-returns-7 c = let t = c.before in let w = way t in let b = stored w in let n = tested b in let k = from w in
-    simp (b.blank.ensures, size (there n), to_right n (good b), t.before.byte6.ensures, n.before.byte4.ensures, n.before.before.byte3.ensures, n.before.before.before.byte2.ensures)
-    (inside b _ (plated_fields (all b) (plated_low w) (high k) ∙ simp (good b) (sym (second_ok t) ∙ not-false _ c.if6.false))
+returns-7 : tie.Need-returns-else-not-carrier_ok
+returns-7 c = let t = c in let w = way t.before in let b = stored w in let n = tested b in let k = from w in
+    simp (b.blank-what.ensures, size (there n), to_right n (good b), t.before.before.byte-j.ensures, n.before.byte-k.ensures, n.before.before.byte-n.ensures, n.before.before.before.byte-bed.ensures)
+    (inside b _ (plated_fields (all b) (plated_low w) (high k) ∙ simp (good b) (sym (second_ok t.before) ∙ c.if-not-carrier_ok.false))
     (plated_record_lem (all b) (plated_low w) (high k)
     ∙ ap (λ (m : ℕ). plated_record m (eqb (byte (all b) 1) 1) (needle (byte (all b) 2) (byte (all b) 3)) (byte (all b) 4) (byte (all b) 5)) (is k)))
 
-returns-8 : tie.Need-returns-8
-returns-8 c = let k = begin (there (tested c.before.before.before)) in absurd (omega (arith, k.pre.2, c.if5.false))
+returns-8 : tie.Need-returns-else-kind-lt12
+returns-8 c = let k = begin (there (tested c.before.before.before)) in absurd (omega (arith, k.requires.2, c.if-kind-lt12-1.false))
 
-pub work-spec : {M : Type 1} → statement M
-work-spec =
+pub work_spec : {M : Type 1} → statement M
+work_spec =
     tie.close (tie.spec
     size-of-requires refused-requires returns byte-requires byte-requires-2 byte-requires-3 byte-requires-4 work-ok-requires refused-requires-2
     returns-2 blank-requires cast-t16 cast-t17 byte-requires-5 refused-requires-3 returns-3 sub-t19 cast-t20 cast-t21 byte-requires-6 carrier-ok-requires

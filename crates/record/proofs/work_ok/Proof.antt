@@ -16,25 +16,25 @@ and-true : (a : Bool) → (a && true) ≡ a
 and-true true = refl
 and-true false = refl
 
-carrier-ok-requires : tie.Need-carrier-ok-requires
+carrier-ok-requires : tie.Need-carrier_ok-requires
 carrier-ok-requires c κs = search rules
 
-returns : tie.Need-returns
+returns : tie.Need-returns-then-not-carrier_ok
 unfolding work_ok
 returns c = let a = c.before.before.args in
-    simp (← c.before.carrier_ok_lem.ensures, not-true c.before.carrier_ok_lem.result c.if1.true, and-false (needle_ok a.bed a.n), and-false (leb a.right 1))
+    simp (← c.before.carrier_ok.ensures, c.if-not-carrier_ok.true, and-false (needle_ok a.bed a.n), and-false (leb a.right 1))
 
-needle-ok-requires : tie.Need-needle-ok-requires
+needle-ok-requires : tie.Need-needle_ok-requires
 needle-ok-requires c κs = search rules
 
-returns-2 : tie.Need-returns-2
+returns-2 : tie.Need-returns-then-not-needle_ok
 unfolding work_ok
-returns-2 c = simp (← c.before.needle-ok.ensures, not-true c.before.needle-ok.result c.if2.true, and-false (leb c.before.before.before.before.args.right 1))
+returns-2 c = simp (← c.before.needle_ok.ensures, c.if-not-needle_ok.true, and-false (leb c.before.before.before.before.args.right 1))
 
-returns-3 : tie.Need-returns-3
+returns-3 : tie.Need-returns
 unfolding work_ok
-returns-3 c = let k = c.before.before.before in
-    simp (← c.before.needle-ok.ensures, not-false c.before.needle-ok.result c.if2.false, ← k.carrier_ok_lem.ensures, not-false k.carrier_ok_lem.result c.before.before.if1.false, and-true (leb k.before.args.right 1))
+returns-3 c = let k = c in
+    simp (← c.before.needle_ok.ensures, c.if-not-needle_ok.false, ← k.before.before.before.carrier_ok.ensures, c.before.before.if-not-carrier_ok.false, and-true (leb k.before.before.before.before.args.right 1))
 
 pub work_ok_spec : {M : Type 1} → statement M
 work_ok_spec = tie.close (tie.spec carrier-ok-requires returns needle-ok-requires returns-2 returns-3)

@@ -29,20 +29,20 @@ module _ (a b : Column) (h : mag a.0 < 2147483648) (k : mag b.0 < 2147483648) wh
   above : lt_z d (negsuc 0) ≡ false → lt_z (pos 1) d ≡ far_apart a b
   above e = sym (both ∙ simp e)
 
-cast-d : tie.Need-overflow-cast-d
-cast-d c = let z = c.before.before.args.a.0 in let h = c.struct_told.given.0.1 in simp (back w32 z h) (fits w64 z (omega arith))
+cast-d : tie.Need-overflow_cast-d
+cast-d c = let z = c.args.a.0 in let h = c.struct_told-1.given.0.1 in simp (back w32 z h) (fits w64 z (omega arith))
 
-cast-d-2 : tie.Need-overflow-cast-d-2
-cast-d-2 c = let z = c.before.before.before.before.args.b.0 in let h = c.struct-told2.given.0.1 in simp (back w32 z h) (fits w64 z (omega arith))
+cast-d-2 : tie.Need-overflow_cast-d-2
+cast-d-2 c = let z = c.args.b.0 in let h = c.struct_told-2-1.given.0.1 in simp (back w32 z h) (fits w64 z (omega arith))
 
-sub-d : tie.Need-overflow-sub-d
-sub-d c = let g = c.before.before.before.before.args in difference_fits g.a.0 g.b.0 c.before.before.struct_told.given.0.1 c.struct-told2.given.0.1
+sub-d : tie.Need-overflow_sub-d
+sub-d c = let g = c.args in difference_fits g.a.0 g.b.0 c.struct_told-1.given.0.1 c.struct_told-2-1.given.0.1
 
-returns : tie.Need-returns
-returns c = let g = c.before.before.before.before.before.args in below g.a g.b c.before.before.before.struct_told.given.0.1 c.before.struct-told2.given.0.1 c.if1.true
+returns : tie.Need-returns-then-d-ltminus1
+returns c = let g = c.args in below g.a g.b c.struct_told-1.given.0.1 c.struct_told-2-1.given.0.1 c.if-d-ltminus1.true
 
-returns-2 : tie.Need-returns-2
-returns-2 c = let g = c.before.before.before.before.before.args in above g.a g.b c.before.before.before.struct_told.given.0.1 c.before.struct-told2.given.0.1 c.if1.false
+returns-2 : tie.Need-returns-else-d-ltminus1
+returns-2 c = let g = c.args in above g.a g.b c.struct_told-1.given.0.1 c.struct_told-2-1.given.0.1 c.if-d-ltminus1.false
 
 pub apart_spec : {M : Type 1} → statement M
 apart_spec = tie.close (tie.spec cast-d cast-d-2 sub-d returns returns-2)

@@ -4,23 +4,23 @@ use Rattle.rewrite.proofs.HalfColumns.{half_fits, left_fits, left_is, right_fits
 use Rattle.rewrite.proofs.broad.Statement.{statement}
 use Rattle.rewrite.proofs.broad.Tie as tie
 
-column-requires : tie.Need-column-requires
+column-requires : tie.Need-column-z-requires
 column-requires c κs = search rules
 
-add-h : tie.Need-overflow-add-h
-add-h c = let a = c.before.before.before.args in half_fits a.n a.r c.before.before.column.result c.before.before.column.ensures (search rules) c.before.before.before.well-formed.1.0.1.1.0.1
+add-h : tie.Need-overflow_add-h
+add-h c = let a = c.args in half_fits a.n a.r c.column-z.result c.column-z.ensures (search rules) (search rules)
 
-sub-t7 : tie.Need-overflow-sub-t7
-sub-t7 c = let a = c.before.before.before.args in left_fits a.n a.r c.before.before.column.result c.before.before.column.ensures (search rules) c.before.before.before.well-formed.1.0.1.1.0.1
+sub-t7 : tie.Need-overflow_sub-result
+sub-t7 c = let a = c.args in left_fits a.n a.r c.column-z.result c.column-z.ensures (search rules) (search rules)
 
-add-t8 : tie.Need-overflow-add-t8
-add-t8 c = let a = c.before.before.before.args in right_fits a.n a.r c.before.before.column.result c.before.before.column.ensures (search rules) c.before.before.before.well-formed.1.0.1.1.0.1
+add-t8 : tie.Need-overflow_add-result
+add-t8 c = let a = c.args in right_fits a.n a.r c.column-z.result c.column-z.ensures (search rules) (search rules)
 
 returns : tie.Need-returns
-returns c = let a = c.before.before.before.args in
+returns c = let a = c.args in
     simp (
-      left_is a.n a.r c.before.before.column.result c.before.before.column.ensures (search rules) c.before.before.before.well-formed.1.0.1.1.0.1,
-      right_is a.n a.r c.before.before.column.result c.before.before.column.ensures (search rules) c.before.before.before.well-formed.1.0.1.1.0.1,
+      left_is a.n a.r c.column-z.result c.column-z.ensures (search rules) (search rules),
+      right_is a.n a.r c.column-z.result c.column-z.ensures (search rules) (search rules),
     )
 
 pub broad_spec : {M : Type 1} → statement M

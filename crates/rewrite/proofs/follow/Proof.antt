@@ -25,31 +25,31 @@ module _ (x : LogRecord) (p w : List ℕ) where
   unfolding Left follow_no left_after
   swap_left i e a b d = rw e (a, (b, d))
 
-enum_told : tie.Need-enum-told
+enum_told : tie.Need-enum_told-1
 enum_told c = search rules
 
-enum-known-x : tie.Need-enum-known-x
+enum-known-x : tie.Need-enum_known-x
 enum-known-x c = search rules
 
 swap-requires : tie.Need-swap-requires
-swap-requires c κs = let k = c.before.before.before.before.before.before.before.before in (k.requires.0, k.requires.1, subst InTwoBytes c.before.before.before.x.given.1 k.requires.2)
+swap-requires c κs = let k = c in (k.requires.0, k.requires.1, subst InTwoBytes c.in-Swap.is k.requires.2)
 
-returns : tie.Need-returns
+returns : tie.Need-returns-in-Torn
 unfolding Left
-returns c = let k = c.before.before.before.before.before in torn_left k.args.x k.args.output.now k.args.work.now c.enum_told.given.1 k.requires.0
+returns c = let k = c in torn_left k.args.x k.args.output.now k.args.work.now c.in-Torn.is k.requires.0
 
-same_length : tie.Need-same-length
+same_length : tie.Need-shape_of-output
 same_length c = search rules
 
-same-length-2 : tie.Need-same-length-2
+same-length-2 : tie.Need-shape_of-work
 same-length-2 c = search rules
 
-returns-2 : tie.Need-returns-2
+returns-2 : tie.Need-returns-in-Swap
 unfolding Left
-returns-2 c = let k = c.before.before.before.before.before.before.before.before.before.before.before.before.before in let s = c.before.before.before.before.swap in
-    swap_left k.args.x k.args.output.now k.args.work.now _ c.before.before.before.before.before.before.before.before.x.given.1 s.ensures.0 s.ensures.1.0 s.ensures.1.1
+returns-2 c = let k = c in let s = c.swap in
+    swap_left k.args.x k.args.output.now k.args.work.now _ c.in-Swap.is s.ensures.0 s.ensures.1.0 s.ensures.1.1
 
-pub follow-spec : {M : Type 1} → statement M
-follow-spec =
+pub follow_spec : {M : Type 1} → statement M
+follow_spec =
     tie.close
     (tie.spec enum_told enum-known-x swap-requires returns same_length same-length-2 returns-2)

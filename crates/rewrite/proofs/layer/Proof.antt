@@ -5,13 +5,13 @@ use Rattle.rewrite.specs.Extents.{layer_of}
 use Rattle.rewrite.proofs.layer.Statement.{statement}
 use Rattle.rewrite.proofs.layer.Tie as tie
 
-returns : tie.Need-returns
+returns : tie.Need-returns-then-n-eq0
 unfolding layer_of
-returns c = sym (simp (eq-eqb _ _ c.if1.true))
+returns c = sym (simp (eq-eqb _ _ c.if-n-eq0.true))
 
-returns-2 : tie.Need-returns-2
+returns-2 : tie.Need-returns-else-n-eq0
 unfolding layer_of
-returns-2 c = sym (simp (ne_eqb _ _ c.if1.false))
+returns-2 c = sym (simp (ne_eqb _ _ c.if-n-eq0.false))
 
 pub layer_spec : {M : Type 1} → statement M
 layer_spec = tie.close (tie.spec returns returns-2)

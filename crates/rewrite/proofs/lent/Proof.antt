@@ -8,32 +8,32 @@ use Rattle.rewrite.proofs.Rewriting.{start_lent, started, log_long, output_short
 use Rattle.rewrite.proofs.lent.Statement.{statement}
 use Rattle.rewrite.proofs.lent.Tie as tie
 
-start-requires : tie.Need-start-requires
+start-requires : tie.Need-start-number-requires
 start-requires c κs = search rules
 
 -- past the first test
-begun : (b : tie.Else1) → LimitInRange b.before.before.args.limit × (b.before.before.args.program ≤ program_most)
-begun b = let a = b.before.before.args in started a.limit a.program a.log a.output a.work (sym b.before.start.ensures ∙ b.if1.false)
+begun : (b : tie.Else-number-ne0) → LimitInRange b.args.limit × (b.args.program ≤ program_most)
+begun b = let a = b.args in started a.limit a.program a.log a.output a.work (sym b.start-number.ensures ∙ b.if-number-ne0.false)
 
-returns : tie.Need-returns
-returns c = let a = c.before.before.args in let e = c.before.start.ensures in
-    e ∙ start_lent a.limit a.program a.log a.output a.work (λ z. c.if1.true (e ∙ z))
+returns : tie.Need-returns-then-number-ne0
+returns c = let a = c.args in let e = c.start-number.ensures in
+    e ∙ start_lent a.limit a.program a.log a.output a.work (λ z. c.if-number-ne0.true (e ∙ z))
 
-returns-2 : tie.Need-returns-2
-returns-2 c = let a = c.before.before.before.args in let (b, h) = begun c.before in
-    sym (log_long a.limit a.program a.log a.output a.work b h c.if2.true)
+returns-2 : tie.Need-returns-then-log-gt-LOG_MOST
+returns-2 c = let a = c.args in let (b, h) = begun c.before in
+    sym (log_long a.limit a.program a.log a.output a.work b h c.if-log-gt-LOG_MOST.true)
 
-returns-3 : tie.Need-returns-3
-returns-3 c = let a = c.before.before.before.before.args in let (b, h) = begun c.before.before in
-    sym (output_short a.limit a.program a.log a.output a.work b h c.before.if2.false c.if3.true)
+returns-3 : tie.Need-returns-then-output-program
+returns-3 c = let a = c.args in let (b, h) = begun c.before.before in
+    sym (output_short a.limit a.program a.log a.output a.work b h c.if-log-gt-LOG_MOST.false c.if-output-program.true)
 
-returns-4 : tie.Need-returns-4
-returns-4 c = let a = c.before.before.before.before.before.args in let (b, h) = begun c.before.before.before in
-    sym (work_short a.limit a.program a.log a.output a.work b h c.before.before.if2.false c.before.if3.false c.if4.true)
+returns-4 : tie.Need-returns-then-work-program
+returns-4 c = let a = c.args in let (b, h) = begun c.before.before.before in
+    sym (work_short a.limit a.program a.log a.output a.work b h c.if-log-gt-LOG_MOST.false c.if-output-program.false c.if-work-program.true)
 
-returns-5 : tie.Need-returns-5
-returns-5 c = let a = c.before.before.before.before.before.args in let (b, h) = begun c.before.before.before in
-    sym (all_enough a.limit a.program a.log a.output a.work b h c.before.before.if2.false c.before.if3.false c.if4.false)
+returns-5 : tie.Need-returns
+returns-5 c = let a = c.args in let (b, h) = begun c.before.before.before in
+    sym (all_enough a.limit a.program a.log a.output a.work b h c.if-log-gt-LOG_MOST.false c.if-output-program.false c.if-work-program.false)
 
 pub lent_spec : {M : Type 1} → statement M
 lent_spec = tie.close (tie.spec start-requires returns returns-2 returns-3 returns-4 returns-5)

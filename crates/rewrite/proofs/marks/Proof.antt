@@ -11,82 +11,68 @@ use borrow.Author.Rules.{rules}
 use Rattle.rewrite.proofs.marks.Statement.{statement}
 use Rattle.rewrite.proofs.marks.Tie as tie
 
-abbrev invariant-loop : tie.invariant-loop
+abbrev invariant-loop : tie.invariant-loop-i
 invariant-loop program work table₀ n j₀ i₀ b₀ table j i b =
     (MarkedUpto program table j) × (b ≡ rack_byte 0 (take i (records_of program))) × (i ≡ j * 64) × (i ≤ length work) × (length work ≤ 16384)
 
-abbrev decreases-loop : tie.decreases-loop
+abbrev decreases-loop : tie.decreases-loop-i
 decreases-loop program work table₀ n j₀ i₀ b₀ table j i b = length work - i
 
-loop-holds : tie.Need-loop-init invariant-loop decreases-loop
-loop-holds c = let k = c.before.before.before in let p = k.args.program.now in
+loop-holds : tie.Need-loop-i-init invariant-loop decreases-loop
+loop-holds c = let k = c in let p = k.args.program.now in
     (none_marked p k.args.table.now k.requires.1, rack_none (records_of p), refl, omega arith, work_short p k.args.work.now k.requires.0)
 
-add-loop : tie.Need-overflow-add-loop invariant-loop decreases-loop
+add-loop : tie.Need-overflow_add-i invariant-loop decreases-loop
 add-loop c = search rules
 
-slice-write-table : tie.Need-slice-write-table invariant-loop decreases-loop
-slice-write-table c = let v = c.before.loop.invariant in omega (arith, v.0.long, v.2, v.4, c.loop-test.true)
+slice-write-table : tie.Need-bounds-table-j invariant-loop decreases-loop
+slice-write-table c = let v = c.loop-i.invariant in omega (arith, v.0.long, v.2, v.4, c.loop-i-test.true)
 
-add-racking-after : tie.Need-overflow-add-racking-after invariant-loop decreases-loop
+add-racking-after : tie.Need-overflow_add-i-in-loop-i invariant-loop decreases-loop
 add-racking-after c = search rules
 
-racking-after-requires : tie.Need-racking-after-requires invariant-loop decreases-loop
-racking-after-requires c κs = let k = c.before.before.before.before.before in (k.requires.0, omega arith, omega (arith, c.loop-test.true, work_length k.args.program.now k.args.work.now k.requires.0))
+racking-after-requires : tie.Need-racking_after-b-requires invariant-loop decreases-loop
+racking-after-requires c κs = let k = c in (k.requires.0, omega arith, omega (arith, c.loop-i-test.true, work_length k.args.program.now k.args.work.now k.requires.0))
 
-add-i : tie.Need-overflow-add-i invariant-loop decreases-loop
+add-i : tie.Need-overflow_add-i-in-loop-i-2 invariant-loop decreases-loop
 add-i c = search rules
 
-add-j : tie.Need-overflow-add-j invariant-loop decreases-loop
+add-j : tie.Need-overflow_add-j invariant-loop decreases-loop
 add-j c = search rules
 
-loop-less : tie.Need-loop-smaller invariant-loop decreases-loop
-loop-less c = omega (arith, c.before.loop-test.true)
+loop-less : tie.Need-loop-i-smaller invariant-loop decreases-loop
+loop-less c = omega (arith, c.loop-i-test.true)
 
-loop-again : tie.Need-loop-preserved invariant-loop decreases-loop
-loop-again c = let p = c.before.before.before.before.before.before.args.program.now in let v = c.before.before.loop in (
-  one_more p v.table v.j v.i v.b v.invariant.0 v.invariant.2 (omega (arith, v.invariant.4, c.before.loop-test.true)) v.invariant.1,
-  rack_on (records_of p) v.i (v.i + 64) v.b _ (omega arith) v.invariant.1 c.racking-after.ensures,
+loop-again : tie.Need-loop-i-preserved invariant-loop decreases-loop
+loop-again c = let p = c.args.program.now in let v = c.loop-i in (
+  one_more p v.table v.j v.i v.b v.invariant.0 v.invariant.2 (omega (arith, v.invariant.4, c.loop-i-test.true)) v.invariant.1,
+  rack_on (records_of p) v.i (v.i + 64) v.b _ (omega arith) v.invariant.1 c.racking_after-b.ensures,
   omega (arith, v.invariant.2),
-  omega (arith, c.before.loop-test.true),
+  omega (arith, c.loop-i-test.true),
   v.invariant.4,
 )
 
-slice-write-table-2 : tie.Need-slice-write-table-2 invariant-loop decreases-loop
-slice-write-table-2 c = let v = c.before.before.loop.invariant in omega (arith, v.0.long, v.2, v.4, c.if1.true)
+slice-write-table-2 : tie.Need-bounds-table-j-then-i-n invariant-loop decreases-loop
+slice-write-table-2 c = let v = c.loop-i.invariant in omega (arith, v.0.long, v.2, v.4, c.if-i-n.true)
 
-same_length : tie.Need-same-length invariant-loop decreases-loop
-same_length c = let k = c.before.before.before.before.before.before in let v = c.before.before.loop in length-set v.table v.j v.b ∙ v.invariant.0.long ∙ sym k.requires.1
+same_length : tie.Need-shape_of-table-then-i-n invariant-loop decreases-loop
+same_length c = search rules
 
-returns : tie.Need-returns invariant-loop decreases-loop
-returns c = let k = c.before.before.before.before.before.before in let p = k.args.program.now in let v = c.before.before.loop in
-    all_marked p _ (v.j + 1) (one_more p v.table v.j v.i v.b v.invariant.0 v.invariant.2 (omega (arith, v.invariant.4, c.if1.true)) v.invariant.1)
-    (omega (arith, c.before.loop-test.false, v.invariant.2, work_length p k.args.work.now k.requires.0))
+returns : tie.Need-returns-then-i-n invariant-loop decreases-loop
+returns c = let k = c in let p = k.args.program.now in let v = c.loop-i in
+    all_marked p _ (v.j + 1) (one_more p v.table v.j v.i v.b v.invariant.0 v.invariant.2 (omega (arith, v.invariant.4, c.if-i-n.true)) v.invariant.1)
+    (omega (arith, c.loop-i-test.false, v.invariant.2, work_length p k.args.work.now k.requires.0))
 
-same-length-2 : tie.Need-same-length-2 invariant-loop decreases-loop
-same-length-2 c = let k = c.before.before.before.before.before.before in c.before.before.loop.invariant.0.long ∙ sym k.requires.1
+same-length-2 : tie.Need-shape_of-table-else-i-n invariant-loop decreases-loop
+same-length-2 c = search rules
 
-returns-2 : tie.Need-returns-2 invariant-loop decreases-loop
-returns-2 c = let k = c.before.before.before.before.before.before in let p = k.args.program.now in let v = c.before.before.loop in
-    all_marked p v.table v.j v.invariant.0 (omega (arith, c.if1.false, v.invariant.2, work_length p k.args.work.now k.requires.0))
+returns-2 : tie.Need-returns-else-i-n invariant-loop decreases-loop
+returns-2 c = let k = c in let p = k.args.program.now in let v = c.loop-i in
+    all_marked p v.table v.j v.invariant.0 (omega (arith, c.if-i-n.false, v.invariant.2, work_length p k.args.work.now k.requires.0))
 
-pub marks-spec : {M : Type 1} → statement M
-marks-spec =
+pub marks_spec : {M : Type 1} → statement M
+marks_spec =
     tie.close
     (tie.spec
-    invariant-loop
-    decreases-loop
-    loop-holds
-    add-loop
-    slice-write-table
-    add-racking-after
-    racking-after-requires
-    add-i
-    add-j
-    loop-less
-    loop-again
-    slice-write-table-2
-    same_length
-    returns
-    same-length-2
-    returns-2)
+    invariant-loop decreases-loop loop-holds add-loop slice-write-table add-racking-after racking-after-requires add-i add-j
+    loop-less loop-again slice-write-table-2 same_length returns same-length-2 returns-2)

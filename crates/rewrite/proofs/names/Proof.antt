@@ -27,23 +27,23 @@ module _ (x : Record) (k : ℕ) where
     unfolding member
     second_member q = sym (simp (two_named x e, ne_eqb k x.carrier q, or-false))
 
-carriers-named-requires : tie.Need-carriers-named-requires
+carriers-named-requires : tie.Need-carriers_named-requires
 carriers-named-requires c κs = search rules
 
-returns : tie.Need-returns
+returns : tie.Need-returns-in-0
 unfolding member
-returns c = let n = c.before in sym (simp (none_named n.before.args.x (sym n.carriers-named.ensures ∙ c.match.keys1)))
+returns c = let n = c in sym (simp (none_named n.args.x (sym n.carriers_named.ensures ∙ c.in-0.is)))
 
-returns-2 : tie.Need-returns-2
-returns-2 c = let n = c.before.before in let a = n.before.args in one_member a.x a.k (sym n.carriers-named.ensures ∙ c.before.match.keys2)
+returns-2 : tie.Need-returns-in-1
+returns-2 c = let n = c in let a = n.args in one_member a.x a.k (sym n.carriers_named.ensures ∙ c.in-1.is)
 
-returns-3 : tie.Need-returns-3
-returns-3 c = let m = c.before.before in let n = m.before in let a = n.before.args in
-    first_member a.x a.k (two_of a.x n.carriers-named.ensures m.match.rest.0.1 m.match.rest.1) c.if1.true
+returns-3 : tie.Need-returns-then-k-x
+returns-3 c = let m = c in let n = m in let a = n.args in
+    first_member a.x a.k (two_of a.x n.carriers_named.ensures m.in_default.in_default-own.rest.0.1 m.in_default.in_default-own.rest.1) c.if-k-x.true
 
-returns-4 : tie.Need-returns-4
-returns-4 c = let m = c.before.before.before in let n = m.before in let a = n.before.args in
-    second_member a.x a.k (two_of a.x n.carriers-named.ensures m.match.rest.0.1 m.match.rest.1) c.before.if1.false
+returns-4 : tie.Need-returns-else-k-x
+returns-4 c = let m = c in let n = m in let a = n.args in
+    second_member a.x a.k (two_of a.x n.carriers_named.ensures m.in_default.in_default-own.rest.0.1 m.in_default.in_default-own.rest.1) c.if-k-x.false
 
 pub names_spec : {M : Type 1} → statement M
 names_spec = tie.close (tie.spec carriers-named-requires returns returns-2 returns-3 returns-4)

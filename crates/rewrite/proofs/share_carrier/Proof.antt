@@ -28,33 +28,34 @@ module _ (x y : Record) where
     unfolding common
     shares_second q b p = p ∙ sym (simp (two_named x e, q, or-false))
 
-carriers-named-requires : tie.Need-carriers-named-requires
+carriers-named-requires : tie.Need-carriers_named-requires
 carriers-named-requires c κs = search rules
 
 names-requires : tie.Need-names-requires
 names-requires c κs = search rules
 
-names-requires-2 : tie.Need-names-requires-2
+names-requires-2 : tie.Need-names-requires-in_default
 names-requires-2 c κs = search rules
 
-names-requires-3 : tie.Need-names-requires-3
+names-requires-3 : tie.Need-names-requires-else-names
 names-requires-3 c κs = search rules
 
-returns : tie.Need-returns
-returns c = let n = c.before in let a = n.before.args in shares_none a.x a.y (sym n.carriers-named.ensures ∙ c.match.keys1)
+returns : tie.Need-returns-in-0
+returns c = let n = c in let a = n.args in shares_none a.x a.y (sym n.carriers_named.ensures ∙ c.in-0.is)
 
-returns-2 : tie.Need-returns-2
-returns-2 c = let m = c.before in let n = m.before in let a = n.before.args in
-    shares_one a.x a.y (sym n.carriers-named.ensures ∙ m.match.keys2) _ c.names.ensures
+returns-2 : tie.Need-returns-in-1
+returns-2 c = let m = c in let n = m in let a = n.args in
+    shares_one a.x a.y (sym n.carriers_named.ensures ∙ m.in-1.is) _ c.names.ensures
 
-returns-3 : tie.Need-returns-3
-returns-3 c = let m = c.before.before in let n = m.before in let a = n.before.args in
-    shares_first a.x a.y (two_of a.x n.carriers-named.ensures m.match.rest.0.1 m.match.rest.1) _ c.before.names2.ensures c.if1.true
+returns-3 : tie.Need-returns-then-names
+returns-3 c = let m = c in let n = m in let a = n.args in
+    shares_first a.x a.y (two_of a.x n.carriers_named.ensures m.in_default.in_default-own.rest.0.1 m.in_default.in_default-own.rest.1) _ c.names-in_default.ensures c.if-names.true
 
-returns-4 : tie.Need-returns-4
-returns-4 c = let m = c.before.before.before in let n = m.before in let a = n.before.args in
-    shares_second a.x a.y (two_of a.x n.carriers-named.ensures m.match.rest.0.1 m.match.rest.1) (sym c.before.before.names2.ensures ∙ c.before.if1.false) _ c.names3.ensures
+returns-4 : tie.Need-returns-else-names
+returns-4 c = let m = c in let n = m in let a = n.args in
+    shares_second a.x a.y (two_of a.x n.carriers_named.ensures m.in_default.in_default-own.rest.0.1 m.in_default.in_default-own.rest.1) (sym c.names-in_default.ensures ∙ c.if-names.false) _ c.names-else-names.ensures
 
-pub share-carrier-spec : {M : Type 1} → statement M
-share-carrier-spec =
-    tie.close (tie.spec carriers-named-requires names-requires names-requires-2 names-requires-3 returns returns-2 returns-3 returns-4)
+pub share_carrier_spec : {M : Type 1} → statement M
+share_carrier_spec =
+    tie.close (tie.spec
+    carriers-named-requires names-requires names-requires-2 names-requires-3 returns returns-2 returns-3 returns-4)

@@ -5,17 +5,17 @@ use borrow.Author.Rules.{rules}
 use Rattle.rewrite.proofs.start.Statement.{statement}
 use Rattle.rewrite.proofs.start.Tie as tie
 
-mul-result : tie.Need-overflow-mul-result
+mul-result : tie.Need-offset_bounds-work-i
 mul-result c = search rules
 
-shared-slice-read-result : tie.Need-shared-slice-read-result
+shared-slice-read-result : tie.Need-bounds-work-i
 shared-slice-read-result c = search rules
 
-cast-result : tie.Need-overflow-cast-result
-cast-result c = omega (arith, c.shared-slice-known.given c.before.args.i)
+cast-result : tie.Need-overflow_cast-result
+cast-result c = search rules
 
 returns : tie.Need-returns
-returns c = let k = c.before in λ program laid. work_start program k.args.work.now laid k.args.i k.requires
+returns c = let k = c in λ program laid. work_start program k.args.work.now laid k.args.i k.requires
 
 pub start_spec : {M : Type 1} → statement M
 start_spec = tie.close (tie.spec mul-result shared-slice-read-result cast-result returns)

@@ -9,77 +9,65 @@ use borrow.Author.Rules.{rules}
 use Rattle.rewrite.proofs.starts.Statement.{statement}
 use Rattle.rewrite.proofs.starts.Tie as tie
 
-abbrev invariant-loop : tie.invariant-loop
+abbrev invariant-loop : tie.invariant-loop-at
 invariant-loop program work₀ n₀ at₀ work n at =
     (Upto program n at) × (length work ≡ length work₀) × (take n work ≡ take n (starts_of 0 (records_of program))) × (drop n work ≡ drop n work₀)
 
-abbrev decreases-loop : tie.decreases-loop
+abbrev decreases-loop : tie.decreases-loop-at
 decreases-loop program work₀ n₀ at₀ work n at = length program + 6 - at
 
-loop-holds : tie.Need-loop-init invariant-loop decreases-loop
+loop-holds : tie.Need-loop-at-init invariant-loop decreases-loop
 loop-holds c = (upto_none _, refl, refl, refl)
 
 -- an entry for the next start
-entry : (c : tie.In-loop invariant-loop decreases-loop) → c.before.loop.n < length c.before.before.before.before.args.program.now / 2
-entry c = let k = c.before.before.before.before in let v = c.before.loop in next_entry k.args.program.now k.requires.0 v.n v.at v.invariant.0 c.loop-test.true
+entry : (c : tie.In-loop-at invariant-loop decreases-loop) → c.loop-at.n < length c.args.program.now / 2
+entry c = let k = c in let v = c.loop-at in next_entry k.args.program.now k.requires.0 v.n v.at v.invariant.0 c.loop-at-test.true
 
-cast-work : tie.Need-overflow-cast-work invariant-loop decreases-loop
-cast-work c = let k = c.before.before.before.before in omega (arith, c.loop-test.true, k.requires.0.short)
+cast-work : tie.Need-overflow_cast-work invariant-loop decreases-loop
+cast-work c = let k = c in omega (arith, c.loop-at-test.true, k.requires.0.short)
 
-mul-work : tie.Need-overflow-mul-work invariant-loop decreases-loop
-mul-work c = omega (arith, entry c, c.before.before.before.before.requires.0.short)
+mul-work : tie.Need-offset_bounds-work-n invariant-loop decreases-loop
+mul-work c = omega (arith, entry c, c.requires.0.short)
 
-slice-write-work : tie.Need-slice-write-work invariant-loop decreases-loop
-slice-write-work c = omega (arith, entry c, c.before.before.before.before.requires.1, c.before.loop.invariant.1)
+slice-write-work : tie.Need-bounds-work-n invariant-loop decreases-loop
+slice-write-work c = omega (arith, entry c, c.requires.1, c.loop-at.invariant.1)
 
-add-n : tie.Need-overflow-add-n invariant-loop decreases-loop
-add-n c = omega (arith, entry c, c.before.before.before.before.requires.0.short)
+add-n : tie.Need-overflow_add-n invariant-loop decreases-loop
+add-n c = omega (arith, entry c, c.requires.0.short)
 
-shared-slice-read-size-of : tie.Need-shared-slice-read-size-of invariant-loop decreases-loop
+shared-slice-read-size-of : tie.Need-bounds-program-at invariant-loop decreases-loop
 shared-slice-read-size-of c = search rules
 
-size-of-requires : tie.Need-size-of-requires invariant-loop decreases-loop
+size-of-requires : tie.Need-size_of-at-requires invariant-loop decreases-loop
 size-of-requires c κs = search rules
 
-add_at : tie.Need-overflow-add-at invariant-loop decreases-loop
-add_at c = let k = c.before.before.before.before.before.before in let v = c.before.before.before.loop in
-    omega (arith, c.type_size.ensures, (next_size k.args.program.now k.requires.0 v.n v.at v.invariant.0 c.before.before.loop-test.true).1, k.requires.0.short, c.before.before.loop-test.true)
+add_at : tie.Need-overflow_add-at invariant-loop decreases-loop
+add_at c = let k = c in let v = c.loop-at in
+    omega (arith, c.size_of-at.ensures, (next_size k.args.program.now k.requires.0 v.n v.at v.invariant.0 c.loop-at-test.true).1, k.requires.0.short, c.loop-at-test.true)
 
-loop-less : tie.Need-loop-smaller invariant-loop decreases-loop
-loop-less c = let k = c.before.before.before.before.before.before in let v = c.before.before.before.loop in
-    omega (arith, c.type_size.ensures, (next_size k.args.program.now k.requires.0 v.n v.at v.invariant.0 c.before.before.loop-test.true).0, c.before.before.loop-test.true)
+loop-less : tie.Need-loop-at-smaller invariant-loop decreases-loop
+loop-less c = let k = c in let v = c.loop-at in
+    omega (arith, c.size_of-at.ensures, (next_size k.args.program.now k.requires.0 v.n v.at v.invariant.0 c.loop-at-test.true).0, c.loop-at-test.true)
 
-loop-again : tie.Need-loop-preserved invariant-loop decreases-loop
-loop-again c = let k = c.before.before.before.before.before.before in let v = c.before.before.before.loop in let p = k.args.program.now in let i = c.before.before.loop-test.true in (
-  subst (λ (z : ℕ). Upto p (v.n + 1) (v.at + z)) (sym c.type_size.ensures) (upto_next p k.requires.0 v.n v.at v.invariant.0 i),
+loop-again : tie.Need-loop-at-preserved invariant-loop decreases-loop
+loop-again c = let k = c in let v = c.loop-at in let p = k.args.program.now in let i = c.loop-at-test.true in (
+  subst (λ (z : ℕ). Upto p (v.n + 1) (v.at + z)) (sym c.size_of-at.ensures) (upto_next p k.requires.0 v.n v.at v.invariant.0 i),
   length-set v.work v.n v.at ∙ v.invariant.1,
   starts_next p k.requires.0 v.n v.at v.invariant.0 i v.work (omega (arith, next_entry p k.requires.0 v.n v.at v.invariant.0 i, k.requires.1, v.invariant.1)) v.invariant.2,
   past_next v.work k.args.work.now v.n v.at v.invariant.3,
 )
 
-same_length : tie.Need-same-length invariant-loop decreases-loop
-same_length c = c.before.loop.invariant.1
+same_length : tie.Need-shape_of-work invariant-loop decreases-loop
+same_length c = search rules
 
 returns : tie.Need-returns invariant-loop decreases-loop
-returns c = let k = c.before.before.before.before in let v = c.before.loop in let p = k.args.program.now in
-    let e = all_written p k.requires.0 v.n v.at v.invariant.0 c.loop-test.false in
+returns c = let k = c in let v = c.loop-at in let p = k.args.program.now in
+    let e = all_written p k.requires.0 v.n v.at v.invariant.0 c.loop-at-test.false in
     (e, starts_all p v.work k.args.work.now v.n e v.invariant.2 v.invariant.3)
 
-pub starts-spec : {M : Type 1} → statement M
-starts-spec =
+pub starts_spec : {M : Type 1} → statement M
+starts_spec =
     tie.close
     (tie.spec
-    invariant-loop
-    decreases-loop
-    loop-holds
-    cast-work
-    mul-work
-    slice-write-work
-    add-n
-    shared-slice-read-size-of
-    size-of-requires
-    add_at
-    loop-less
-    loop-again
-    same_length
-    returns)
+    invariant-loop decreases-loop loop-holds cast-work mul-work slice-write-work add-n shared-slice-read-size-of size-of-requires
+    add_at loop-less loop-again same_length returns)

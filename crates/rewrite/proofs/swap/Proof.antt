@@ -39,90 +39,75 @@ module _ (p w : List ℕ) (laid : Laid p w) (i : ℕ) where
   unfolding Left swap_no left_by
   made_left e a b = rw e (refl, (a, b))
 
-add-if1 : tie.Need-overflow-add-if1
+add-if1 : tie.Need-overflow_add-i
 add-if1 c = search rules
 
-returns : tie.Need-returns
+returns : tie.Need-returns-then-work-i
 unfolding Left
-returns c = let k = c.before.before.before.before in let p = k.args.output.now in let w = k.args.work.now in let g = k.requires.0 in let i = k.args.i in
-    none_left p w g i (pair_none (records_of p) i (omega (arith, c.if1.true, work_length p w g)))
+returns c = let k = c in let p = k.args.output.now in let w = k.args.work.now in let g = k.requires.0 in let i = k.args.i in
+    none_left p w g i (pair_none (records_of p) i (omega (arith, c.if-work-i.true, work_length p w g)))
 
 -- where the two stand
-there : (c : tie.After-pair-at) → Placed c.before.before.before.before.before.before.before.args.output.now c.pair-at.result
-there c = let k = c.before.before.before.before.before.before.before in let p = k.args.output.now in let g = k.requires.0 in
-    placed p g.sound k.args.i (pair_there p k.args.work.now g k.args.i c.before.before.before.if1.false) _ c.pair-at.ensures
+there : (c : tie.After-pair_at-there) → Placed c.args.output.now c.pair_at-there.result
+there c = let k = c in let p = k.args.output.now in let g = k.requires.0 in
+    placed p g.sound k.args.i (pair_there p k.args.work.now g k.args.i c.if-work-i.false) _ c.pair_at-there.ensures
 
-pair-at-requires : tie.Need-pair-at-requires
-pair-at-requires c κs = let k = c.before.before.before.before.before.before in (k.requires.0, pair_there k.args.output.now k.args.work.now k.requires.0 k.args.i c.before.before.if1.false)
+pair-at-requires : tie.Need-pair_at-there-requires
+pair-at-requires c κs = let k = c in (k.requires.0, pair_there k.args.output.now k.args.work.now k.requires.0 k.args.i c.if-work-i.false)
 
 tied-requires : tie.Need-tied-requires
-tied-requires c κs = let k = c.before.before.before.before.before.before.before.before.before in (k.requires.0, k.requires.1, pair_there k.args.output.now k.args.work.now k.requires.0 k.args.i c.before.before.before.before.before.if1.false, c.before.before.pair-at.ensures)
+tied-requires c κs = let k = c in (k.requires.0, k.requires.1, pair_there k.args.output.now k.args.work.now k.requires.0 k.args.i c.if-work-i.false, c.pair_at-there.ensures)
 
-same_length : tie.Need-same-length
+same_length : tie.Need-shape_of-output-then-tied
 same_length c = search rules
 
-same-length-2 : tie.Need-same-length-2
+same-length-2 : tie.Need-shape_of-work-then-tied
 same-length-2 c = search rules
 
-returns-2 : tie.Need-returns-2
+returns-2 : tie.Need-returns-then-tied
 unfolding Left
-returns-2 c = let k = c.before.before.before.before.before.before.before.before.before.before.before in let p = k.args.output.now in let w = k.args.work.now in let g = k.requires.0 in let h = pair_there p w g k.args.i c.before.before.before.before.before.before.before.if1.false in let i = k.args.i in
-    tied_left p w g i (pair_tied p g.sound i h (sym c.before.tied.ensures ∙ c.if2.true))
+returns-2 c = let k = c in let p = k.args.output.now in let w = k.args.work.now in let g = k.requires.0 in let h = pair_there p w g k.args.i c.if-work-i.false in let i = k.args.i in
+    tied_left p w g i (pair_tied p g.sound i h (sym c.tied.ensures ∙ c.if-tied.true))
 
 exchange-requires : tie.Need-exchange-requires
-exchange-requires c κs = let s = there c.before.before.before.before.before in
+exchange-requires c κs = let s = there c.before.before.before in
     (omega (arith, s.first_long), omega (arith, s.second_long), omega (arith, s.second_long, s.ends), omega (arith, s.second_long, s.short))
 
-sub-work : tie.Need-overflow-sub-work
-sub-work c = let s = there c.before.before.before.before.before.before.before.before.before in
+sub-work : tie.Need-overflow_sub-work
+sub-work c = let s = there c.before.before.before.before.before.before.before in
     omega (arith, s.second_long)
 
-add-work : tie.Need-overflow-add-work
-add-work c = let s = there c.before.before.before.before.before.before.before.before.before.before in
-    omega (arith, s.first_long, s.ends, c.before.before.before.before.before.before.before.before.before.before.before.before.before.before.before.before.before.requires.0.sound.short)
+add-work : tie.Need-overflow_add-work
+add-work c = let s = there c.before.before.before.before.before.before.before.before in
+    omega (arith, s.first_long, s.ends, c.requires.0.sound.short)
 
-cast-work : tie.Need-overflow-cast-work
-cast-work c = let s = there c.before.before.before.before.before.before.before.before.before.before in
-    omega (arith, s.first_long, s.ends, c.before.before.before.before.before.before.before.before.before.before.before.before.before.before.before.before.before.requires.0.sound.short)
+cast-work : tie.Need-overflow_cast-work
+cast-work c = let s = there c.before.before.before.before.before.before.before.before in
+    omega (arith, s.first_long, s.ends, c.requires.0.sound.short)
 
-add-work-2 : tie.Need-overflow-add-work-2
+add-work-2 : tie.Need-overflow_add-work-2
 add-work-2 c = search rules
 
-mul-work : tie.Need-overflow-mul-work
+mul-work : tie.Need-offset_bounds-work-i
 mul-work c = search rules
 
-slice-write-work : tie.Need-slice-write-work
+slice-write-work : tie.Need-bounds-work-i
 slice-write-work c = search rules
 
-same-length-3 : tie.Need-same-length-3
+same-length-3 : tie.Need-shape_of-output
 same-length-3 c = search rules
 
-same-length-4 : tie.Need-same-length-4
+same-length-4 : tie.Need-shape_of-work
 same-length-4 c = search rules
 
-returns-3 : tie.Need-returns-3
+returns-3 : tie.Need-returns
 unfolding Left
-returns-3 c = let k = c.before.before.before.before.before.before.before.before.before.before.before.before.before.before.before.before.before in let p = k.args.output.now in let w = k.args.work.now in let g = k.requires.0 in let h = pair_there p w g k.args.i c.before.before.before.before.before.before.before.before.before.before.before.before.before.if1.false in let i = k.args.i in let at = c.before.before.before.before.before.before.before.before.before.before.pair-at.ensures in
-    made_left p w g i (pair_made p g.sound i h (sym c.before.before.before.before.before.before.before.tied.ensures ∙ c.before.before.before.before.before.before.if2.false)) (c.before.before.before.before.exchange.ensures ∙ pair_bytes p g.sound i h _ at) (pair_starts p g.sound i h _ at w g)
+returns-3 c = let k = c in let p = k.args.output.now in let w = k.args.work.now in let g = k.requires.0 in let h = pair_there p w g k.args.i c.if-work-i.false in let i = k.args.i in let at = c.pair_at-there.ensures in
+    made_left p w g i (pair_made p g.sound i h (sym c.tied.ensures ∙ c.if-tied.false)) (c.exchange.ensures ∙ pair_bytes p g.sound i h _ at) (pair_starts p g.sound i h _ at w g)
 
 pub swap_spec : {M : Type 1} → statement M
 swap_spec =
     tie.close
     (tie.spec
-    add-if1
-    returns
-    pair-at-requires
-    tied-requires
-    same_length
-    same-length-2
-    returns-2
-    exchange-requires
-    sub-work
-    add-work
-    cast-work
-    add-work-2
-    mul-work
-    slice-write-work
-    same-length-3
-    same-length-4
-    returns-3)
+    add-if1 returns pair-at-requires tied-requires same_length same-length-2 returns-2 exchange-requires sub-work add-work
+    cast-work add-work-2 mul-work slice-write-work same-length-3 same-length-4 returns-3)

@@ -61,40 +61,40 @@ module _ (k : tie.Start) where
   y = record_at p (i + 1)
 
   there : Placed p k.args.there
-  there = placed p k.pre.0.sound i k.pre.2 k.args.there k.pre.3
+  there = placed p k.requires.0.sound i k.requires.2 k.args.there k.requires.3
 
   first_there : Stands p i
-  first_there = stands p k.pre.0.sound i (omega (arith, k.pre.2))
+  first_there = stands p k.requires.0.sound i (omega (arith, k.requires.2))
 
   second_there : Stands p (i + 1)
-  second_there = stands p k.pre.0.sound (i + 1) k.pre.2
+  second_there = stands p k.requires.0.sound (i + 1) k.requires.2
 
   first_start : k.args.there.first ≡ start_at p i
-  first_start = ap (λ (s : Pair). s.first) k.pre.3
+  first_start = ap (λ (s : Pair). s.first) k.requires.3
 
   second_start : k.args.there.second ≡ start_at p (i + 1)
-  second_start = ap (λ (s : Pair). s.second) k.pre.3
+  second_start = ap (λ (s : Pair). s.second) k.requires.3
 
   first_part : take (k.args.there.second - k.args.there.first) (drop k.args.there.first p) ≡ x
-  first_part = first_bytes p k.pre.0.sound i k.pre.2 k.args.there k.pre.3
+  first_part = first_bytes p k.requires.0.sound i k.requires.2 k.args.there k.requires.3
 
   second_part : take (k.args.there.end - k.args.there.second) (drop k.args.there.second p) ≡ y
-  second_part = second_bytes p k.pre.0.sound i k.pre.2 k.args.there k.pre.3
+  second_part = second_bytes p k.requires.0.sound i k.requires.2 k.args.there k.requires.3
 
 -- an outline of a record's bytes
 read : {u : Record} (b x : List ℕ) → b ≡ x → u ≡ outline_of (what b) → u ≡ outline_of (what x)
 read b x e f = f ∙ ap (λ (l : List ℕ). outline_of (what l)) e
 
 -- neither is a rack
-module _ (c : tie.Else2) where
+module _ (c : tie.Else-output-b-eq-RACK) where
   abbrev start : tie.Start
   start = c.before.before.before.before.before.before.before
 
   not_first : get_or (p start) start.args.there.first 0 ≡ RACK → ⊥
-  not_first = c.before.before.if1.false
+  not_first = c.if-output-a-eq-RACK.false
 
   not_second : get_or (p start) start.args.there.second 0 ≡ RACK → ⊥
-  not_second = c.if2.false
+  not_second = c.if-output-b-eq-RACK.false
 
   no_first : is_rack (what (x start)) ≡ false
   no_first = no_rack (p start) (i start) _ (first_there start) (first_start start) not_first
@@ -102,85 +102,85 @@ module _ (c : tie.Else2) where
   no_second : is_rack (what (y start)) ≡ false
   no_second = no_rack (p start) (i start + 1) _ (second_there start) (second_start start) not_second
 
-shared-slice-read-if1 : tie.Need-shared-slice-read-if1
+shared-slice-read-if1 : tie.Need-bounds-output-a
 shared-slice-read-if1 c = let s = there c.before.before.before.before in omega (arith, s.first_long, s.second_long, s.ends)
 
-returns : tie.Need-returns
-returns c = let k = c.before.before.before.before.before in sym (rack_first (r k) (x k) (y k) (is_rack_lem (p k) (i k) _ (first_there k) (first_start k) c.if1.true))
+returns : tie.Need-returns-then-output-a-eq-RACK
+returns c = let k = c.before.before.before.before.before in sym (rack_first (r k) (x k) (y k) (is_rack_lem (p k) (i k) _ (first_there k) (first_start k) c.if-output-a-eq-RACK.true))
 
-shared-slice-read-if2 : tie.Need-shared-slice-read-if2
+shared-slice-read-if2 : tie.Need-bounds-output-b
 shared-slice-read-if2 c = let s = there c.before.before.before.before.before.before in omega (arith, s.second_long, s.ends)
 
-returns-2 : tie.Need-returns-2
+returns-2 : tie.Need-returns-then-output-b-eq-RACK
 returns-2 c = let k = c.before.before.before.before.before.before.before in
-    sym (rack_second (r k) (x k) (y k) (no_rack (p k) (i k) _ (first_there k) (first_start k) c.before.before.if1.false) (is_rack_lem (p k) (i k + 1) _ (second_there k) (second_start k) c.if2.true))
+    sym (rack_second (r k) (x k) (y k) (no_rack (p k) (i k) _ (first_there k) (first_start k) c.if-output-a-eq-RACK.false) (is_rack_lem (p k) (i k + 1) _ (second_there k) (second_start k) c.if-output-b-eq-RACK.true))
 
-racking-at-requires : tie.Need-racking-at-requires
+racking-at-requires : tie.Need-racking_at-r-requires
 racking-at-requires c κs = let q = (start c).requires in (q.0, q.1, omega (arith, q.2))
 
-sub-outline : tie.Need-overflow-sub-outline
+sub-outline : tie.Need-slice_bounds-outline-count
 sub-outline c = omega (arith, (there (start c.before)).first_long)
 
-part-outline-start : tie.Need-slice-bounds-outline-start
+part-outline-start : tie.Need-slice_bounds-outline-start
 part-outline-start c = omega (arith, (there (start c.before)).first_long)
 
-part-outline-end : tie.Need-slice-bounds-outline-end
+part-outline-end : tie.Need-slice_bounds-outline-end
 part-outline-end c = let s = there (start c.before) in omega (arith, s.second_long, s.ends)
 
-outline-requires : tie.Need-outline-requires
+outline-requires : tie.Need-outline-x-requires
 outline-requires c κs = let b = c.before.before in let k = start b in
-    outlined (p k) (i k) _ (first_there k) (first_start k) _ (first_part k) (first_reads (p k) k.pre.0.sound (i k) k.pre.2) (not_first b)
+    outlined (p k) (i k) _ (first_there k) (first_start k) _ (first_part k) (first_reads (p k) k.requires.0.sound (i k) k.requires.2) (not_first b)
 
-sub-outline-2 : tie.Need-overflow-sub-outline-2
+sub-outline-2 : tie.Need-slice_bounds-outline-count-2
 sub-outline-2 c = omega (arith, (there (start c.before.before.before)).second_long)
 
-part-outline-start-2 : tie.Need-slice-bounds-outline-start-2
+part-outline-start-2 : tie.Need-slice_bounds-outline-start-2
 part-outline-start-2 c = omega (arith, (there (start c.before.before.before)).second_long)
 
-part-outline-end-2 : tie.Need-slice-bounds-outline-end-2
+part-outline-end-2 : tie.Need-slice_bounds-outline-end-2
 part-outline-end-2 c = omega (arith, (there (start c.before.before.before)).ends)
 
-outline-requires-2 : tie.Need-outline-requires-2
+outline-requires-2 : tie.Need-outline-y-requires
 outline-requires-2 c κs = let b = c.before.before.before.before in let k = start b in
-    outlined (p k) (i k + 1) _ (second_there k) (second_start k) _ (second_part k) (second_reads (p k) k.pre.0.sound (i k) k.pre.2) (not_second b)
+    outlined (p k) (i k + 1) _ (second_there k) (second_start k) _ (second_part k) (second_reads (p k) k.requires.0.sound (i k) k.requires.2) (not_second b)
 
-share-carrier-requires : tie.Need-share-carrier-requires
+share-carrier-requires : tie.Need-share_carrier-requires
 share-carrier-requires c κs = search rules
 
 -- what the two outlines share
-module _ (c : tie.After-share-carrier) where
-  abbrev none : tie.Else2
+module _ (c : tie.After-share_carrier) where
+  abbrev none : tie.Else-output-b-eq-RACK
   none = c.before.before.before.before.before.before
 
   abbrev begin : tie.Start
   begin = start none
 
-  first_is : c.before.before.before.outline.result ≡ outline_of (what (x begin))
-  first_is = read _ _ (first_part begin) c.before.before.before.outline.ensures
+  first_is : c.outline-x.result ≡ outline_of (what (x begin))
+  first_is = read _ _ (first_part begin) c.outline-x.ensures
 
-  second_is : c.before.outline2.result ≡ outline_of (what (y begin))
-  second_is = read _ _ (second_part begin) c.before.outline2.ensures
+  second_is : c.outline-y.result ≡ outline_of (what (y begin))
+  second_is = read _ _ (second_part begin) c.outline-y.ensures
 
-  shares : c.share-carrier.result ≡ share_carrier (what (x begin)) (what (y begin))
-  shares = c.share-carrier.ensures ∙ share_is (r begin) (what (x begin)) (what (y begin)) _ _ first_is second_is
+  shares : c.share_carrier.result ≡ share_carrier (what (x begin)) (what (y begin))
+  shares = c.share_carrier.ensures ∙ share_is (r begin) (what (x begin)) (what (y begin)) _ _ first_is second_is
 
-returns-3 : tie.Need-returns-3
+returns-3 : tie.Need-returns-then-share_carrier
 returns-3 c = let b = c.before in let k = begin b in
-    sym (one_carrier_tied (r k) (x k) (y k) (no_first (none b)) (no_second (none b)) (sym (shares b) ∙ c.if3.true))
+    sym (one_carrier_tied (r k) (x k) (y k) (no_first (none b)) (no_second (none b)) (sym (shares b) ∙ c.if-share_carrier.true))
 
 meet-requires : tie.Need-meet-requires
 meet-requires c κs = search rules
 
-returns-4 : tie.Need-returns-4
+returns-4 : tie.Need-returns
 returns-4 c = let b = c.before.before in let k = begin b in
     c.meet.ensures
-    ∙ ap (λ (q : Racking). meets (extent_of q b.before.before.before.outline.result) (extent_of q b.before.outline2.result)) b.before.before.before.before.before.racking-at.ensures
+    ∙ ap (λ (q : Racking). meets (extent_of q b.outline-x.result) (extent_of q b.outline-y.result)) b.racking_at-r.ensures
     ∙ meets_is (r k) (what (x k)) (what (y k)) _ _ (first_is b) (second_is b)
-    ∙ sym (by_extents_lem (r k) (x k) (y k) (no_first (none b)) (no_second (none b)) (sym (shares b) ∙ c.before.if3.false))
+    ∙ sym (by_extents_lem (r k) (x k) (y k) (no_first (none b)) (no_second (none b)) (sym (shares b) ∙ c.if-share_carrier.false))
 
-pub tied-spec : {M : Type 1} → statement M
-tied-spec =
+pub tied_spec : {M : Type 1} → statement M
+tied_spec =
     tie.close (tie.spec
-    shared-slice-read-if1 returns shared-slice-read-if2 returns-2 racking-at-requires sub-outline part-outline-start part-outline-end outline-requires
-    sub-outline-2 part-outline-start-2 part-outline-end-2 outline-requires-2 share-carrier-requires returns-3
-    meet-requires returns-4)
+    shared-slice-read-if1 returns shared-slice-read-if2 returns-2 racking-at-requires sub-outline part-outline-start
+    part-outline-end outline-requires sub-outline-2 part-outline-start-2 part-outline-end-2 outline-requires-2
+    share-carrier-requires returns-3 meet-requires returns-4)

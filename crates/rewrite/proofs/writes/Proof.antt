@@ -19,18 +19,18 @@ last : (n : ℕ) → 12 ≤ n → n ≤ 14 → true ≡ writes n
 unfolding writes
 last n h i = is n 12 (λ e. simp e) (λ a. is n 13 (λ e. simp e) (λ b. let e : n ≡ 14 = omega arith in simp e))
 
-returns : tie.Need-returns
+returns : tie.Need-returns-in-0
 unfolding writes
-returns c = simp c.match.keys1
+returns c = simp c.in-0.is
 
-returns-2 : tie.Need-returns-2
-returns-2 c = last c.before.before.before.args.number (omega (arith, c.before.if1.false)) (omega (arith, c.if2.true))
+returns-2 : tie.Need-returns-in-12
+returns-2 c = last c.args.number (omega (arith, c.in-12.if-number-lt12-own.false)) (omega (arith, c.in-12.if-number-lt15-own.true))
 
-returns-3 : tie.Need-returns-3
-returns-3 c = let n = c.before.before.args.number in let h = c.if1.true in let z = c.before.match.rest in other n (λ e. omega arith) (λ e. omega arith) (λ e. omega arith) (λ e. omega arith)
+returns-3 : tie.Need-returns-in_default
+returns-3 c = let n = c.args.number in let h = c.in_default.if-number-lt12-own.true in let z = c.in_default.in_default-own.rest in other n (λ e. omega arith) (λ e. omega arith) (λ e. omega arith) (λ e. omega arith)
 
-returns-4 : tie.Need-returns-4
-returns-4 c = let n = c.before.before.before.args.number in let h = c.if2.false in other n (λ e. omega arith) (λ e. omega arith) (λ e. omega arith) (λ e. omega arith)
+returns-4 : tie.Need-returns-in_default-2
+returns-4 c = let n = c.args.number in let h = c.in_default.if-number-lt15-own.false in other n (λ e. omega arith) (λ e. omega arith) (λ e. omega arith) (λ e. omega arith)
 
 pub writes_spec : {M : Type 1} → statement M
 writes_spec = tie.close (tie.spec returns returns-2 returns-3 returns-4)

@@ -5,16 +5,16 @@ use Rattle.run.specs.Run.{answer_limit}
 use Rattle.run.proofs.answer_limit.Statement.{statement}
 use Rattle.run.proofs.answer_limit.Tie as tie
 
-has-limit-requires : tie.Need-has-limit-requires
+has-limit-requires : tie.Need-has_limit-requires
 has-limit-requires c κs = search rules
 
-returns : tie.Need-returns
+returns : tie.Need-returns-then-has_limit
 unfolding answer_limit
-returns c = simp (sym c.before.has-limit.ensures ∙ c.if1.true)
+returns c = simp (sym c.has_limit.ensures ∙ c.if-has_limit.true)
 
-returns-2 : tie.Need-returns-2
+returns-2 : tie.Need-returns-else-has_limit
 unfolding answer_limit
-returns-2 c = simp (sym c.before.has-limit.ensures ∙ c.if1.false)
+returns-2 c = simp (sym c.has_limit.ensures ∙ c.if-has_limit.false)
 
 pub answer_limit_spec : {M : Type 1} → statement M
 answer_limit_spec = tie.close (tie.spec has-limit-requires returns returns-2)

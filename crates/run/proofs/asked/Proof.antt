@@ -59,35 +59,35 @@ parked-requires c κs = search rules
 entry-requires : tie.Need-entry-requires
 entry-requires c κs = search rules
 
-parked-requires-2 : tie.Need-parked-requires-2
+parked-requires-2 : tie.Need-parked-requires-in-6
 parked-requires-2 c κs = search rules
 
 ready-requires : tie.Need-ready-requires
 ready-requires c κs = search rules
 
-returns : tie.Need-returns
-returns c = let b = c.before.before.before in sym (of_in b c.before.before.match.keys1 ∙ in_zero b.args.r b.args.c c.if1.true)
+returns : tie.Need-returns-then-c-eq0
+returns c = let b = c.before.before.before in sym (of_in b c.in-4.is ∙ in_zero b.args.r b.args.c c.if-c-eq0.true)
 
-returns-2 : tie.Need-returns-2
-returns-2 c = let b = c.before.before.before in sym (of_in b c.before.before.match.keys1 ∙ in_six b.args.r b.args.c c.if1.false)
+returns-2 : tie.Need-returns-else-c-eq0
+returns-2 c = let b = c.before.before.before in sym (of_in b c.in-4.is ∙ in_six b.args.r b.args.c c.if-c-eq0.false)
 
-returns-3 : tie.Need-returns-3
-returns-3 c = c.parked.ensures ∙ of_out c.before.before.before c.before.before.match.keys2 c.before.exit.ensures
+returns-3 : tie.Need-returns-in-5
+returns-3 c = c.parked.ensures ∙ of_out c.before.before.before c.in-5.is c.exit.ensures
 
-returns-4 : tie.Need-returns-4
-returns-4 c = c.parked2.ensures ∙ of_miss c.before.before.before c.before.before.match.keys3 c.before.entry.ensures
+returns-4 : tie.Need-returns-in-6
+returns-4 c = c.parked-in-6.ensures ∙ of_miss c.before.before.before c.in-6.is c.entry.ensures
 
-returns-5 : tie.Need-returns-5
-returns-5 c = c.ready.ensures ∙ sym (of_rest c.before.before.before.before (omega (arith, c.before.before.if2.false)) (omega (arith, c.before.if3.true)))
+returns-5 : tie.Need-returns-in-7-to-11
+returns-5 c = c.ready.ensures ∙ sym (of_rest c.before.before (omega (arith, c.in-7-to-11.if-kind-lt4-own.false)) (omega (arith, c.in-7-to-11.if-kind-lt12-own.true)))
 
-returns-6 : tie.Need-returns-6
-returns-6 c = let no = c.before.match.rest in sym (of_none c.before.before no.0.0.1 no.0.1 no.1 (λ h j. omega (arith, c.if2.true)))
+returns-6 : tie.Need-returns-in_default
+returns-6 c = let no = c.in_default.in_default-own.rest in sym (of_none c.before no.0.0.1 no.0.1 no.1 (λ h j. omega (arith, c.in_default.if-kind-lt4-own.true)))
 
-returns-7 : tie.Need-returns-7
-returns-7 c = let no = c.before.before.match.rest in sym (of_none c.before.before.before no.0.0.1 no.0.1 no.1 (λ h j. omega (arith, c.if3.false)))
+returns-7 : tie.Need-returns-in_default-2
+returns-7 c = let no = c.in_default.in_default-own.rest in sym (of_none c.before no.0.0.1 no.0.1 no.1 (λ h j. omega (arith, c.in_default.if-kind-lt12-own.false)))
 
-pub asked-spec : {M : Type 1} → statement M
-asked-spec =
+pub asked_spec : {M : Type 1} → statement M
+asked_spec =
     tie.close (tie.spec
     exit-requires parked-requires entry-requires parked-requires-2 ready-requires returns returns-2 returns-3 returns-4 returns-5 returns-6
     returns-7)

@@ -77,38 +77,38 @@ module _ (r : Racking) (c d : Carrier) (y : Slot) (z : Column) where
           end q = is (reach c) 0 (λ o. or_next _ _ o ∙ q ∙ sym o) (λ o. or_first _ _ o)
 
 -- what `parked` answered of the first, as a look has it
-parks : (b : tie.After-parked) → let a = b.before.before.before.before.args in
-    b.parked.result ≡ parked_no (look_of a.r a.c).active (look_of a.r a.c).slot (entry_of (column_of a.n a.r) a.right)
-parks b = let a = b.before.before.before.before.args in
-    b.parked.ensures ∙ parked_seen a.r a.c b.before.entry.result ∙ ap (λ (y : Slot). parked_no (look_of a.r a.c).active (look_of a.r a.c).slot y) b.before.entry.ensures
+parks : (b : tie.After-parked-number) → let a = b.args in
+    b.parked-number.result ≡ parked_no (look_of a.r a.c).active (look_of a.r a.c).slot (entry_of (column_of a.n a.r) a.right)
+parks b = let a = b.args in
+    b.parked-number.ensures ∙ parked_seen a.r a.c b.entry.result ∙ ap (λ (y : Slot). parked_no (look_of a.r a.c).active (look_of a.r a.c).slot y) b.entry.ensures
 
-returns : tie.Need-returns
-returns c = let a = c.before.before.args in second_off a.r a.c a.d (entry_of (column_of a.n a.r) a.right) (column_of a.n a.r) c.if1.true
+returns : tie.Need-returns-then-d-eq0
+returns c = let a = c.args in second_off a.r a.c a.d (entry_of (column_of a.n a.r) a.right) (column_of a.n a.r) c.if-d-eq0.true
 
 entry-requires : tie.Need-entry-requires
 entry-requires c κs = search rules
 
-parked-requires : tie.Need-parked-requires
+parked-requires : tie.Need-parked-number-requires
 parked-requires c κs = search rules
 
-returns-2 : tie.Need-returns-2
-returns-2 c = let b = c.before in let i = b.before.before in let a = i.before.before.args in
-    first_unparked a.r a.c a.d (entry_of (column_of a.n a.r) a.right) (column_of a.n a.r) i.if1.false _ (parks b) c.if2.true
+returns-2 : tie.Need-returns-then-number-ne0
+returns-2 c = let b = c.before in let i = b in let a = i.args in
+    first_unparked a.r a.c a.d (entry_of (column_of a.n a.r) a.right) (column_of a.n a.r) i.if-d-eq0.false _ (parks b) c.if-number-ne0.true
 
-ready-requires : tie.Need-ready-requires
+ready-requires : tie.Need-ready-number-requires
 ready-requires c κs = search rules
 
-returns-3 : tie.Need-returns-3
-returns-3 c = let g = c.before in let b = g.before.before in let i = b.before.before in let a = i.before.before.args in
-    second_unready a.r a.c a.d (entry_of (column_of a.n a.r) a.right) (column_of a.n a.r) i.if1.false (sym (parks b) ∙ g.before.if2.false) _ g.ready.ensures c.if3.true
+returns-3 : tie.Need-returns-then-number-ne0-2
+returns-3 c = let g = c in let b = g.before.before.before in let i = b in let a = i.args in
+    second_unready a.r a.c a.d (entry_of (column_of a.n a.r) a.right) (column_of a.n a.r) i.if-d-eq0.false (sym (parks b) ∙ g.if-number-ne0.false) _ g.ready-number.ensures c.if-number-ne0-2.true
 
 float-requires : tie.Need-float-requires
 float-requires c κs = search rules
 
-returns-4 : tie.Need-returns-4
-returns-4 c = let g = c.before.before in let b = g.before.before in let i = b.before.before in let a = i.before.before.args in
-    first_last a.r a.c a.d (entry_of (column_of a.n a.r) a.right) (column_of a.n a.r) i.if1.false (sym (parks b) ∙ g.before.if2.false) _ _ c.float.ensures g.ready.ensures c.before.if3.false
+returns-4 : tie.Need-returns
+returns-4 c = let g = c in let b = g.before.before.before.before in let i = b in let a = i.args in
+    first_last a.r a.c a.d (entry_of (column_of a.n a.r) a.right) (column_of a.n a.r) i.if-d-eq0.false (sym (parks b) ∙ g.if-number-ne0.false) _ _ c.float.ensures g.ready-number.ensures c.if-number-ne0-2.false
 
-pub both-ready-spec : {M : Type 1} → statement M
-both-ready-spec =
+pub both_ready_spec : {M : Type 1} → statement M
+both_ready_spec =
     tie.close (tie.spec returns entry-requires parked-requires returns-2 ready-requires returns-3 float-requires returns-4)

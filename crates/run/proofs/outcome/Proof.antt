@@ -7,17 +7,17 @@ use Rattle.run.specs.Run.{answer_of, run_of}
 use Rattle.run.proofs.outcome.Statement.{statement}
 use Rattle.run.proofs.outcome.Tie as tie
 
-from-empty-requires : tie.Need-from-empty-requires
+from-empty-requires : tie.Need-from_empty-a-requires
 from-empty-requires c κs = search rules
 
-end-at-requires : tie.Need-end-at-requires
+end-at-requires : tie.Need-end_at-requires
 end-at-requires c κs = search rules
 
 returns : tie.Need-returns
 unfolding run_of answer_of
 returns c = (
-  ap (λ (e : Ended). e.number) c.end-at.ensures ∙ ap (λ (r : Reached). r.number) c.before.from_empty.ensures,
-  ap (λ (e : Ended). e.place) c.end-at.ensures ∙ ap (λ (r : Reached). r.place) c.before.from_empty.ensures,
+  ap (λ (e : Ended). e.number) c.end_at.ensures ∙ ap (λ (r : Reached). r.number) c.from_empty-a.ensures,
+  ap (λ (e : Ended). e.place) c.end_at.ensures ∙ ap (λ (r : Reached). r.place) c.from_empty-a.ensures,
 )
 
 pub outcome_spec : {M : Type 1} → statement M

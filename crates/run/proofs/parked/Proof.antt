@@ -30,16 +30,16 @@ module _ (d : Carrier) (z : Slot) where
     unfolding parked_no
     elsewhere e = simp (ne_eqb _ _ a, e)
 
-returns : tie.Need-returns
-returns c = let a = c.before.before.args in off a.c a.z c.if1.true
+returns : tie.Need-returns-then-c-eq0
+returns c = let a = c.args in off a.c a.z c.if-c-eq0.true
 
-returns-2 : tie.Need-returns-2
-returns-2 c = let w = c.before.before.before in let b = w.before.before.before in let a = b.before.before.args in
-    here a.c a.z b.if1.false (is_bits w16 _ _ w.struct_told.given.0.1 c.before.struct-told2.given.0.1 c.if2.true)
+returns-2 : tie.Need-returns-then-here-z
+returns-2 c = let w = c in let b = w in let a = b.args in
+    here a.c a.z b.if-c-eq0.false (is_bits w16 _ _ w.struct_told-1.given.0.1 c.struct_told-2-1.given.0.1 c.if-here-z.true)
 
-returns-3 : tie.Need-returns-3
-returns-3 c = let w = c.before.before.before in let b = w.before.before.before in let a = b.before.before.args in
-    elsewhere a.c a.z b.if1.false (not_bits w16 _ _ w.struct_told.given.0.1 c.before.struct-told2.given.0.1 c.if2.false)
+returns-3 : tie.Need-returns-else-here-z
+returns-3 c = let w = c in let b = w in let a = b.args in
+    elsewhere a.c a.z b.if-c-eq0.false (not_bits w16 _ _ w.struct_told-1.given.0.1 c.struct_told-2-1.given.0.1 c.if-here-z.false)
 
 pub parked_spec : {M : Type 1} → statement M
 parked_spec = tie.close (tie.spec returns returns-2 returns-3)

@@ -10,25 +10,25 @@ use Rattle.run.proofs.ready.Statement.{statement}
 use Rattle.run.proofs.ready.Tie as tie
 
 -- what `parked` answered, as a look has it
-parks : (b : tie.After-parked) → let a = b.before.before.args in
-    b.parked.result ≡ parked_no (look_of a.r a.c).active (look_of a.r a.c).slot (entry_of (column_of a.n a.r) a.right)
-parks b = let a = b.before.before.args in
-    b.parked.ensures ∙ parked_seen a.r a.c b.before.entry.result ∙ ap (λ (z : Slot). parked_no (look_of a.r a.c).active (look_of a.r a.c).slot z) b.before.entry.ensures
+parks : (b : tie.After-parked-number) → let a = b.args in
+    b.parked-number.result ≡ parked_no (look_of a.r a.c).active (look_of a.r a.c).slot (entry_of (column_of a.n a.r) a.right)
+parks b = let a = b.args in
+    b.parked-number.ensures ∙ parked_seen a.r a.c b.entry.result ∙ ap (λ (z : Slot). parked_no (look_of a.r a.c).active (look_of a.r a.c).slot z) b.entry.ensures
 
 entry-requires : tie.Need-entry-requires
 entry-requires c κs = search rules
 
-parked-requires : tie.Need-parked-requires
+parked-requires : tie.Need-parked-number-requires
 parked-requires c κs = search rules
 
-returns : tie.Need-returns
-returns c = simp (← parks c.before, ne_eqb _ 0 c.if1.true)
+returns : tie.Need-returns-then-number-ne0
+returns c = simp (← parks c.before, ne_eqb _ 0 c.if-number-ne0.true)
 
 float-requires : tie.Need-float-requires
 float-requires c κs = search rules
 
-returns-2 : tie.Need-returns-2
-returns-2 c = simp (← parks c.before.before, eq-eqb _ 0 c.before.if1.false) c.float.ensures
+returns-2 : tie.Need-returns
+returns-2 c = simp (← parks c.before.before, eq-eqb _ 0 c.if-number-ne0.false) c.float.ensures
 
 pub ready_spec : {M : Type 1} → statement M
 ready_spec = tie.close (tie.spec entry-requires parked-requires returns float-requires returns-2)

@@ -6,10 +6,10 @@ use Rattle.run.specs.Run.{reached, answer_of}
 use Rattle.run.proofs.refused.Statement.{statement}
 use Rattle.run.proofs.refused.Tie as tie
 
-answer-limit-requires : tie.Need-answer-limit-requires
+answer-limit-requires : tie.Need-answer_limit-requires
 answer-limit-requires c κs = search rules
 
-empty-requires : tie.Need-empty-requires
+empty-requires : tie.Need-empty-state-requires
 empty-requires c κs = search rules
 
 stop-requires : tie.Need-stop-requires
@@ -19,8 +19,8 @@ answered-requires : tie.Need-answered-requires
 answered-requires c κs = search rules
 
 returns : tie.Need-returns
-returns c = let d = c.before.before in
-    c.answered.ensures ∙ ap answer_of (c.before.stop.ensures ∙ ap (reached d.before.before.args.number 0) (d.empty.ensures ∙ ap empty_state d.before.answer_limit_lem.ensures))
+returns c = let d = c in
+    c.answered.ensures ∙ ap answer_of (c.stop.ensures ∙ ap (reached d.args.number 0) (d.empty-state.ensures ∙ ap empty_state d.answer_limit.ensures))
 
 pub refused_spec : {M : Type 1} → statement M
 refused_spec = tie.close (tie.spec answer-limit-requires empty-requires stop-requires answered-requires returns)

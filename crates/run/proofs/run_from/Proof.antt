@@ -28,13 +28,14 @@ use Rattle.run.proofs.Turns.{Turn, ended, turned, refused, in_range, sized, stop
 use Rattle.run.proofs.Arms.{Made, transfer_kept, unmoved, rack_stopped, rack_made, drop_made, xfer_stopped, xfer_made, in_out_stopped, in_out_made, miss_stopped, miss_made}
 use Rattle.run.proofs.Arms.{form_kept, loop_unready, loop_stopped, loop_made, split_unready, split_stopped, split_made, plated_twice, plated_unready, plated_stopped, plated_made}
 use Rattle.run.proofs.run_from.Statement.{statement}
+use Rattle.run.proofs.run_from.Lts.{else-r-z-via-then-r-z+then-any_back+else-any_stretched, else-r-z-via-then-r-z+else-any_back, else-r-z-via-else-r-z, then-any_beside-2, else-any_beside-2}
 use Rattle.run.proofs.run_from.Tie as tie
 
-abbrev invariant-loop : tie.invariant-loop
+abbrev invariant-loop : tie.invariant-loop-at
 invariant-loop loops₀ limit program r₀ cs₀ at₀ loops r cs at =
     (at ≤ length program) × (run_from 0 program 0 (state_with r₀ loops₀ limit cs₀) ≡ run_from 0 (drop at program) at (state_with r loops limit cs))
 
-abbrev decreases-loop : tie.decreases-loop
+abbrev decreases-loop : tie.decreases-loop-at
 decreases-loop loops₀ limit program r₀ cs₀ at₀ loops r cs at = length program - at
 
 -- where the loop halts, the run has stopped
@@ -43,44 +44,44 @@ ends : {h : Halted} {n at : ℕ} {r : Racking} {cs : List Carrier} {l : List ℕ
 ends {l = l} {limit = limit} e f = ap (λ (h : Halted). halted h l limit) e ∙ f
 
 -- what is known once a record is decoded: the program, the place, the state, the record
-module _ (b : tie.Else1 invariant-loop decreases-loop) where
+module _ (b : tie.Else-d-ne0 invariant-loop decreases-loop) where
   abbrev s₀ : State
-  s₀ = let a = b.before.before.before.before.before.before.before.args in state_with a.racking a.loops.now a.limit a.carriers
+  s₀ = let a = b.args in state_with a.racking a.loops.now a.limit a.carriers
 
   abbrev p : List ℕ
-  p = b.before.before.before.before.before.before.before.args.program.now
+  p = b.args.program.now
 
   abbrev place : ℕ
-  place = b.before.before.before.before.before.loop.at
+  place = b.loop-at.at
 
   abbrev s : State
-  s = let a = b.before.before.before.before.before.loop in state_with a.r a.loops b.before.before.before.before.before.before.before.args.limit a.cs
+  s = let a = b.loop-at in state_with a.r a.loops b.args.limit a.cs
 
   abbrev d : Decoded
-  d = b.before.before.decode.result
+  d = b.decode-d.result
 
   abbrev x : Record
   x = d.what
 
   here : Turn s₀ p place s d
-  here = turned b.before.before.before.before.loop-test.taken b.before.before.before.before.before.loop.inv.1 b.before.before.decode.ensures
+  here = turned b.loop-at-test.true b.loop-at.invariant.1 b.decode-d.ensures
 
   known : InRange x
-  known = in_range here b.if1.left
+  known = in_range here b.if-d-ne0.false
 
   size : (0 < d.size) × (d.size ≤ length p - place)
-  size = sized here b.if1.left
+  size = sized here b.if-d-ne0.false
 
   -- a record that is refused, and one that has its step
   stop : {n : ℕ} → n ≡ number_at s x → (n ≡ 0 → ⊥) → reached n place s ≡ run_from 0 p 0 s₀
-  stop e h = stopped here b.if1.left _ e h
+  stop e h = stopped here b.if-d-ne0.false _ e h
 
   on : {u : State} → Made s x u → (place + d.size ≤ length p) × (run_from 0 p 0 s₀ ≡ run_from 0 (drop (place + d.size) p) (place + d.size) u)
-  on m = (omega (arith, size.1, b.before.before.before.before.loop-test.taken), goes here b.if1.left _ m.0 m.1)
+  on m = (omega (arith, size.1, b.loop-at-test.true), goes here b.if-d-ne0.false _ m.0 m.1)
 
   -- what is left gets shorter
   less : length p - (place + d.size) < length p - place
-  less = omega (arith, size.0, size.1, b.before.before.before.before.loop-test.taken)
+  less = omega (arith, size.0, size.1, b.loop-at-test.true)
 
   -- the carrier of a kind that has one is one of the ten
   abbrev Carried : Type 0
@@ -89,51 +90,51 @@ module _ (b : tie.Else1 invariant-loop decreases-loop) where
   carried : IN ≤ x.kind → Carried
   carried h = (known.carrier_low (carrying known.known h), known.carrier_high)
 
-miss-carrier : (m : tie.At-match-keys4 invariant-loop decreases-loop) → Carried m.before.before.before.before
-miss-carrier m = carried m.before.before.before.before (omega (arith, m.match.keys4))
+miss-carrier : (m : tie.In-6 invariant-loop decreases-loop) → Carried m.before.before.before.before
+miss-carrier m = carried m.before.before.before.before (omega (arith, m.in-6.is))
 
-split-carrier : (m : tie.At-match-keys5 invariant-loop decreases-loop) → Carried m.before.before.before.before
-split-carrier m = carried m.before.before.before.before (omega (arith, m.match.keys5))
+split-carrier : (m : tie.In-9 invariant-loop decreases-loop) → Carried m.before.before.before.before
+split-carrier m = carried m.before.before.before.before (omega (arith, m.in-9.is))
 
 -- the arm of in and out
-module _ (t : tie.Then12 invariant-loop decreases-loop) where
-  abbrev in_out : tie.Else1 invariant-loop decreases-loop
-  in_out = t.before.before.before.before.before.before
+module _ (t : tie.In-4-to-5 invariant-loop decreases-loop) where
+  abbrev in_out : tie.Else-d-ne0 invariant-loop decreases-loop
+  in_out = t.before.before.before.before
 
   in_out_low : IN ≤ (x in_out).kind
-  in_out_low = let no = t.before.before.match.rest in
+  in_out_low = let no = t.in-4-to-5.in_default-own.rest in
       above_bare (x in_out).kind (known_least (known in_out).known) no.0.0.0.0.1 no.0.0.0.1 no.0.0.1
 
   in_out_high : (x in_out).kind ≤ OUT
-  in_out_high = omega (arith, t.if12.taken, t.before.before.match.rest.0.1)
+  in_out_high = omega (arith, t.in-4-to-5.if-kind-lt6-own.true, t.in-4-to-5.in_default-own.rest.0.1)
 
   in_out_carrier : Carried in_out
   in_out_carrier = carried in_out in_out_low
 
 -- the arm of tuck and knit
-module _ (t : tie.Then14 invariant-loop decreases-loop) where
-  abbrev loop : tie.Else1 invariant-loop decreases-loop
-  loop = t.before.before.before.before.before.before.before
+module _ (t : tie.In-7-to-8 invariant-loop decreases-loop) where
+  abbrev loop : tie.Else-d-ne0 invariant-loop decreases-loop
+  loop = t.before.before.before.before
 
   loop_low : TUCK ≤ (x loop).kind
-  loop_low = omega (arith, t.before.if12.left, t.before.before.before.match.rest.0.1)
+  loop_low = omega (arith, t.in-7-to-8.if-kind-lt6-own.false, t.in-7-to-8.in_default-own.rest.0.1)
 
   loop_high : (x loop).kind ≤ KNIT
-  loop_high = omega (arith, t.if14.taken, t.before.before.before.match.rest.1)
+  loop_high = omega (arith, t.in-7-to-8.if-kind-lt9-own.true, t.in-7-to-8.in_default-own.rest.1)
 
   loop_carrier : Carried loop
   loop_carrier = carried loop (omega (arith, loop_low))
 
 -- the arm of the plated stitches
-module _ (t : tie.Then17 invariant-loop decreases-loop) where
-  abbrev plate : tie.Else1 invariant-loop decreases-loop
-  plate = t.before.before.before.before.before.before.before.before
+module _ (t : tie.In-10-to-11 invariant-loop decreases-loop) where
+  abbrev plate : tie.Else-d-ne0 invariant-loop decreases-loop
+  plate = t.before.before.before.before
 
   plate_low : PLATED_TUCK ≤ (x plate).kind
-  plate_low = omega (arith, t.before.if14.left, t.before.before.before.before.match.rest.1)
+  plate_low = omega (arith, t.in-10-to-11.if-kind-lt9-own.false, t.in-10-to-11.in_default-own.rest.1)
 
   plate_high : (x plate).kind ≤ PLATED_KNIT
-  plate_high = omega (arith, t.if17.taken)
+  plate_high = omega (arith, t.in-10-to-11.if-kind-lt12-own.true)
 
   plate_first : Carried plate
   plate_first = carried plate (omega (arith, plate_low))
@@ -143,366 +144,371 @@ module _ (t : tie.Then17 invariant-loop decreases-loop) where
 
 -- below, t is where an arm begins and b where its record has been decoded
 
-loop-holds : tie.Need-loop-init invariant-loop decreases-loop
+loop-holds : tie.Need-loop-at-init invariant-loop decreases-loop
 loop-holds c = (search rules, refl)
 
-sub-decode : tie.Need-overflow-sub-decode invariant-loop decreases-loop
+sub-decode : tie.Need-slice_bounds-decode-count invariant-loop decreases-loop
 sub-decode c = search rules
 
-part-decode-start : tie.Need-slice-bounds-decode-start invariant-loop decreases-loop
+part-decode-start : tie.Need-slice_bounds-decode-start invariant-loop decreases-loop
 part-decode-start c = search rules
 
-part-decode-end : tie.Need-slice-bounds-decode-end invariant-loop decreases-loop
+part-decode-end : tie.Need-slice_bounds-decode-end invariant-loop decreases-loop
 part-decode-end c = search rules
 
-decode-requires : tie.Need-decode-requires invariant-loop decreases-loop
+decode-requires : tie.Need-decode-d-requires invariant-loop decreases-loop
 decode-requires c κs = search rules
 
 halt-requires : tie.Need-halt-requires invariant-loop decreases-loop
 halt-requires c κs = search rules
 
-returns : tie.Need-returns invariant-loop decreases-loop
-returns c = ends c.halt.ensures (refused (turned c.before.before.before.before.before.loop-test.true c.before.before.before.before.before.before.loop.invariant.1 c.before.before.before.decode.ensures) c.before.if1.true)
+returns : tie.Need-returns-then-d-ne0 invariant-loop decreases-loop
+returns c = ends c.halt.ensures (refused (turned c.loop-at-test.true c.loop-at.invariant.1 c.decode-d.ensures) c.if-d-ne0.true)
 
-add-next : tie.Need-overflow-add-next invariant-loop decreases-loop
-add-next c = let z = size c.before in omega (arith, z.1, c.before.before.before.before.before.loop-test.true, c.before.before.before.before.before.before.before.before.well-formed)
+add-next : tie.Need-overflow_add-next invariant-loop decreases-loop
+add-next c = let z = size c.before in omega (arith, z.1, c.loop-at-test.true)
 
-any-back-requires : tie.Need-any-back-requires invariant-loop decreases-loop
+any-back-requires : tie.Need-any_back-requires invariant-loop decreases-loop
 any-back-requires c κs = search rules
 
-any-stretched-requires : tie.Need-any-stretched-requires invariant-loop decreases-loop
+any-stretched-requires : tie.Need-any_stretched-requires invariant-loop decreases-loop
 any-stretched-requires c κs = search rules
 
-halt-requires-2 : tie.Need-halt-requires-2 invariant-loop decreases-loop
+halt-requires-2 : tie.Need-halt-requires-then-any_stretched invariant-loop decreases-loop
 halt-requires-2 c κs = search rules
 
-returns-2 : tie.Need-returns-2 invariant-loop decreases-loop
+returns-2 : tie.Need-returns-then-any_stretched invariant-loop decreases-loop
 returns-2 c = let b = c.before.before.before.before.before.before.before.before.before.before.before.before.before.before.before in
-    ends c.halt2.ensures (stop b (rack_stopped (s b) (x b) c.before.before.before.before.before.before.before.before.before.before.before.match.keys1 (sym c.before.before.any-stretched.ensures ∙ c.before.if4.true)) (λ z. omega arith))
+    ends c.halt-then-any_stretched.ensures (stop b (rack_stopped (s b) (x b) c.in-1.is (sym c.any_stretched.ensures ∙ c.if-any_stretched.true)) (λ z. omega arith))
 
 put-requires : tie.Need-put-requires invariant-loop decreases-loop
 put-requires c κs = (known c.before.before.before.before.before).at_bed
 
-transfer-requires : tie.Need-transfer-requires invariant-loop decreases-loop
+transfer-requires : tie.Need-transfer-number-requires invariant-loop decreases-loop
 transfer-requires c κs = let b = c.before.before.before.before.before.before in ((known b).at_bed, (known b).to_bed)
 
-halt-requires-3 : tie.Need-halt-requires-3 invariant-loop decreases-loop
+halt-requires-3 : tie.Need-halt-requires-then-number-ne0 invariant-loop decreases-loop
 halt-requires-3 c κs = search rules
 
-returns-3 : tie.Need-returns-3 invariant-loop decreases-loop
-returns-3 c = let b = c.before.before.before.before.before.before.before.before.before in let told = c.before.before.transfer.ensures in
-    ends c.halt3.ensures (simp (told.1, transfer_kept (s b).limit (s b).loops (x b).at (x b).to (s b).racking 0 _ told.0 c.before.if5.true) (stop b (xfer_stopped (s b) (x b) c.before.before.before.before.before.match.keys3 _ told.0) c.before.if5.true))
+returns-3 : tie.Need-returns-then-number-ne0 invariant-loop decreases-loop
+returns-3 c = let b = c.before.before.before.before.before.before.before.before.before in let told = c.transfer-number.ensures in
+    ends c.halt-then-number-ne0.ensures (simp (told.1, transfer_kept (s b).limit (s b).loops (x b).at (x b).to (s b).racking 0 _ told.0 c.if-number-ne0.true) (stop b (xfer_stopped (s b) (x b) c.in-3.is _ told.0) c.if-number-ne0.true))
 
-any-beside-requires : tie.Need-any-beside-requires invariant-loop decreases-loop
+any-beside-requires : tie.Need-any_beside-requires invariant-loop decreases-loop
 any-beside-requires c κs = search rules
 
-attachments-moved-requires : tie.Need-attachments-moved-requires invariant-loop decreases-loop
+attachments-moved-requires : tie.Need-attachments_moved-cs-requires invariant-loop decreases-loop
 attachments-moved-requires c κs = search rules
 
-cast-k : tie.Need-overflow-cast-k invariant-loop decreases-loop
+cast-k : tie.Need-overflow_cast-k invariant-loop decreases-loop
 cast-k c = search rules
 
-sub-k : tie.Need-overflow-sub-k invariant-loop decreases-loop
+sub-k : tie.Need-overflow_sub-k invariant-loop decreases-loop
 sub-k c = omega (arith, miss-carrier c.before)
 
-mul-c : tie.Need-overflow-mul-c invariant-loop decreases-loop
+mul-c : tie.Need-offset_bounds-cs-k invariant-loop decreases-loop
 mul-c c = omega (arith, miss-carrier c.before)
 
-array-copy-out-c : tie.Need-array-copy-out-c invariant-loop decreases-loop
+array-copy-out-c : tie.Need-bounds-cs-k invariant-loop decreases-loop
 array-copy-out-c c = omega (arith, miss-carrier c.before)
 
-asked-requires : tie.Need-asked-requires invariant-loop decreases-loop
+asked-requires : tie.Need-asked-number-requires invariant-loop decreases-loop
 asked-requires c κs = (known c.before.before.before.before.before.before).at_bed
 
-halt-requires-4 : tie.Need-halt-requires-4 invariant-loop decreases-loop
+halt-requires-4 : tie.Need-halt-requires-then-number-ne0-2 invariant-loop decreases-loop
 halt-requires-4 c κs = search rules
 
-returns-4 : tie.Need-returns-4 invariant-loop decreases-loop
+returns-4 : tie.Need-returns-then-number-ne0-2 invariant-loop decreases-loop
 returns-4 c = let b = c.before.before.before.before.before.before.before.before.before in
-    ends c.halt4.ensures (stop b (miss_stopped (s b) (x b) _ c.before.before.asked.ensures c.before.before.before.before.before.match.keys4) c.before.if7.true)
+    ends c.halt-then-number-ne0-2.ensures (stop b (miss_stopped (s b) (x b) _ c.asked-number.ensures c.in-6.is) c.if-number-ne0-2.true)
 
-pass-requires : tie.Need-pass-requires invariant-loop decreases-loop
+pass-requires : tie.Need-pass-then-requires invariant-loop decreases-loop
 pass-requires c κs = (known c.before.before.before.before.before.before.before.before).at_bed
 
-mul-cs : tie.Need-overflow-mul-cs invariant-loop decreases-loop
+mul-cs : tie.Need-offset_bounds-cs-k-in-6 invariant-loop decreases-loop
 mul-cs c = omega (arith, miss-carrier c.before.before.before.before.before)
 
-array-set-from-cs : tie.Need-array-set-from-cs invariant-loop decreases-loop
+array-set-from-cs : tie.Need-bounds-cs-k-in-6 invariant-loop decreases-loop
 array-set-from-cs c = omega (arith, miss-carrier c.before.before.before.before.before)
 
-cast-k-2 : tie.Need-overflow-cast-k-2 invariant-loop decreases-loop
+cast-k-2 : tie.Need-overflow_cast-k-in-9 invariant-loop decreases-loop
 cast-k-2 c = search rules
 
-sub-k-2 : tie.Need-overflow-sub-k-2 invariant-loop decreases-loop
+sub-k-2 : tie.Need-overflow_sub-k-in-9 invariant-loop decreases-loop
 sub-k-2 c = omega (arith, split-carrier c.before.before)
 
-mul-c-2 : tie.Need-overflow-mul-c-2 invariant-loop decreases-loop
+mul-c-2 : tie.Need-offset_bounds-cs-k-in-9 invariant-loop decreases-loop
 mul-c-2 c = omega (arith, split-carrier c.before.before)
 
-array-copy-out-c-2 : tie.Need-array-copy-out-c-2 invariant-loop decreases-loop
+array-copy-out-c-2 : tie.Need-bounds-cs-k-in-9 invariant-loop decreases-loop
 array-copy-out-c-2 c = omega (arith, split-carrier c.before.before)
 
-asked-requires-2 : tie.Need-asked-requires-2 invariant-loop decreases-loop
+asked-requires-2 : tie.Need-asked-number-requires-in-9 invariant-loop decreases-loop
 asked-requires-2 c κs = (known c.before.before.before.before.before.before.before).at_bed
 
-halt-requires-5 : tie.Need-halt-requires-5 invariant-loop decreases-loop
+halt-requires-5 : tie.Need-halt-requires-then-number-ne0-3 invariant-loop decreases-loop
 halt-requires-5 c κs = search rules
 
-returns-5 : tie.Need-returns-5 invariant-loop decreases-loop
+returns-5 : tie.Need-returns-then-number-ne0-3 invariant-loop decreases-loop
 returns-5 c = let b = c.before.before.before.before.before.before.before.before.before.before in
-    ends c.halt5.ensures (stop b (split_unready (s b) (x b) c.before.before.before.before.before.before.match.keys5 _ c.before.before.asked2.ensures c.before.if8.true) c.before.if8.true)
+    ends c.halt-then-number-ne0-3.ensures (stop b (split_unready (s b) (x b) c.in-9.is _ c.asked-number-in-9.ensures c.if-number-ne0-3.true) c.if-number-ne0-3.true)
 
-transfer-requires-2 : tie.Need-transfer-requires-2 invariant-loop decreases-loop
+transfer-requires-2 : tie.Need-transfer-number-requires-in-9 invariant-loop decreases-loop
 transfer-requires-2 c κs = let b = c.before.before.before.before.before.before.before.before.before.before in ((known b).at_bed, (known b).to_bed)
 
-halt-requires-6 : tie.Need-halt-requires-6 invariant-loop decreases-loop
+halt-requires-6 : tie.Need-halt-requires-then-number-ne0-4 invariant-loop decreases-loop
 halt-requires-6 c κs = search rules
 
-returns-6 : tie.Need-returns-6 invariant-loop decreases-loop
-returns-6 c = let b = c.before.before.before.before.before.before.before.before.before.before.before.before.before in let told = c.before.before.transfer2.ensures in
-    ends c.halt6.ensures (simp (told.1, transfer_kept (s b).limit (s b).loops (x b).at (x b).to (s b).racking 1 _ told.0 c.before.if9.true) (stop b (split_stopped (s b) (x b) c.before.before.before.before.before.before.before.before.before.match.keys5 _ c.before.before.before.before.before.asked2.ensures c.before.before.before.before.if8.false _ told.0) c.before.if9.true))
+returns-6 : tie.Need-returns-then-number-ne0-4 invariant-loop decreases-loop
+returns-6 c = let b = c.before.before.before.before.before.before.before.before.before.before.before.before.before in let told = c.transfer-number-in-9.ensures in
+    ends c.halt-then-number-ne0-4.ensures (simp (told.1, transfer_kept (s b).limit (s b).loops (x b).at (x b).to (s b).racking 1 _ told.0 c.if-number-ne0-4.true) (stop b (split_stopped (s b) (x b) c.in-9.is _ c.asked-number-in-9.ensures c.if-number-ne0-3.false _ told.0) c.if-number-ne0-4.true))
 
-attach-requires : tie.Need-attach-requires invariant-loop decreases-loop
+attach-requires : tie.Need-attach-then-requires invariant-loop decreases-loop
 attach-requires c κs = (known c.before.before.before.before.before.before.before.before.before.before.before.before).at_bed
 
-any-beside-requires-2 : tie.Need-any-beside-requires-2 invariant-loop decreases-loop
+any-beside-requires-2 : tie.Need-any_beside-requires-in-9 invariant-loop decreases-loop
 any-beside-requires-2 c κs = search rules
 
-attachments-moved-requires-2 : tie.Need-attachments-moved-requires-2 invariant-loop decreases-loop
+attachments-moved-requires-2 : tie.Need-attachments_moved-cs-requires-then-any_beside-2 invariant-loop decreases-loop
 attachments-moved-requires-2 c κs = search rules
 
-mul-cs-2 : tie.Need-overflow-mul-cs-2 invariant-loop decreases-loop
+mul-cs-2 : tie.Need-offset_bounds-cs-k-in-9-2 invariant-loop decreases-loop
 mul-cs-2 c = omega (arith, split-carrier c.before.before.before.before.before.before.before.before.before.before.before)
 
-array-set-from-cs-2 : tie.Need-array-set-from-cs-2 invariant-loop decreases-loop
+array-set-from-cs-2 : tie.Need-bounds-cs-k-in-9-2 invariant-loop decreases-loop
 array-set-from-cs-2 c = omega (arith, split-carrier c.before.before.before.before.before.before.before.before.before.before.before)
 
-cast-k-3 : tie.Need-overflow-cast-k-3 invariant-loop decreases-loop
+cast-k-3 : tie.Need-overflow_cast-k-in-4-to-5 invariant-loop decreases-loop
 cast-k-3 c = search rules
 
-sub-k-3 : tie.Need-overflow-sub-k-3 invariant-loop decreases-loop
+sub-k-3 : tie.Need-overflow_sub-k-in-4-to-5 invariant-loop decreases-loop
 sub-k-3 c = omega (arith, in_out_carrier c.before)
 
-mul-c-3 : tie.Need-overflow-mul-c-3 invariant-loop decreases-loop
+mul-c-3 : tie.Need-offset_bounds-cs-k-in-4-to-5 invariant-loop decreases-loop
 mul-c-3 c = omega (arith, in_out_carrier c.before)
 
-array-copy-out-c-3 : tie.Need-array-copy-out-c-3 invariant-loop decreases-loop
+array-copy-out-c-3 : tie.Need-bounds-cs-k-in-4-to-5 invariant-loop decreases-loop
 array-copy-out-c-3 c = omega (arith, in_out_carrier c.before)
 
-asked-requires-3 : tie.Need-asked-requires-3 invariant-loop decreases-loop
-asked-requires-3 c κs = (known c.before.before.before.before.before.before.before.before).at_bed
+asked-requires-3 : tie.Need-asked-number-requires-in-4-to-5 invariant-loop decreases-loop
+asked-requires-3 c κs = (known c.before.before.before.before.before.before).at_bed
 
-halt-requires-7 : tie.Need-halt-requires-7 invariant-loop decreases-loop
+halt-requires-7 : tie.Need-halt-requires-then-number-ne0-5 invariant-loop decreases-loop
 halt-requires-7 c κs = search rules
 
-returns-7 : tie.Need-returns-7 invariant-loop decreases-loop
-returns-7 c = let t = c.before.before.before.before.before in let b = c.before.before.before.before.before.before.before.before.before.before.before in
-    ends c.halt7.ensures (stop b (in_out_stopped (s b) (x b) _ c.before.before.asked3.ensures (in_out_low t) (in_out_high t)) c.before.if13.true)
+returns-7 : tie.Need-returns-then-number-ne0-5 invariant-loop decreases-loop
+returns-7 c = let t = c.before.before.before.before.before in let b = c.before.before.before.before.before.before.before.before.before in
+    ends c.halt-then-number-ne0-5.ensures (stop b (in_out_stopped (s b) (x b) _ c.asked-number-in-4-to-5.ensures (in_out_low t) (in_out_high t)) c.if-number-ne0-5.true)
 
-enter-or-leave-requires : tie.Need-enter-or-leave-requires invariant-loop decreases-loop
-enter-or-leave-requires c κs = let t = c.before.before.before.before in (omega (arith, in_out_low t), omega (arith, in_out_high t), (known c.before.before.before.before.before.before.before.before.before.before).at_bed)
+enter-or-leave-requires : tie.Need-enter_or_leave-then-requires invariant-loop decreases-loop
+enter-or-leave-requires c κs = let t = c.before.before.before.before in (omega (arith, in_out_low t), omega (arith, in_out_high t), (known c.before.before.before.before.before.before.before.before).at_bed)
 
-mul-cs-3 : tie.Need-overflow-mul-cs-3 invariant-loop decreases-loop
+mul-cs-3 : tie.Need-offset_bounds-cs-k-in-4-to-5-2 invariant-loop decreases-loop
 mul-cs-3 c = omega (arith, in_out_carrier c.before.before.before.before.before)
 
-array-set-from-cs-3 : tie.Need-array-set-from-cs-3 invariant-loop decreases-loop
+array-set-from-cs-3 : tie.Need-bounds-cs-k-in-4-to-5-2 invariant-loop decreases-loop
 array-set-from-cs-3 c = omega (arith, in_out_carrier c.before.before.before.before.before)
 
-cast-k-4 : tie.Need-overflow-cast-k-4 invariant-loop decreases-loop
+cast-k-4 : tie.Need-overflow_cast-k-in-7-to-8 invariant-loop decreases-loop
 cast-k-4 c = search rules
 
-sub-k-4 : tie.Need-overflow-sub-k-4 invariant-loop decreases-loop
+sub-k-4 : tie.Need-overflow_sub-k-in-7-to-8 invariant-loop decreases-loop
 sub-k-4 c = omega (arith, loop_carrier c.before)
 
-mul-c-4 : tie.Need-overflow-mul-c-4 invariant-loop decreases-loop
+mul-c-4 : tie.Need-offset_bounds-cs-k-in-7-to-8 invariant-loop decreases-loop
 mul-c-4 c = omega (arith, loop_carrier c.before)
 
-array-copy-out-c-4 : tie.Need-array-copy-out-c-4 invariant-loop decreases-loop
+array-copy-out-c-4 : tie.Need-bounds-cs-k-in-7-to-8 invariant-loop decreases-loop
 array-copy-out-c-4 c = omega (arith, loop_carrier c.before)
 
-ready-requires : tie.Need-ready-requires invariant-loop decreases-loop
-ready-requires c κs = (known c.before.before.before.before.before.before.before.before.before).at_bed
+ready-requires : tie.Need-ready-number-requires invariant-loop decreases-loop
+ready-requires c κs = (known c.before.before.before.before.before.before).at_bed
 
-halt-requires-8 : tie.Need-halt-requires-8 invariant-loop decreases-loop
+halt-requires-8 : tie.Need-halt-requires-then-number-ne0-6 invariant-loop decreases-loop
 halt-requires-8 c κs = search rules
 
-returns-8 : tie.Need-returns-8 invariant-loop decreases-loop
-returns-8 c = let t = c.before.before.before.before.before in let b = c.before.before.before.before.before.before.before.before.before.before.before.before in
-    ends c.halt8.ensures (stop b (loop_unready (s b) (x b) (loop_low t) (loop_high t) _ c.before.before.ready.ensures c.before.if15.true) c.before.if15.true)
+returns-8 : tie.Need-returns-then-number-ne0-6 invariant-loop decreases-loop
+returns-8 c = let t = c.before.before.before.before.before in let b = c.before.before.before.before.before.before.before.before.before in
+    ends c.halt-then-number-ne0-6.ensures (stop b (loop_unready (s b) (x b) (loop_low t) (loop_high t) _ c.ready-number.ensures c.if-number-ne0-6.true) c.if-number-ne0-6.true)
 
-form-requires : tie.Need-form-requires invariant-loop decreases-loop
-form-requires c κs = let t = c.before.before.before.before.before in (omega (arith, loop_low t), omega (arith, loop_high t), (λ e. omega (arith, loop_high t)), (known c.before.before.before.before.before.before.before.before.before.before.before.before).at_bed)
+form-requires : tie.Need-form-number-requires invariant-loop decreases-loop
+form-requires c κs = let t = c.before.before.before.before.before in (omega (arith, loop_low t), omega (arith, loop_high t), (λ e. omega (arith, loop_high t)), (known c.before.before.before.before.before.before.before.before.before).at_bed)
 
-halt-requires-9 : tie.Need-halt-requires-9 invariant-loop decreases-loop
+halt-requires-9 : tie.Need-halt-requires-then-number-ne0-7 invariant-loop decreases-loop
 halt-requires-9 c κs = search rules
 
-returns-9 : tie.Need-returns-9 invariant-loop decreases-loop
-returns-9 c = let t = c.before.before.before.before.before.before.before.before in let b = c.before.before.before.before.before.before.before.before.before.before.before.before.before.before.before in let told = c.before.before.form.ensures in
-    ends c.halt9.ensures (simp (told.1, form_kept (s b) (x b) _ told.0 c.before.if16.true) (stop b (loop_stopped (s b) (x b) (loop_low t) (loop_high t) _ c.before.before.before.before.before.ready.ensures c.before.before.before.before.if15.false _ told.0) c.before.if16.true))
+returns-9 : tie.Need-returns-then-number-ne0-7 invariant-loop decreases-loop
+returns-9 c = let t = c.before.before.before.before.before.before.before.before in let b = c.before.before.before.before.before.before.before.before.before.before.before.before in let told = c.form-number.ensures in
+    ends c.halt-then-number-ne0-7.ensures (simp (told.1, form_kept (s b) (x b) _ told.0 c.if-number-ne0-7.true) (stop b (loop_stopped (s b) (x b) (loop_low t) (loop_high t) _ c.ready-number.ensures c.if-number-ne0-6.false _ told.0) c.if-number-ne0-7.true))
 
-attach-requires-2 : tie.Need-attach-requires-2 invariant-loop decreases-loop
-attach-requires-2 c κs = (known c.before.before.before.before.before.before.before.before.before.before.before.before.before.before).at_bed
+attach-requires-2 : tie.Need-attach-then-requires-in-7-to-8 invariant-loop decreases-loop
+attach-requires-2 c κs = (known c.before.before.before.before.before.before.before.before.before.before.before).at_bed
 
-mul-cs-4 : tie.Need-overflow-mul-cs-4 invariant-loop decreases-loop
+mul-cs-4 : tie.Need-offset_bounds-cs-k-in-7-to-8-2 invariant-loop decreases-loop
 mul-cs-4 c = omega (arith, loop_carrier c.before.before.before.before.before.before.before.before)
 
-array-set-from-cs-4 : tie.Need-array-set-from-cs-4 invariant-loop decreases-loop
+array-set-from-cs-4 : tie.Need-bounds-cs-k-in-7-to-8-2 invariant-loop decreases-loop
 array-set-from-cs-4 c = omega (arith, loop_carrier c.before.before.before.before.before.before.before.before)
 
-halt-requires-10 : tie.Need-halt-requires-10 invariant-loop decreases-loop
+halt-requires-10 : tie.Need-halt-requires-then-x invariant-loop decreases-loop
 halt-requires-10 c κs = search rules
 
-returns-10 : tie.Need-returns-10 invariant-loop decreases-loop
-returns-10 c = let t = c.before.before.before in let b = c.before.before.before.before.before.before.before.before.before.before.before in
-    ends c.halt10.ensures (stop b (plated_twice (s b) (x b) (plate_low t) (plate_high t) c.before.if18.true) (λ z. omega arith))
+returns-10 : tie.Need-returns-then-x invariant-loop decreases-loop
+returns-10 c = let t = c.before.before.before in let b = c.before.before.before.before.before.before.before in
+    ends c.halt-then-x.ensures (stop b (plated_twice (s b) (x b) (plate_low t) (plate_high t) c.if-x.true) (λ z. omega arith))
 
-cast-k-5 : tie.Need-overflow-cast-k-5 invariant-loop decreases-loop
+cast-k-5 : tie.Need-overflow_cast-k-in-10-to-11 invariant-loop decreases-loop
 cast-k-5 c = search rules
 
-sub-k-5 : tie.Need-overflow-sub-k-5 invariant-loop decreases-loop
+sub-k-5 : tie.Need-overflow_sub-k-in-10-to-11 invariant-loop decreases-loop
 sub-k-5 c = omega (arith, plate_first c.before.before.before)
 
-cast-j : tie.Need-overflow-cast-j invariant-loop decreases-loop
+cast-j : tie.Need-overflow_cast-j invariant-loop decreases-loop
 cast-j c = search rules
 
-sub-j : tie.Need-overflow-sub-j invariant-loop decreases-loop
+sub-j : tie.Need-overflow_sub-j invariant-loop decreases-loop
 sub-j c = omega (arith, plate_second c.before.before.before.before)
 
-mul-both-ready : tie.Need-overflow-mul-both-ready invariant-loop decreases-loop
+mul-both-ready : tie.Need-offset_bounds-cs-k-in-10-to-11 invariant-loop decreases-loop
 mul-both-ready c = omega (arith, plate_first c.before.before.before.before)
 
-array-copy-out-both-ready : tie.Need-array-copy-out-both-ready invariant-loop decreases-loop
+array-copy-out-both-ready : tie.Need-bounds-cs-k-in-10-to-11 invariant-loop decreases-loop
 array-copy-out-both-ready c = omega (arith, plate_first c.before.before.before.before)
 
-mul-both-ready-2 : tie.Need-overflow-mul-both-ready-2 invariant-loop decreases-loop
+mul-both-ready-2 : tie.Need-offset_bounds-cs-j invariant-loop decreases-loop
 mul-both-ready-2 c = omega (arith, plate_second c.before.before.before.before.before)
 
-array-copy-out-both-ready-2 : tie.Need-array-copy-out-both-ready-2 invariant-loop decreases-loop
+array-copy-out-both-ready-2 : tie.Need-bounds-cs-j invariant-loop decreases-loop
 array-copy-out-both-ready-2 c = omega (arith, plate_second c.before.before.before.before.before)
 
-both-ready-requires : tie.Need-both-ready-requires invariant-loop decreases-loop
-both-ready-requires c κs = (known c.before.before.before.before.before.before.before.before.before.before.before.before.before.before).at_bed
+both-ready-requires : tie.Need-both_ready-number-requires invariant-loop decreases-loop
+both-ready-requires c κs = (known c.before.before.before.before.before.before.before.before.before.before).at_bed
 
-halt-requires-11 : tie.Need-halt-requires-11 invariant-loop decreases-loop
+halt-requires-11 : tie.Need-halt-requires-then-number-ne0-8 invariant-loop decreases-loop
 halt-requires-11 c κs = search rules
 
-returns-11 : tie.Need-returns-11 invariant-loop decreases-loop
-returns-11 c = let t = c.before.before.before.before.before.before.before.before.before in let b = c.before.before.before.before.before.before.before.before.before.before.before.before.before.before.before.before.before in
-    ends c.halt11.ensures (stop b (plated_unready (s b) (x b) (plate_low t) (plate_high t) c.before.before.before.before.before.before.before.if18.false _ c.before.before.both-ready.ensures c.before.if19.true) c.before.if19.true)
+returns-11 : tie.Need-returns-then-number-ne0-8 invariant-loop decreases-loop
+returns-11 c = let t = c.before.before.before.before.before.before.before.before.before in let b = c.before.before.before.before.before.before.before.before.before.before.before.before.before in
+    ends c.halt-then-number-ne0-8.ensures (stop b (plated_unready (s b) (x b) (plate_low t) (plate_high t) c.if-x.false _ c.both_ready-number.ensures c.if-number-ne0-8.true) c.if-number-ne0-8.true)
 
-form-requires-2 : tie.Need-form-requires-2 invariant-loop decreases-loop
-form-requires-2 c κs = let t = c.before.before.before.before.before.before.before.before.before in (omega (arith, plate_low t), omega (arith, plate_high t), (λ e. omega (arith, plate_low t)), (known c.before.before.before.before.before.before.before.before.before.before.before.before.before.before.before.before.before).at_bed)
+form-requires-2 : tie.Need-form-number-requires-in-10-to-11 invariant-loop decreases-loop
+form-requires-2 c κs = let t = c.before.before.before.before.before.before.before.before.before in (omega (arith, plate_low t), omega (arith, plate_high t), (λ e. omega (arith, plate_low t)), (known c.before.before.before.before.before.before.before.before.before.before.before.before.before).at_bed)
 
-halt-requires-12 : tie.Need-halt-requires-12 invariant-loop decreases-loop
+halt-requires-12 : tie.Need-halt-requires-then-number-ne0-9 invariant-loop decreases-loop
 halt-requires-12 c κs = search rules
 
-returns-12 : tie.Need-returns-12 invariant-loop decreases-loop
-returns-12 c = let t = c.before.before.before.before.before.before.before.before.before.before.before.before in let b = c.before.before.before.before.before.before.before.before.before.before.before.before.before.before.before.before.before.before.before.before in let told = c.before.before.form2.ensures in
-    ends c.halt12.ensures (simp (told.1, form_kept (s b) (x b) _ told.0 c.before.if20.true) (stop b (plated_stopped (s b) (x b) (plate_low t) (plate_high t) c.before.before.before.before.before.before.before.before.before.before.if18.false _ c.before.before.before.before.before.both-ready.ensures c.before.before.before.before.if19.false _ told.0) c.before.if20.true))
+returns-12 : tie.Need-returns-then-number-ne0-9 invariant-loop decreases-loop
+returns-12 c = let t = c.before.before.before.before.before.before.before.before.before.before.before.before in let b = c.before.before.before.before.before.before.before.before.before.before.before.before.before.before.before.before in let told = c.form-number-in-10-to-11.ensures in
+    ends c.halt-then-number-ne0-9.ensures (simp (told.1, form_kept (s b) (x b) _ told.0 c.if-number-ne0-9.true) (stop b (plated_stopped (s b) (x b) (plate_low t) (plate_high t) c.if-x.false _ c.both_ready-number.ensures c.if-number-ne0-8.false _ told.0) c.if-number-ne0-9.true))
 
-attach-requires-3 : tie.Need-attach-requires-3 invariant-loop decreases-loop
-attach-requires-3 c κs = (known c.before.before.before.before.before.before.before.before.before.before.before.before.before.before.before.before.before.before.before).at_bed
+attach-requires-3 : tie.Need-attach-then-requires-in-10-to-11 invariant-loop decreases-loop
+attach-requires-3 c κs = (known c.before.before.before.before.before.before.before.before.before.before.before.before.before.before.before).at_bed
 
-mul-cs-5 : tie.Need-overflow-mul-cs-5 invariant-loop decreases-loop
+mul-cs-5 : tie.Need-offset_bounds-cs-k-in-10-to-11-2 invariant-loop decreases-loop
 mul-cs-5 c = omega (arith, plate_first c.before.before.before.before.before.before.before.before.before.before.before.before)
 
-array-set-from-cs-5 : tie.Need-array-set-from-cs-5 invariant-loop decreases-loop
+array-set-from-cs-5 : tie.Need-bounds-cs-k-in-10-to-11-2 invariant-loop decreases-loop
 array-set-from-cs-5 c = omega (arith, plate_first c.before.before.before.before.before.before.before.before.before.before.before.before)
 
-mul-cs-6 : tie.Need-overflow-mul-cs-6 invariant-loop decreases-loop
+mul-cs-6 : tie.Need-offset_bounds-cs-j-in-10-to-11 invariant-loop decreases-loop
 mul-cs-6 c = omega (arith, plate_second c.before.before.before.before.before.before.before.before.before.before.before.before)
 
-array-set-from-cs-6 : tie.Need-array-set-from-cs-6 invariant-loop decreases-loop
+array-set-from-cs-6 : tie.Need-bounds-cs-j-in-10-to-11 invariant-loop decreases-loop
 array-set-from-cs-6 c = omega (arith, plate_second c.before.before.before.before.before.before.before.before.before.before.before.before)
 
-loop-less : tie.Need-loop-smaller invariant-loop decreases-loop
+loop-less : tie.Need-loop-at-smaller-else-r-z invariant-loop decreases-loop
 loop-less c = less c.before.before.before.before.before.before.before.before.before.before
 
-loop-again : tie.Need-loop-preserved invariant-loop decreases-loop
+loop-again : tie.Need-loop-at-preserved-else-r-z invariant-loop decreases-loop
 loop-again c = let b = c.before.before.before.before.before.before.before.before.before.before in let r = (s b).racking in let z = (x b).racking in
-    on b (rack_made (s b) (x b) c.before.before.before.before.before.before.match.keys1
-    (⊎_elim {C = any_stretched r z (s b).carriers ≡ false} (λ u. sym u.3.ensures ∙ u.4.left)
-    (⊎_elim {C = any_stretched r z (s b).carriers ≡ false} (λ u. no_back_unstretched r z (s b).carriers (sym u.1.ensures ∙ u.2.left))
-    (λ u. same_unstretched r z (s b).carriers c.before.before.before.struct_told.given.0.1 c.before.struct-told2.given.0.1 u.left)) c.if2.branch))
+    on b (rack_made (s b) (x b) c.in-1.is
+    (elim c.else-r-z.branch [
+      else-r-z-via-then-r-z+then-any_back+else-any_stretched w ↦ sym w.any_stretched.ensures ∙ w.if-any_stretched.false
+    | else-r-z-via-then-r-z+else-any_back w ↦ no_back_unstretched r z (s b).carriers (sym w.any_back.ensures ∙ w.if-any_back.false)
+    | else-r-z-via-else-r-z w ↦ same_unstretched r z (s b).carriers c.struct_told-1.given.0.1 c.struct_told-in-1-1.given.0.1 w.if-r-z.false
+    ]))
 
-loop-less-2 : tie.Need-loop-smaller-2 invariant-loop decreases-loop
+loop-less-2 : tie.Need-loop-at-smaller-in-2 invariant-loop decreases-loop
 loop-less-2 c = less c.before.before.before.before.before.before
 
-loop-again-2 : tie.Need-loop-preserved-2 invariant-loop decreases-loop
-loop-again-2 c = let b = c.before.before.before.before.before.before in on b (drop_made (s b) (x b) c.before.before.match.keys2 _ c.put.ensures)
+loop-again-2 : tie.Need-loop-at-preserved-in-2 invariant-loop decreases-loop
+loop-again-2 c = let b = c.before.before.before.before.before.before in on b (drop_made (s b) (x b) c.in-2.is _ c.put.ensures)
 
-loop-less-3 : tie.Need-loop-smaller-3 invariant-loop decreases-loop
+loop-less-3 : tie.Need-loop-at-smaller-then-any_beside invariant-loop decreases-loop
 loop-less-3 c = less c.before.before.before.before.before.before.before.before.before.before.before
 
-loop-again-3 : tie.Need-loop-preserved-3 invariant-loop decreases-loop
-loop-again-3 c = let b = c.before.before.before.before.before.before.before.before.before.before.before in let told = c.before.before.before.before.transfer.ensures in
-    on b (xfer_made (s b) (x b) c.before.before.before.before.before.before.before.match.keys3 _ told.0 c.before.before.before.if5.false _ _ told.1 c.attachments-moved.ensures)
+loop-again-3 : tie.Need-loop-at-preserved-then-any_beside invariant-loop decreases-loop
+loop-again-3 c = let b = c.before.before.before.before.before.before.before.before.before.before.before in let told = c.transfer-number.ensures in
+    on b (xfer_made (s b) (x b) c.in-3.is _ told.0 c.if-number-ne0.false _ _ told.1 c.attachments_moved-cs.ensures)
 
-loop-less-4 : tie.Need-loop-smaller-4 invariant-loop decreases-loop
+loop-less-4 : tie.Need-loop-at-smaller-else-any_beside invariant-loop decreases-loop
 loop-less-4 c = less c.before.before.before.before.before.before.before.before.before.before
 
-loop-again-4 : tie.Need-loop-preserved-4 invariant-loop decreases-loop
-loop-again-4 c = let b = c.before.before.before.before.before.before.before.before.before.before in let told = c.before.before.before.transfer.ensures in
-    on b (xfer_made (s b) (x b) c.before.before.before.before.before.before.match.keys3 _ told.0 c.before.before.if5.false _ _ told.1 (unmoved (x b).at (x b).to (s b).carriers (sym c.before.any-beside.ensures ∙ c.if6.false)))
+loop-again-4 : tie.Need-loop-at-preserved-else-any_beside invariant-loop decreases-loop
+loop-again-4 c = let b = c.before.before.before.before.before.before.before.before.before.before in let told = c.transfer-number.ensures in
+    on b (xfer_made (s b) (x b) c.in-3.is _ told.0 c.if-number-ne0.false _ _ told.1 (unmoved (x b).at (x b).to (s b).carriers (sym c.any_beside.ensures ∙ c.if-any_beside.false)))
 
-loop-less-5 : tie.Need-loop-smaller-5 invariant-loop decreases-loop
+loop-less-5 : tie.Need-loop-at-smaller-else-number-ne0-2 invariant-loop decreases-loop
 loop-less-5 c = less c.before.before.before.before.before.before.before.before.before
 
-loop-again-5 : tie.Need-loop-preserved-5 invariant-loop decreases-loop
+loop-again-5 : tie.Need-loop-at-preserved-else-number-ne0-2 invariant-loop decreases-loop
 loop-again-5 c = let b = c.before.before.before.before.before.before.before.before.before in
-    on b (miss_made (s b) (x b) _ c.before.before.asked.ensures c.before.before.before.before.before.match.keys4 c.before.if7.false _ c.pass.ensures)
+    on b (miss_made (s b) (x b) _ c.asked-number.ensures c.in-6.is c.if-number-ne0-2.false _ c.pass-then.ensures)
 
-loop-less-6 : tie.Need-loop-smaller-6 invariant-loop decreases-loop
+loop-less-6 : tie.Need-loop-at-smaller-after-any_beside-2 invariant-loop decreases-loop
 loop-less-6 c = less c.before.before.before.before.before.before.before.before.before.before.before.before.before.before.before
 
-loop-again-6 : tie.Need-loop-preserved-6 invariant-loop decreases-loop
-loop-again-6 c = let b = c.before.before.before.before.before.before.before.before.before.before.before.before.before.before.before in let told = c.before.before.before.before.transfer2.ensures in
-    on b (split_made (s b) (x b) c.before.before.before.before.before.before.before.before.before.before.before.match.keys5 _ c.before.before.before.before.before.before.before.asked2.ensures c.before.before.before.before.before.before.if8.false _ told.0 c.before.before.before.if9.false _ c.before.before.attach.ensures _ _ told.1
-    (⊎_elim {C = c.if10.cs ≡ map (moved_to (x b).at (x b).to) (s b).carriers} (λ u. u.2 ∙ u.1.ensures) (λ u. u.1 ∙ unmoved (x b).at (x b).to (s b).carriers (sym c.before.any-beside2.ensures ∙ u.0.left)) c.if10.branch))
+loop-again-6 : tie.Need-loop-at-preserved-after-any_beside-2 invariant-loop decreases-loop
+loop-again-6 c = let b = c.before.before.before.before.before.before.before.before.before.before.before.before.before.before.before in let told = c.transfer-number-in-9.ensures in
+    on b (split_made (s b) (x b) c.in-9.is _ c.asked-number-in-9.ensures c.if-number-ne0-3.false _ told.0 c.if-number-ne0-4.false _ c.attach-then.ensures _ _ told.1
+    (elim c.if-any_beside-2.branch [
+      then-any_beside-2 w ↦ w.cs-is ∙ w.attachments_moved-cs-then-any_beside-2.ensures
+    | else-any_beside-2 w ↦ w.cs-is ∙ unmoved (x b).at (x b).to (s b).carriers (sym c.any_beside-in-9.ensures ∙ w.if-any_beside-2.false)
+    ]))
 
-loop-less-7 : tie.Need-loop-smaller-7 invariant-loop decreases-loop
+loop-less-7 : tie.Need-loop-at-smaller-then-kind-lt1 invariant-loop decreases-loop
 loop-less-7 c = less c.before.before.before.before.before
 
 -- decode gives no kind below 1
-loop-again-7 : tie.Need-loop-preserved-7 invariant-loop decreases-loop
-loop-again-7 c = absurd (omega (arith, c.if11.true, known_least (known c.before.before.before.before.before).known))
+loop-again-7 : tie.Need-loop-at-preserved-then-kind-lt1 invariant-loop decreases-loop
+loop-again-7 c = absurd (omega (arith, c.if-kind-lt1-1.true, known_least (known c.before.before.before.before.before).known))
 
-loop-less-8 : tie.Need-loop-smaller-8 invariant-loop decreases-loop
-loop-less-8 c = less c.before.before.before.before.before.before.before.before.before.before.before
+loop-less-8 : tie.Need-loop-at-smaller-else-number-ne0-5 invariant-loop decreases-loop
+loop-less-8 c = less c.before.before.before.before.before.before.before.before.before
 
-loop-again-8 : tie.Need-loop-preserved-8 invariant-loop decreases-loop
-loop-again-8 c = let t = c.before.before.before.before.before in let b = c.before.before.before.before.before.before.before.before.before.before.before in
-    on b (in_out_made (s b) (x b) _ c.before.before.asked3.ensures (in_out_low t) (in_out_high t) c.before.if13.false _ c.enter-or-leave.ensures)
+loop-again-8 : tie.Need-loop-at-preserved-else-number-ne0-5 invariant-loop decreases-loop
+loop-again-8 c = let t = c.before.before.before.before.before in let b = c.before.before.before.before.before.before.before.before.before in
+    on b (in_out_made (s b) (x b) _ c.asked-number-in-4-to-5.ensures (in_out_low t) (in_out_high t) c.if-number-ne0-5.false _ c.enter_or_leave-then.ensures)
 
-loop-less-9 : tie.Need-loop-smaller-9 invariant-loop decreases-loop
-loop-less-9 c = less c.before.before.before.before.before.before.before.before.before.before.before.before.before.before.before
+loop-less-9 : tie.Need-loop-at-smaller-else-number-ne0-7 invariant-loop decreases-loop
+loop-less-9 c = less c.before.before.before.before.before.before.before.before.before.before.before.before
 
-loop-again-9 : tie.Need-loop-preserved-9 invariant-loop decreases-loop
-loop-again-9 c = let t = c.before.before.before.before.before.before.before.before in let b = c.before.before.before.before.before.before.before.before.before.before.before.before.before.before.before in let told = c.before.before.form.ensures in
-    on b (loop_made (s b) (x b) (loop_low t) (loop_high t) _ c.before.before.before.before.before.ready.ensures c.before.before.before.before.if15.false _ told.0 c.before.if16.false _ c.attach2.ensures _ told.1)
+loop-again-9 : tie.Need-loop-at-preserved-else-number-ne0-7 invariant-loop decreases-loop
+loop-again-9 c = let t = c.before.before.before.before.before.before.before.before in let b = c.before.before.before.before.before.before.before.before.before.before.before.before in let told = c.form-number.ensures in
+    on b (loop_made (s b) (x b) (loop_low t) (loop_high t) _ c.ready-number.ensures c.if-number-ne0-6.false _ told.0 c.if-number-ne0-7.false _ c.attach-then-in-7-to-8.ensures _ told.1)
 
-loop-less-10 : tie.Need-loop-smaller-10 invariant-loop decreases-loop
-loop-less-10 c = less c.before.before.before.before.before.before.before.before.before.before.before.before.before.before.before.before.before.before.before.before
+loop-less-10 : tie.Need-loop-at-smaller-else-number-ne0-9 invariant-loop decreases-loop
+loop-less-10 c = less c.before.before.before.before.before.before.before.before.before.before.before.before.before.before.before.before
 
-loop-again-10 : tie.Need-loop-preserved-10 invariant-loop decreases-loop
-loop-again-10 c = let t = c.before.before.before.before.before.before.before.before.before.before.before.before in let b = c.before.before.before.before.before.before.before.before.before.before.before.before.before.before.before.before.before.before.before.before in let told = c.before.before.form2.ensures in
-    on b (plated_made (s b) (x b) (plate_low t) (plate_high t) c.before.before.before.before.before.before.before.before.before.before.if18.false _ c.before.before.before.before.before.both-ready.ensures c.before.before.before.before.if19.false _ told.0 c.before.if20.false _ c.attach3.ensures _ told.1)
+loop-again-10 : tie.Need-loop-at-preserved-else-number-ne0-9 invariant-loop decreases-loop
+loop-again-10 c = let t = c.before.before.before.before.before.before.before.before.before.before.before.before in let b = c.before.before.before.before.before.before.before.before.before.before.before.before.before.before.before.before in let told = c.form-number-in-10-to-11.ensures in
+    on b (plated_made (s b) (x b) (plate_low t) (plate_high t) c.if-x.false _ c.both_ready-number.ensures c.if-number-ne0-8.false _ told.0 c.if-number-ne0-9.false _ c.attach-then-in-10-to-11.ensures _ told.1)
 
-loop-less-11 : tie.Need-loop-smaller-11 invariant-loop decreases-loop
+loop-less-11 : tie.Need-loop-at-smaller invariant-loop decreases-loop
 loop-less-11 c = less c.before.before.before.before.before.before.before.before
 
 -- and none above plated knit
-loop-again-11 : tie.Need-loop-preserved-11 invariant-loop decreases-loop
-loop-again-11 c = absurd (omega (arith, c.if17.false, known_most (known c.before.before.before.before.before.before.before.before).known))
+loop-again-11 : tie.Need-loop-at-preserved invariant-loop decreases-loop
+loop-again-11 c = absurd (omega (arith, c.if-kind-lt12-1.false, known_most (known c.before.before.before.before.before.before.before.before).known))
 
-halt-requires-13 : tie.Need-halt-requires-13 invariant-loop decreases-loop
+halt-requires-13 : tie.Need-halt-requires-2 invariant-loop decreases-loop
 halt-requires-13 c κs = search rules
 
-returns-13 : tie.Need-returns-13 invariant-loop decreases-loop
-returns-13 c = ends c.halt13.ensures (ended _ c.before.before.before.before.args.program.now c.before.before.loop.at _ (omega arith) c.before.before.loop.invariant.1)
+returns-13 : tie.Need-returns invariant-loop decreases-loop
+returns-13 c = ends c.halt-2.ensures (ended _ c.args.program.now c.loop-at.at _ (omega arith) c.loop-at.invariant.1)
 
-pub run-from-spec : {M : Type 1} → statement M
-run-from-spec =
+pub run_from_spec : {M : Type 1} → statement M
+run_from_spec =
     tie.close (tie.spec
     invariant-loop decreases-loop loop-holds sub-decode part-decode-start part-decode-end decode-requires halt-requires returns add-next any-back-requires any-stretched-requires halt-requires-2 returns-2 put-requires
     transfer-requires halt-requires-3 returns-3 any-beside-requires attachments-moved-requires cast-k sub-k mul-c array-copy-out-c asked-requires

@@ -32,33 +32,33 @@ module _ (l : List ℕ) (a b : Needle) (r : Racking) (v limit : ℕ) where
     room h = let f = le-leb (get_or l (hook_of a) 0 + get_or l (hook_of b) 0) limit h in (simp (e, f), simp (e, f))
 
 -- whether the columns are the same, as the code found it
-same : (b : tie.After-equals) → let a = b.before.before.before.args in same_column (column_of a.a a.r) (column_of a.b a.r) ≡ b.equals.result
-same b = let a = b.before.before.before.args in
-    ap (λ (z : Column). same_column z (column_of a.b a.r)) (sym b.before.before.column.ensures) ∙ ap (same_column b.before.before.column.result) (sym b.before.column2.ensures) ∙ sym b.equals.ensures
+same : (b : tie.After-equals) → let a = b.args in same_column (column_of a.a a.r) (column_of a.b a.r) ≡ b.equals.result
+same b = let a = b.args in
+    ap (λ (z : Column). same_column z (column_of a.b a.r)) (sym b.column-z.ensures) ∙ ap (same_column b.column-z.result) (sym b.column.ensures) ∙ sym b.equals.ensures
 
-column-requires : tie.Need-column-requires
+column-requires : tie.Need-column-z-requires
 column-requires c κs = search rules
 
-column-requires-2 : tie.Need-column-requires-2
+column-requires-2 : tie.Need-column-requires
 column-requires-2 c κs = search rules
 
 equals-requires : tie.Need-equals-requires
 equals-requires c κs = search rules
 
-returns : tie.Need-returns
-returns c = let b = c.before in let a = b.before.before.before.args in
-    not_opposite a.loops.now a.a a.b a.r a.v a.limit (same b ∙ not-true b.equals.result c.if1.true)
+returns : tie.Need-returns-then-not-equals
+returns c = let b = c.before in let a = b.args in
+    not_opposite a.loops.now a.a a.b a.r a.v a.limit (same b ∙ c.if-not-equals.true)
 
-hook-requires : tie.Need-hook-requires
+hook-requires : tie.Need-hook-i-requires
 hook-requires c κs = search rules
 
-hook-requires-2 : tie.Need-hook-requires-2
+hook-requires-2 : tie.Need-hook-j-requires
 hook-requires-2 c κs = search rules
 
-element-copy-out-here : tie.Need-element-copy-out-here
+element-copy-out-here : tie.Need-bounds-loops-i
 element-copy-out-here c = search rules
 
-element-copy-out-there : tie.Need-element-copy-out-there
+element-copy-out-there : tie.Need-bounds-loops-j
 element-copy-out-there c = search rules
 
 wide-requires : tie.Need-wide-requires
@@ -70,32 +70,32 @@ wide-requires-2 c κs = search rules
 wide-requires-3 : tie.Need-wide-requires-3
 wide-requires-3 c κs = search rules
 
-add-if2 : tie.Need-overflow-add-if2
-add-if2 c = omega (arith, c.before.wide2.ensures.1, c.wide3.ensures.1)
+add-if2 : tie.Need-overflow_add-wide
+add-if2 c = omega (arith, c.wide-2.ensures.1, c.wide-3.ensures.1)
 
-returns-2 : tie.Need-returns-2
-returns-2 c = let d = c.before.before.before in let w = d.before.before.before.before in let b = w.before.before in let a = b.before.before.before.args in
-    full a.loops.now a.a a.b a.r a.v a.limit (same b ∙ not-false b.equals.result w.before.if1.false)
-    (simp (d.wide.ensures.0, c.before.before.wide2.ensures.0, c.before.wide3.ensures.0, w.hook.ensures, d.before.before.before.hook2.ensures) at c.if2.true)
+returns-2 : tie.Need-returns-then-wide
+returns-2 c = let d = c in let w = d in let b = w.before.before.before.before.before.before.before.before.before.before in let a = b.args in
+    full a.loops.now a.a a.b a.r a.v a.limit (same b ∙ w.if-not-equals.false)
+    (simp (d.wide.ensures.0, c.wide-2.ensures.0, c.wide-3.ensures.0, w.hook-i.ensures, d.hook-j.ensures) at c.if-wide.true)
 
-element-write-loops : tie.Need-element-write-loops
+element-write-loops : tie.Need-bounds-loops-i-2
 element-write-loops c = search rules
 
-add-loops : tie.Need-overflow-add-loops
-add-loops c = let w = c.before.before.before.wide.ensures in
-    omega (arith, w.0, w.1, c.before.before.wide2.ensures.0, c.before.wide3.ensures.0, c.if2.false)
+add-loops : tie.Need-overflow_add-loops
+add-loops c = let w = c.wide.ensures in
+    omega (arith, w.0, w.1, c.wide-2.ensures.0, c.wide-3.ensures.0, c.if-wide.false)
 
-element-write-loops-2 : tie.Need-element-write-loops-2
+element-write-loops-2 : tie.Need-bounds-loops-j-2
 element-write-loops-2 c = search rules
 
-returns-3 : tie.Need-returns-3
-returns-3 c = let d = c.before.before.before in let w = d.before.before.before.before in let b = w.before.before in let a = b.before.before.before.args in
-    simp (w.hook.ensures, d.before.before.before.hook2.ensures)
-    (room a.loops.now a.a a.b a.r a.v a.limit (same b ∙ not-false b.equals.result w.before.if1.false)
-    (simp (d.wide.ensures.0, c.before.before.wide2.ensures.0, c.before.wide3.ensures.0, w.hook.ensures, d.before.before.before.hook2.ensures) at c.if2.false))
+returns-3 : tie.Need-returns
+returns-3 c = let d = c in let w = d in let b = w.before.before.before.before.before.before.before.before.before.before in let a = b.args in
+    simp (w.hook-i.ensures, d.hook-j.ensures)
+    (room a.loops.now a.a a.b a.r a.v a.limit (same b ∙ w.if-not-equals.false)
+    (simp (d.wide.ensures.0, c.wide-2.ensures.0, c.wide-3.ensures.0, w.hook-i.ensures, d.hook-j.ensures) at c.if-wide.false))
 
-pub transfer-spec : {M : Type 1} → statement M
-transfer-spec =
+pub transfer_spec : {M : Type 1} → statement M
+transfer_spec =
     tie.close (tie.spec
     column-requires column-requires-2 equals-requires returns hook-requires hook-requires-2 element-copy-out-here element-copy-out-there
     wide-requires wide-requires-2 wide-requires-3 add-if2 returns-2 element-write-loops add-loops element-write-loops-2 returns-3)

@@ -21,10 +21,10 @@ module _ (l : List ℕ) (n : Needle) (v limit : ℕ) where
   unfolding tuck_no tucked
   room h = let e = le-leb (get_or l (hook_of n) 0 + v) limit h in (simp e, simp e)
 
-hook-requires : tie.Need-hook-requires
+hook-requires : tie.Need-hook-i-requires
 hook-requires c κs = search rules
 
-element-copy-out-here : tie.Need-element-copy-out-here
+element-copy-out-here : tie.Need-bounds-loops-i
 element-copy-out-here c = search rules
 
 wide-requires : tie.Need-wide-requires
@@ -36,28 +36,28 @@ wide-requires-2 c κs = search rules
 wide-requires-3 : tie.Need-wide-requires-3
 wide-requires-3 c κs = search rules
 
-add-if1 : tie.Need-overflow-add-if1
-add-if1 c = omega (arith, c.before.wide2.ensures.1, c.wide3.ensures.1)
+add-if1 : tie.Need-overflow_add-wide
+add-if1 c = omega (arith, c.wide-2.ensures.1, c.wide-3.ensures.1)
 
-returns : tie.Need-returns
-returns c = let w = c.before.before.before in let a = w.before.before.before.args in
+returns : tie.Need-returns-then-wide
+returns c = let w = c in let a = w.args in
     full a.loops.now a.n a.v a.limit
-    (simp (w.wide.ensures.0, c.before.before.wide2.ensures.0, c.before.wide3.ensures.0, w.before.before.hook.ensures) at c.if1.true)
+    (simp (w.wide.ensures.0, c.wide-2.ensures.0, c.wide-3.ensures.0, w.hook-i.ensures) at c.if-wide.true)
 
-add-loops : tie.Need-overflow-add-loops
-add-loops c = let w = c.before.before.before.wide.ensures in
-    omega (arith, w.0, w.1, c.before.before.wide2.ensures.0, c.before.wide3.ensures.0, c.if1.false)
+add-loops : tie.Need-overflow_add-loops
+add-loops c = let w = c.wide.ensures in
+    omega (arith, w.0, w.1, c.wide-2.ensures.0, c.wide-3.ensures.0, c.if-wide.false)
 
-element-write-loops : tie.Need-element-write-loops
+element-write-loops : tie.Need-bounds-loops-i-2
 element-write-loops c = search rules
 
-returns-2 : tie.Need-returns-2
-returns-2 c = let w = c.before.before.before in let a = w.before.before.before.args in
-    simp w.before.before.hook.ensures
+returns-2 : tie.Need-returns
+returns-2 c = let w = c in let a = w.args in
+    simp w.hook-i.ensures
     (room a.loops.now a.n a.v a.limit
-    (simp (w.wide.ensures.0, c.before.before.wide2.ensures.0, c.before.wide3.ensures.0, w.before.before.hook.ensures) at c.if1.false))
+    (simp (w.wide.ensures.0, c.wide-2.ensures.0, c.wide-3.ensures.0, w.hook-i.ensures) at c.if-wide.false))
 
-pub tuck-spec : {M : Type 1} → statement M
-tuck-spec =
+pub tuck_spec : {M : Type 1} → statement M
+tuck_spec =
     tie.close (tie.spec
     hook-requires element-copy-out-here wide-requires wide-requires-2 wide-requires-3 add-if1 returns add-loops element-write-loops returns-2)

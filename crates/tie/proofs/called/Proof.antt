@@ -7,11 +7,11 @@ use Rattle.tie.proofs.called.Tie as tie
 names-requires : tie.Need-names-requires
 names-requires c κs = search rules
 
-returns : tie.Need-returns
-returns c = sym (simp (sym c.before.names.ensures ∙ c.if1.true))
+returns : tie.Need-returns-then-names
+returns c = sym (simp (sym c.names.ensures ∙ c.if-names.true))
 
-returns-2 : tie.Need-returns-2
-returns-2 c = sym (simp (sym c.before.names.ensures ∙ c.if1.false))
+returns-2 : tie.Need-returns-else-names
+returns-2 c = sym (simp (sym c.names.ensures ∙ c.if-names.false))
 
 pub called_spec : {M : Type 1} → statement M
 called_spec = tie.close (tie.spec names-requires returns returns-2)

@@ -22,7 +22,7 @@ module _ (x y : Record) where
   unfolding least
   shares_two e k j n p q r = r ∙ (λ i. lower (p i) (q i)) ∙ sym (simp (two_named x e))
 
-carriers-named-requires : tie.Need-carriers-named-requires
+carriers-named-requires : tie.Need-carriers_named-requires
 carriers-named-requires c κs = search rules
 
 called-requires : tie.Need-called-requires
@@ -31,30 +31,30 @@ called-requires c κs = search rules
 lower-requires : tie.Need-lower-requires
 lower-requires c κs = search rules
 
-called-requires-2 : tie.Need-called-requires-2
+called-requires-2 : tie.Need-called-k-requires
 called-requires-2 c κs = search rules
 
-called-requires-3 : tie.Need-called-requires-3
+called-requires-3 : tie.Need-called-requires-in_default
 called-requires-3 c κs = search rules
 
-lower-requires-2 : tie.Need-lower-requires-2
+lower-requires-2 : tie.Need-lower-requires-in_default
 lower-requires-2 c κs = search rules
 
-lower-requires-3 : tie.Need-lower-requires-3
+lower-requires-3 : tie.Need-lower-requires-in_default-2
 lower-requires-3 c κs = search rules
 
-returns : tie.Need-returns
-returns c = let n = c.before in let a = n.before.args in shares_none a.x a.y (sym n.carriers-named.ensures ∙ c.match.keys1)
+returns : tie.Need-returns-in-0
+returns c = let n = c in let a = n.args in shares_none a.x a.y (sym n.carriers_named.ensures ∙ c.in-0.is)
 
-returns-2 : tie.Need-returns-2
-returns-2 c = let m = c.before.before in let n = m.before in let a = n.before.args in
-    shares_one a.x a.y (sym n.carriers-named.ensures ∙ m.match.keys2) _ _ c.before.called.ensures c.lower.ensures
+returns-2 : tie.Need-returns-in-1
+returns-2 c = let m = c in let n = m in let a = n.args in
+    shares_one a.x a.y (sym n.carriers_named.ensures ∙ m.in-1.is) _ _ c.called.ensures c.lower.ensures
 
-returns-3 : tie.Need-returns-3
-returns-3 c = let m = c.before.before.before.before in let n = m.before in let a = n.before.args in
-    shares_two a.x a.y (two_of a.x n.carriers-named.ensures m.match.rest.0.1 m.match.rest.1) _ _ _ c.before.before.before.called2.ensures (c.before.lower2.ensures ∙ (λ i. lower (c.before.before.called3.ensures i) 0)) c.lower3.ensures
+returns-3 : tie.Need-returns-in_default
+returns-3 c = let m = c in let n = m in let a = n.args in
+    shares_two a.x a.y (two_of a.x n.carriers_named.ensures m.in_default.in_default-own.rest.0.1 m.in_default.in_default-own.rest.1) _ _ _ c.called-k.ensures (c.lower-in_default.ensures ∙ (λ i. lower (c.called-in_default.ensures i) 0)) c.lower-in_default-2.ensures
 
-pub shared-spec : {M : Type 1} → statement M
-shared-spec =
+pub shared_spec : {M : Type 1} → statement M
+shared_spec =
     tie.close (tie.spec
     carriers-named-requires called-requires lower-requires called-requires-2 called-requires-3 lower-requires-2 lower-requires-3 returns returns-2 returns-3)

@@ -6,29 +6,29 @@ use Rattle.tie.proofs.Looks.{shared_tells, extents_tell}
 use Rattle.tie.proofs.why.Statement.{statement}
 use Rattle.tie.proofs.why.Tie as tie
 
-shared-requires : tie.Need-shared-requires
+shared-requires : tie.Need-shared-k-requires
 shared-requires c κs = search rules
 
 bound-requires : tie.Need-bound-requires
 bound-requires c κs = search rules
 
-returns : tie.Need-returns
-returns c = let b = c.before.before in let a = b.before.args in
-    c.bound.ensures ∙ ap by_carrier b.shared.ensures ∙ sym (shared_tells a.r a.x a.y (λ e. c.before.if1.true (b.shared.ensures ∙ e)))
+returns : tie.Need-returns-then-k-ne0
+returns c = let b = c in let a = b.args in
+    c.bound.ensures ∙ ap by_carrier b.shared-k.ensures ∙ sym (shared_tells a.r a.x a.y (λ e. c.if-k-ne0.true (b.shared-k.ensures ∙ e)))
 
-extent-of-requires : tie.Need-extent-of-requires
+extent-of-requires : tie.Need-extent_of-requires
 extent-of-requires c κs = search rules
 
-extent-of-requires-2 : tie.Need-extent-of-requires-2
+extent-of-requires-2 : tie.Need-extent_of-requires-2
 extent-of-requires-2 c κs = search rules
 
 crossing-requires : tie.Need-crossing-requires
 crossing-requires c κs = search rules
 
-returns-2 : tie.Need-returns-2
-returns-2 c = let n = c.before.before.before in let b = n.before in let a = b.before.args in
-    c.crossing.ensures ∙ (λ i. tie_of_extents (c.before.before.extent-of.ensures i) (c.before.extent-of2.ensures i))
-    ∙ sym (extents_tell a.r a.x a.y (sym b.shared.ensures ∙ n.if1.false))
+returns-2 : tie.Need-returns
+returns-2 c = let n = c in let b = n in let a = b.args in
+    c.crossing.ensures ∙ (λ i. tie_of_extents (c.extent_of.ensures i) (c.extent_of-2.ensures i))
+    ∙ sym (extents_tell a.r a.x a.y (sym b.shared-k.ensures ∙ n.if-k-ne0.false))
 
 pub why_spec : {M : Type 1} → statement M
 why_spec = tie.close (tie.spec shared-requires bound-requires returns extent-of-requires extent-of-requires-2 crossing-requires returns-2)
