@@ -1,10 +1,10 @@
 -- The layout of the structs that cross into C, as the library's memory has it: the sizes and offsets that include/banthewig.h asserts for the
 -- same fields. Assumes nothing.
 use Prim.Native.Nat.{ℕ}
-use mathlib.Core.Path.{◌≡◌, refl, sym, ◌∙◌}
+use mathlib.Core.Path.{◌≡◌, refl}
 use mathlib.Core.Option.{some}
 use mathlib.Core.List.{List, [], ◌∷◌}
-use lib.ListN.{length, length-map}
+use lib.ListN.{length}
 use mir.Syntax.{Ty, ty_int, ty_array, w8, w16, w32, w64}
 use mir.Val.{Val, vint, vstruct, of_list, of_z}
 use prog.Memory.{size, align, field_of}

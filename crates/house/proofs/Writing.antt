@@ -1,11 +1,11 @@
 -- The records at the starts written end to end, one after another, and their new starts. Assumes nothing.
-use Prim.Native.Nat.{ℕ, suc, ◌+◌, ◌-◌, ◌≤◌, ◌<◌}
+use Prim.Native.Nat.{ℕ, suc, ◌+◌, ◌≤◌, ◌<◌}
 use mathlib.Core.Path.{◌≡◌, refl, sym, ap, ◌∙◌}
 use mathlib.Core.List.{List, [], ◌∷◌, ◌++◌, append_assoc, append-nil}
 use native.Mathlib.Omega.{arith}
 use native.Mathlib.Numerals.{add-one}
-use lib.ListN.{length, take, drop, get_or, set, length-append, length-map, length-drop, length-set, take-append-drop, drop_of_length-le, get_or-map}
-use lib.Seq.{length-take-le, take_all, take-length, take_at, drop_at, take-suc, take-suc-set, drop-drop, get_or-drop, split_at}
+use lib.ListN.{length, take, drop, get_or, set, length-append, length-map, length-drop, length-set, take-append-drop, get_or-map}
+use lib.Seq.{length-take-le, take_all, take_at, drop_at, take-suc, take-suc-set, drop-drop, get_or-drop, split_at}
 use Rattle.rewrite.specs.Programs.{flat, starts_of}
 use Rattle.rewrite.proofs.Laying.{flat_append, starts_length, start_between, past_next}
 use Rattle.house.specs.Arranged.{record_in, Begins, Starts, records_at}

@@ -1,7 +1,6 @@
 -- The rows of the rewriter and of the house order hold: each is tested, and the tests computed. Assumes nothing.
 use mathlib.Core.Path.{◌≡◌, refl, sym, subst}
 use mathlib.Core.Bool.{Bool, true, ◌&&◌}
-use mathlib.Core.List.{List}
 use Rattle.machine.proofs.Laws.{and_two}
 use Rattle.machine.specs.Machine.{Each}
 use Rattle.machine.specs.Machine.{empty_state, all, inactive_carrier, moved_to, attached_at, same_needle}

@@ -1,6 +1,6 @@
 -- The carriers of a record by how many its kind names. Assumes nothing.
 use Prim.Native.Nat.{ℕ}
-use mathlib.Core.Path.{◌≡◌, refl, sym, ◌∙◌}
+use mathlib.Core.Path.{◌≡◌, refl, ◌∙◌}
 use mathlib.Core.List.{[], ◌∷◌}
 use Rattle.record.specs.declared.Record.{Record}
 use Rattle.record.specs.Kinds.{carriers_named}

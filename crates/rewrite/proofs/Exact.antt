@@ -2,7 +2,7 @@
 use borrow.Table.Steps.{cases}
 use Prim.Native.Nat.{ℕ, zero, suc, ◌+◌, ◌*◌, ◌/◌, ◌%◌, ◌≤◌, ◌<◌}
 use mathlib.Core.Path.{◌≡◌, refl, sym, ap, subst, ◌∙◌}
-use mathlib.Core.Bool.{Bool, true, true≢false}
+use mathlib.Core.Bool.{Bool, true≢false}
 use mathlib.Core.List.{List, [], ◌∷◌, ◌++◌, append-nil}
 use native.Mathlib.Nat.{div-add-mod'}
 use native.Mathlib.Omega.{arith}
@@ -24,7 +24,7 @@ use Rattle.run.proofs.Demand.{final, complete}
 use Rattle.run.proofs.Exact.{run_flag, run_exactly}
 use Rattle.trace.specs.Records.{tied}
 use Rattle.trace.specs.Order.{in_force}
-use Rattle.trace.specs.Swaps.{no_pair, is_Tied, made}
+use Rattle.trace.specs.Swaps.{is_Tied, made}
 use Rattle.trace.proofs.Theorems.{made_iff_untied, refused_iff_tied, no_pair_iff_short}
 use Rattle.rewrite.specs.Programs.{flat, records_of, starts_of, knitting}
 use Rattle.rewrite.specs.Rewrite.{racking_zero, swap_of, Replay, ended, on_outcome, replay_from, replay, lent_no, Rewritten, refused, rewrite_of}

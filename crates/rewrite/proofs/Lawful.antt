@@ -1,6 +1,6 @@
 -- The laws that the theory of swaps (crate trace) asks of records and of the machine, and ties in 01's words. Assumes nothing.
 use borrow.Table.Steps.{cases}
-use Prim.Native.Nat.{ℕ, ◌≤◌}
+use Prim.Native.Nat.{ℕ}
 use mathlib.Core.Path.{◌≡◌, refl, sym, ap, subst, ◌∙◌}
 use mathlib.Core.Bool.{Bool, true, false, ◌||◌, true≢false, and_comm}
 use mathlib.Core.List.{List, [], ◌∷◌}

@@ -5,7 +5,7 @@ use Prim.Native.Nat.{ℕ, suc, ◌+◌, ◌-◌, ◌≤◌, ◌<◌}
 use native.Mathlib.Omega.{arith}
 use native.Mathlib.Numerals.{add-one}
 use lib.ListN.{length, take, drop, get_or, set, length-append, length-drop, drop_of_length-le, take-append-drop}
-use lib.Seq.{take-length, take_all, take_at, drop_at, take-append-le, drop-append-le, length-take-le, take-take, take-add, drop-drop}
+use lib.Seq.{take_all, take_at, drop_at, take-append-le, drop-append-le, length-take-le, take-take, take-add, drop-drop}
 use lib.Seq.{drop-cons, take-suc, set_at, get_or_at}
 use Rattle.rewrite.specs.Laid.{exchanged}
 

@@ -27,7 +27,7 @@ use Rattle.record.proofs.Ranges.{InRange}
 use Rattle.record.proofs.Forms.{form_in}
 use Rattle.run.specs.Relation.{Attached, Step, with_loops, with_carrier, transferred, reparked, exit_slot, attached}
 use Rattle.run.specs.Reason.{NamesCarrier, FloatTooLong, RecordReason, Reason}
-use Rattle.run.specs.Yarns.{FormsWith, FarRight, Floats, FloatExactly, AttachedTo, Unattaches, Transfers, Goes, Attachment, AttachmentsExactly}
+use Rattle.run.specs.Yarns.{FormsWith, FarRight, Floats, FloatExactly, AttachedTo, Unattaches, Transfers, Attachment, AttachmentsExactly}
 use Rattle.run.proofs.Refusals.{begun, by_number}
 
 -- ---- floats

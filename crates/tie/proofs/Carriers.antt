@@ -1,20 +1,19 @@
 -- The least carrier that two records name. Assumes nothing.
 use borrow.Table.Steps.{cases}
 use Prim.Native.Nat.{ℕ, ◌≤◌}
-use mathlib.Core.Path.{◌≡◌, refl, sym, ap, subst, ◌∙◌}
-use mathlib.Core.Bool.{true, false, true≢false}
+use mathlib.Core.Path.{◌≡◌, refl, sym, subst, ◌∙◌}
+use mathlib.Core.Bool.{true, true≢false}
 use mathlib.Core.List.{List, [], ◌∷◌}
-use mathlib.Core.Logic.{◌↔◌}
 use native.Mathlib.Omega.{arith}
 use lib.Dec.{eqb, ltb}
-use borrow.Author.Tests.{eq-eqb, ne_eqb, eqb-true, eqb-false, ltb-true, ltb-false}
+use borrow.Author.Tests.{eq-eqb, ne_eqb, eqb-true, ltb-true, ltb-false}
 use Rattle.record.specs.declared.Record.{Record}
 use Rattle.record.specs.Kinds.{carriers_named}
 use Rattle.record.specs.Names.{carriers_of}
 use Rattle.record.proofs.Ranges.{InRange}
 use Rattle.record.proofs.Shapes.{is, Count, none, one, two, carrier_count_lem}
 use Rattle.run.specs.Reason.{NamesCarrier}
-use Rattle.rewrite.specs.Extents.{member, smaller}
+use Rattle.rewrite.specs.Extents.{member}
 use Rattle.rewrite.proofs.Carriers.{none_named, one_named, two_named}
 use Rattle.tie.specs.Tie.{lower, called_in, least, least_shared}
 use Rattle.tie.specs.Exact.{Both, LeastShared}

@@ -1,6 +1,6 @@
 -- The call beside the rewriter. Assumes nothing.
 use Prim.Native.Nat.{ℕ, ◌≤◌}
-use mathlib.Core.Path.{◌≡◌, refl, sym, ap, subst, ◌∙◌}
+use mathlib.Core.Path.{◌≡◌, refl, sym, subst, ◌∙◌}
 use mathlib.Core.List.{List, [], ◌++◌, append-nil}
 use mathlib.Core.Logic.{◌↔◌}
 use native.Mathlib.Omega.{arith}
@@ -8,14 +8,13 @@ use lib.IntN.{ℤ, nat_abs}
 use Rattle.machine.specs.Limits.{racking_most}
 use Rattle.machine.specs.declared.Racking.{Racking}
 use Rattle.record.specs.declared.Record.{Record}
-use Rattle.record.specs.Kinds.{RACK}
-use Rattle.record.specs.Format.{Encodes, decode_of}
+use Rattle.record.specs.Format.{Encodes}
 use Rattle.rewrite.specs.Extents.{Share}
 use Rattle.rewrite.specs.Programs.{what}
 use Rattle.rewrite.specs.Exact.{Tied}
 use Rattle.tie.specs.declared.Tied as told
 use Rattle.tie.specs.Tie.{only_number, tie_of}
-use Rattle.tie.specs.Exact.{Begins, Unread, OneRack, Both, LeastShared, InCommon, Ties, Tells}
+use Rattle.tie.specs.Exact.{Begins, Unread, OneRack, Both, Ties, Tells}
 use Rattle.tie.specs.Claims.{SaysTied, TieAsRewriter, TieEitherWay, RestUnlooked}
 use Rattle.tie.proofs.Exact.{begins_read, unread_number, tie_exactly}
 use Rattle.tie.proofs.Carriers.{named_member, member_named}

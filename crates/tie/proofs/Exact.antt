@@ -1,34 +1,32 @@
 -- The call ends in one of the ways of specs/Exact, and in no other. Assumes nothing.
 use borrow.Table.Steps.{cases}
-use Prim.Native.Nat.{ℕ, ◌≤◌}
+use Prim.Native.Nat.{ℕ}
 use mathlib.Core.Path.{◌≡◌, refl, sym, ap, subst, ◌∙◌}
 use mathlib.Core.Bool.{true, false, true≢false}
-use mathlib.Core.List.{List, ◌++◌}
+use mathlib.Core.List.{List}
 use mathlib.Core.Logic.{◌↔◌}
 use native.Mathlib.Omega.{arith}
 use lib.IntN.{ℤ, nat_abs}
-use lib.Dec.{eqb, leb}
 use lib.ListN.{length, take, drop, take-append-drop}
-use borrow.Author.Tests.{le-leb, leb-true, leb-false}
+use borrow.Author.Tests.{le-leb, leb-true}
 use Rattle.machine.specs.declared.Racking.{Racking}
 use Rattle.machine.specs.Limits.{racking_most}
 use Rattle.machine.specs.Range.{racking_ok}
 use Rattle.record.specs.declared.Record.{Record}
 use Rattle.record.specs.declared.Decoded.{Decoded}
-use Rattle.record.specs.Kinds.{RACK, size_of}
-use Rattle.record.specs.Format.{Encodes, byte, fields_ok, refused_as, decode_of}
+use Rattle.record.specs.Kinds.{RACK}
+use Rattle.record.specs.Format.{byte, refused_as, decode_of}
 use Rattle.record.proofs.Ranges.{InRange}
 use Rattle.record.proofs.Shapes.{is, known_size, sized_known}
 use Rattle.record.proofs.Forms.{Reads, reads, decode_none, decode_strange, decode_short, decode_known, read_outside, form_decode, form_in, decode_form}
-use Rattle.run.specs.Reason.{UnknownKind, CutShort, FieldRange}
+use Rattle.run.specs.Reason.{CutShort}
 use Rattle.rewrite.specs.declared.Extent.{Extent}
 use Rattle.rewrite.specs.Extents.{Covers, Share, extent_of, Within, meets}
-use Rattle.rewrite.proofs.Footprints.{CarriersHigh}
 use Rattle.rewrite.proofs.Covers.{covers_exactly}
 use Rattle.rewrite.proofs.Lawful.{meets_exactly}
 use Rattle.tie.specs.declared.Tied.{Tied}
-use Rattle.tie.specs.Tie.{only_number, by_rack, by_carrier, by_extents, least_shared, common, tie_of_extents, tie_of_records, tie_of}
-use Rattle.tie.specs.Exact.{Begins, Unread, OneRack, Both, LeastShared, InCommon, Ties, Tells, TieExactly}
+use Rattle.tie.specs.Tie.{only_number, by_carrier, by_extents, least_shared, common, tie_of_extents, tie_of_records, tie_of}
+use Rattle.tie.specs.Exact.{Begins, Unread, OneRack, Both, Ties, Tells, TieExactly}
 use Rattle.tie.proofs.Looks.{first_rack, second_rack, carrier_shared, by_extents_lem, racking_out, first_refused, second_refused, both_read}
 use Rattle.tie.proofs.Rectangles.{common_within, same_extent_lem}
 use Rattle.tie.proofs.Carriers.{shared_none, none_shared, shared_least, least_shared_lem}

@@ -1,6 +1,6 @@
 -- What is told, look by look. Assumes nothing.
 use Prim.Native.Nat.{ℕ}
-use mathlib.Core.Path.{◌≡◌, refl, sym, ap, subst, ◌∙◌}
+use mathlib.Core.Path.{◌≡◌, refl, ap, ◌∙◌}
 use mathlib.Core.Bool.{true, false, cond}
 use mathlib.Core.List.{List, [], ◌∷◌}
 use lib.IntN.{ℤ}
@@ -14,7 +14,6 @@ use Rattle.record.specs.Format.{decode_of}
 use Rattle.record.specs.Names.{carriers_of, outline_of}
 use Rattle.rewrite.specs.Extents.{extent_of}
 use Rattle.rewrite.proofs.Extents.{outline_extent}
-use Rattle.tie.specs.declared.Tied.{Tied}
 use Rattle.tie.specs.Tie.{only_number, by_rack, by_carrier, lower, called_in, least, least_shared, tie_of_extents, tie_of_two, tie_of_records, tie_of}
 
 -- ---- two records

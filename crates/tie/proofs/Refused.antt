@@ -2,9 +2,9 @@
 use Prim.Native.Nat.{ℕ, ◌+◌, ◌*◌, ◌≤◌, ◌<◌}
 use mathlib.Core.Path.{◌≡◌, refl, sym, ap, subst, ◌∙◌}
 use mathlib.Core.Bool.{Bool, true}
-use mathlib.Core.List.{List, [], ◌∷◌, ◌++◌, append_assoc, append-nil}
+use mathlib.Core.List.{List, [], ◌∷◌, ◌++◌, append_assoc}
 use native.Mathlib.Omega.{arith}
-use lib.IntN.{ℤ, nat_abs}
+use lib.IntN.{nat_abs}
 use lib.ListN.{length, take, drop, get_or, length-append, get_or-append}
 use lib.Seq.{take-append_seam, drop_at, get_or-append-add}
 use Rattle.machine.specs.declared.Racking.{Racking}
@@ -17,10 +17,10 @@ use Rattle.record.specs.Names.{is_rack}
 use Rattle.record.proofs.Shapes.{cond_cases}
 use Rattle.run.proofs.Refusals.{reason_other}
 use Rattle.trace.specs.Order.{in_force}
-use Rattle.rewrite.specs.Programs.{flat, records_of, starts_of, position_of, what, knitting}
-use Rattle.rewrite.specs.Rewrite.{racking_zero, Rewritten, Replay, replay, replay_from, rewrite_of}
+use Rattle.rewrite.specs.Programs.{flat, records_of, starts_of, what, knitting}
+use Rattle.rewrite.specs.Rewrite.{racking_zero, Rewritten, Replay, replay_from}
 use Rattle.rewrite.specs.Laid.{is_record}
-use Rattle.rewrite.specs.Exact.{RecordsAre, TiedBehind, Neighbours, Swapped, leaving, Followed, Rewrites}
+use Rattle.rewrite.specs.Exact.{TiedBehind, Neighbours, Swapped, leaving, Followed, Rewrites}
 use Rattle.rewrite.proofs.Records.{each_map, each_part, record_form, form_record, flat_records}
 use Rattle.rewrite.proofs.Replays.{Moved, replay_moved}
 use Rattle.rewrite.proofs.Laying.{flat_append, starts_length, start_between}

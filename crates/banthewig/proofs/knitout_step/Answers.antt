@@ -1,7 +1,6 @@
 -- A refused step keeps the state. Assumes nothing.
-use Rattle.std.proofs.Common.{◌≡◌, ap, sym, ◌∙◌, rules}
+use Rattle.std.proofs.Common.{ap, sym, ◌∙◌}
 use Rattle.run.specs.declared.Stepped.{Stepped}
-use Rattle.panel.specs.Panel.{panel_step}
 use Rattle.panel.proofs.Demand.{refused_keeps}
 use Rattle.banthewig.proofs.knitout_step.Goals as goal
 

@@ -1,5 +1,5 @@
 -- Ten entries are filled, or none. Assumes nothing.
-use Rattle.std.proofs.Common.{◌≡◌, ◌≤◌, length, ap, sym, ◌∙◌, rules, arith}
+use Rattle.std.proofs.Common.{◌≡◌, length, ap, sym, ◌∙◌, rules, arith}
 use Rattle.machine.specs.Machine.{inactive}
 use Rattle.panel.specs.declared.Served.{Served}
 use Rattle.panel.specs.Panel.{list_answer}

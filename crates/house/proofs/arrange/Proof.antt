@@ -3,7 +3,6 @@ use Prim.Native.Nat.{ℕ, ◌+◌, ◌-◌}
 use native.Mathlib.Omega.{arith}
 use mathlib.Core.Path.{sym, ap, subst, ◌∙◌}
 use mathlib.Core.List.{List}
-use mathlib.Core.Logic.{⊎_elim}
 use lib.IntN.{ℤ}
 use lib.ListN.{length}
 use mir.Syntax.{w8}
@@ -79,9 +78,9 @@ loop-again c = let d = c.before.before in let k = d in let v = d.loop-j in
     let P = InOrder (p d) k.args.work.now c.if-program-a-eq-RACK.work c.if-program-a-eq-RACK.b (v.j + 1) in
     let a = d.place-a.ensures in
     elim c.if-program-a-eq-RACK.branch [
-      then-program-a-eq-RACK u ↦ subst (λ (l : List ℕ). InOrder (p d) k.args.work.now l c.if-program-a-eq-RACK.b (v.j + 1)) (sym u.work-is)
+      | then-program-a-eq-RACK u ↦ subst (λ (l : List ℕ). InOrder (p d) k.args.work.now l c.if-program-a-eq-RACK.b (v.j + 1)) (sym u.work-is)
           (rack_done (p d) k.args.work.now v.work v.b v.j v.invariant d.loop-j-test.true k.requires c.if-program-a-eq-RACK.b (ap (byte (p d)) (sym a) ∙ u.if-program-a-eq-RACK.true) (u.b-is ∙ ap (λ (n : ℕ). byte (p d) (n + 1)) a))
-    | else-program-a-eq-RACK u ↦ other_done (p d) k.args.work.now v.work v.b v.j v.invariant d.loop-j-test.true k.requires c.if-program-a-eq-RACK.work c.if-program-a-eq-RACK.b
+      | else-program-a-eq-RACK u ↦ other_done (p d) k.args.work.now v.work v.b v.j v.invariant d.loop-j-test.true k.requires c.if-program-a-eq-RACK.work c.if-program-a-eq-RACK.b
           (λ q. u.if-program-a-eq-RACK.false (ap (byte (p d)) a ∙ q)) (u.work-is ∙ u.settle.ensures ∙ ap (λ (z : ℤ). moved v.work (spot_at (p d) v.work v.j (record { 0 = z })) v.j) (back w8 u.signed.result (search rules) ∙ u.signed.ensures)) u.b-is
     ]
 

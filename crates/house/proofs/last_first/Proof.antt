@@ -3,7 +3,7 @@ use Prim.Native.Nat.{ℕ, ◌-◌, ◌<◌}
 use native.Mathlib.Omega.{arith}
 use mathlib.Core.Path.{◌≡◌, ap, ◌∙◌}
 use mathlib.Core.List.{List}
-use lib.ListN.{length, get_or, set, length-set}
+use lib.ListN.{length, get_or, set}
 use Rattle.house.proofs.Moves.{shifted, shift_first, shift_on, shift_last, shift_length}
 use borrow.Author.Rules.{rules}
 use Rattle.house.proofs.last_first.Statement.{statement}

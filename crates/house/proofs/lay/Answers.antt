@@ -1,8 +1,8 @@
 -- Record after record copied, and its start in place of the old one. Assumes nothing.
-use Rattle.std.proofs.Common.{ℕ, ◌+◌, ◌-◌, ◌≤◌, ◌≡◌, List, length, take, drop, sym, ap, subst, ◌∙◌, refl, rules, arith}
+use Rattle.std.proofs.Common.{ℕ, ◌+◌, ◌≤◌, ◌≡◌, List, length, sym, ap, subst, ◌∙◌, arith}
 use Rattle.house.specs.Arranged.{record_in, Begins}
 use Rattle.house.proofs.Places.{part_in}
-use Rattle.house.proofs.Writing.{Written, output_long, begins, next_small, one_written, all_starts}
+use Rattle.house.proofs.Writing.{output_long, begins, next_small, one_written, all_starts}
 use Rattle.house.proofs.lay.Goals as goal
 
 pub slice_bounds-copy_from_slice-end : goal.slice_bounds-copy_from_slice-end

@@ -1,5 +1,4 @@
 -- An entry of the work area. Assumes nothing.
-use native.Mathlib.Omega.{arith}
 use borrow.Author.Rules.{rules}
 use Rattle.house.proofs.place.Statement.{statement}
 use Rattle.house.proofs.place.Tie as tie

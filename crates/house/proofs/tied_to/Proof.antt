@@ -2,7 +2,6 @@
 use mathlib.Core.Path.{◌≡◌, refl, sym, ap, ◌∙◌}
 use mathlib.Core.Bool.{Bool, true, false}
 use mathlib.Core.List.{List}
-use mathlib.Core.Logic.{⊎_elim}
 use Prim.Native.Nat.{ℕ, ◌+◌, ◌≤◌, ◌<◌}
 use native.Mathlib.Omega.{arith}
 use lib.ListN.{length, get_or}
@@ -186,8 +185,8 @@ returns-8 : tie.Need-returns
 returns-8 c = let s = c.before.before.before.before.before in
     c.meet_at.ensures
     ∙ (elim c.if-carriers_named-eq1.branch [
-      then-carriers_named-eq1+else-k-x+else-k-x-2+else-m-near+else-near-m u ↦ let one = sym c.carriers_named.ensures ∙ u.if-carriers_named-eq1.true in tied_extents s (other_kind s one) (neither s one u.if-k-x.false u.if-k-x-2.false)
-    | else-carriers_named-eq1+else-kind-eq-RACK+else-share_carrier+else-apart u ↦ tied_extents s u.if-kind-eq-RACK.false (sym (share_of s _ _ u.outline_at-y.ensures u.share_carrier.ensures) ∙ u.if-share_carrier.false)
+      | then-carriers_named-eq1+else-k-x+else-k-x-2+else-m-near+else-near-m u ↦ let one = sym c.carriers_named.ensures ∙ u.if-carriers_named-eq1.true in tied_extents s (other_kind s one) (neither s one u.if-k-x.false u.if-k-x-2.false)
+      | else-carriers_named-eq1+else-kind-eq-RACK+else-share_carrier+else-apart u ↦ tied_extents s u.if-kind-eq-RACK.false (sym (share_of s _ _ u.outline_at-y.ensures u.share_carrier.ensures) ∙ u.if-share_carrier.false)
     ])
 
 pub tied_to_spec : {M : Type 1} → statement M

@@ -4,7 +4,6 @@ use native.Mathlib.Omega.{arith}
 use mathlib.Core.Path.{◌≡◌, refl, sym, ◌∙◌}
 use Prim.Native.Nat.{◌-◌, ◌≤◌}
 use lib.ListN.{length, drop}
-use borrow.Author.Tests.{not-true, not-false}
 use Rattle.machine.specs.Machine.{inactive, all}
 use Rattle.machine.specs.Looks.{carrier_passes}
 use Rattle.machine.proofs.Laws.{all_next, all_end}

@@ -1,6 +1,5 @@
 -- By the look at the state and the count. Assumes nothing.
 use borrow.Author.Rules.{rules}
-use borrow.Author.Tests.{not-true, not-false}
 use mathlib.Core.Path.{sym, ◌∙◌}
 use Rattle.panel.proofs.Services.{foul_list, short_list, long_list}
 use Rattle.panel.proofs.list_answer.Statement.{statement}

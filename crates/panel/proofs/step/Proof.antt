@@ -1,6 +1,5 @@
 -- By the look at the state. Assumes nothing.
 use borrow.Author.Rules.{rules}
-use borrow.Author.Tests.{not-true, not-false}
 use mathlib.Core.Path.{sym, ◌∙◌}
 use Rattle.panel.proofs.Services.{foul_step, fine_step}
 use Rattle.panel.proofs.step.Statement.{statement}

@@ -1,14 +1,13 @@
 -- Carrier, needle and direction in range, the second needle or carrier too. Assumes nothing.
 use borrow.Author.Rules.{rules}
 use native.Mathlib.Omega.{arith}
-use borrow.Author.Tests.{not-true, not-false}
 use mathlib.Core.Path.{◌≡◌, sym, ap, ◌∙◌}
 use mathlib.Core.Bool.{true}
 use mathlib.Core.List.{List}
 use lib.ListN.{length}
 use Prim.Native.Nat.{ℕ, ◌≤◌}
 use Rattle.machine.specs.Range.{number_ok}
-use Rattle.record.specs.Kinds.{IN, KNIT, SPLIT, PLATED_TUCK, PLATED_KNIT, size_of}
+use Rattle.record.specs.Kinds.{IN, PLATED_TUCK, PLATED_KNIT, size_of}
 use Rattle.record.specs.Format.{byte, work_ok, work_fields_ok, carrier_number_ok}
 use Rattle.record.proofs.Shapes.{plated_size}
 use Rattle.record.proofs.Forms.{work_fields, plated_fields}

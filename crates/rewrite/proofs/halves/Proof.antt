@@ -1,7 +1,7 @@
 -- A walk along both halves. Assumes nothing.
 use Prim.Native.Nat.{◌+◌, ◌-◌, ◌≤◌}
 use native.Mathlib.Omega.{arith}
-use mathlib.Core.Path.{◌≡◌, sym, ◌∙◌}
+use mathlib.Core.Path.{◌≡◌, ◌∙◌}
 use lib.ListN.{length, take, drop, get_or, set, length-set}
 use Rattle.rewrite.proofs.Rotations.{halfway, half_next, half_front, half_back, half_none, half_all}
 use borrow.Author.Rules.{rules}

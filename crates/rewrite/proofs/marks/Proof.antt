@@ -1,8 +1,8 @@
 -- A mark, then the 64 records up to the next. Assumes nothing.
 use Prim.Native.Nat.{◌+◌, ◌-◌, ◌*◌, ◌≤◌}
 use native.Mathlib.Omega.{arith}
-use mathlib.Core.Path.{◌≡◌, refl, sym, ◌∙◌}
-use lib.ListN.{length, take, length-set}
+use mathlib.Core.Path.{◌≡◌, refl}
+use lib.ListN.{length, take}
 use Rattle.rewrite.specs.Programs.{records_of}
 use Rattle.rewrite.specs.Laid.{rack_byte}
 use Rattle.rewrite.proofs.Laying.{work_length, work_short}

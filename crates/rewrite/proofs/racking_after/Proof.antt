@@ -3,7 +3,6 @@ use Prim.Native.Nat.{ℕ, ◌+◌, ◌-◌, ◌≤◌}
 use native.Mathlib.Omega.{arith}
 use mathlib.Core.Path.{◌≡◌, refl, sym, ap, ◌∙◌}
 use mathlib.Core.List.{List}
-use mathlib.Core.Logic.{⊎_elim}
 use lib.ListN.{take, drop, get_or}
 use borrow.Author.Tests.{eq-eqb, ne_eqb}
 use Rattle.record.specs.Format.{byte}
@@ -64,8 +63,8 @@ loop-again c = let k = c in let v = c.loop-j in
     let p = k.args.program.now in let s = here c.before.before in let a = begins c.before.before in
     let e : c.if-program-at-eq-RACK.b ≡ byte_after v.b (record_at p v.j) =
     elim c.if-program-at-eq-RACK.branch [
-      then-program-at-eq-RACK u ↦ at_rack p v.j s _ a v.b c.if-program-at-eq-RACK.b u.if-program-at-eq-RACK.true u.b-is
-    | else-program-at-eq-RACK u ↦ at_other p v.j s _ a v.b c.if-program-at-eq-RACK.b u.if-program-at-eq-RACK.false u.b-is
+      | then-program-at-eq-RACK u ↦ at_rack p v.j s _ a v.b c.if-program-at-eq-RACK.b u.if-program-at-eq-RACK.true u.b-is
+      | else-program-at-eq-RACK u ↦ at_other p v.j s _ a v.b c.if-program-at-eq-RACK.b u.if-program-at-eq-RACK.false u.b-is
     ] in (
       omega (arith, c.loop-j-test.true),
       omega (arith, v.invariant.1),

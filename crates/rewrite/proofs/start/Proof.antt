@@ -1,5 +1,4 @@
 -- An entry of the work area. Assumes nothing.
-use native.Mathlib.Omega.{arith}
 use Rattle.rewrite.proofs.Laying.{work_start}
 use borrow.Author.Rules.{rules}
 use Rattle.rewrite.proofs.start.Statement.{statement}

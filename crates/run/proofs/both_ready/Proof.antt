@@ -12,7 +12,7 @@ use Rattle.record.proofs.Shapes.{is}
 use Rattle.run.specs.Relation.{Active, Inactive, ParkedAt}
 use Rattle.run.specs.Step.{or_number, look_of, not_in_no, parked_no, float_no, both_no}
 use Rattle.run.proofs.Looks.{parked_seen}
-use Rattle.run.proofs.Premises.{or_next, or_first, parked_zero, parked_off, parked_elsewhere, parked_cases, not_in_zero, not_in_seven, float_zero, float_over, float_cases}
+use Rattle.run.proofs.Premises.{or_next, or_first, parked_off, parked_elsewhere, parked_cases, not_in_zero, not_in_seven, float_zero, float_over, float_cases}
 use Rattle.run.proofs.both_ready.Statement.{statement}
 use Rattle.run.proofs.both_ready.Tie as tie
 

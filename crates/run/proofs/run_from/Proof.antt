@@ -2,15 +2,12 @@
 -- Assumes nothing.
 use Prim.Native.Nat.{ℕ, ◌+◌, ◌-◌, ◌≤◌, ◌<◌}
 use mathlib.Core.Path.{◌≡◌, refl, sym, ap, ◌∙◌}
-use mathlib.Core.Bool.{false}
-use mathlib.Core.List.{List, map}
-use mathlib.Core.Logic.{⊎_elim}
+use mathlib.Core.List.{List}
 use native.Mathlib.Omega.{arith}
 use borrow.Author.Rules.{rules}
 use lib.ListN.{length, drop}
 use Rattle.machine.specs.Limits.{carrier_count}
-use Rattle.machine.specs.Machine.{state_with, moved_to}
-use Rattle.machine.specs.Stretch.{any_stretched}
+use Rattle.machine.specs.Machine.{state_with}
 use Rattle.machine.proofs.Stretches.{same_unstretched, no_back_unstretched}
 use Rattle.machine.specs.declared.State.{State}
 use Rattle.machine.specs.declared.Racking.{Racking}
@@ -423,9 +420,9 @@ loop-again : tie.Need-loop-at-preserved-else-r-z invariant-loop decreases-loop
 loop-again c = let b = c.before.before.before.before.before.before.before.before.before.before in let r = (s b).racking in let z = (x b).racking in
     on b (rack_made (s b) (x b) c.in-1.is
     (elim c.else-r-z.branch [
-      else-r-z-via-then-r-z+then-any_back+else-any_stretched w ↦ sym w.any_stretched.ensures ∙ w.if-any_stretched.false
-    | else-r-z-via-then-r-z+else-any_back w ↦ no_back_unstretched r z (s b).carriers (sym w.any_back.ensures ∙ w.if-any_back.false)
-    | else-r-z-via-else-r-z w ↦ same_unstretched r z (s b).carriers c.struct_told-1.given.0.1 c.struct_told-in-1-1.given.0.1 w.if-r-z.false
+      | else-r-z-via-then-r-z+then-any_back+else-any_stretched w ↦ sym w.any_stretched.ensures ∙ w.if-any_stretched.false
+      | else-r-z-via-then-r-z+else-any_back w ↦ no_back_unstretched r z (s b).carriers (sym w.any_back.ensures ∙ w.if-any_back.false)
+      | else-r-z-via-else-r-z w ↦ same_unstretched r z (s b).carriers c.struct_told-1.given.0.1 c.struct_told-in-1-1.given.0.1 w.if-r-z.false
     ]))
 
 loop-less-2 : tie.Need-loop-at-smaller-in-2 invariant-loop decreases-loop
@@ -462,8 +459,8 @@ loop-again-6 : tie.Need-loop-at-preserved-after-any_beside-2 invariant-loop decr
 loop-again-6 c = let b = c.before.before.before.before.before.before.before.before.before.before.before.before.before.before.before in let told = c.transfer-number-in-9.ensures in
     on b (split_made (s b) (x b) c.in-9.is _ c.asked-number-in-9.ensures c.if-number-ne0-3.false _ told.0 c.if-number-ne0-4.false _ c.attach-then.ensures _ _ told.1
     (elim c.if-any_beside-2.branch [
-      then-any_beside-2 w ↦ w.cs-is ∙ w.attachments_moved-cs-then-any_beside-2.ensures
-    | else-any_beside-2 w ↦ w.cs-is ∙ unmoved (x b).at (x b).to (s b).carriers (sym c.any_beside-in-9.ensures ∙ w.if-any_beside-2.false)
+      | then-any_beside-2 w ↦ w.cs-is ∙ w.attachments_moved-cs-then-any_beside-2.ensures
+      | else-any_beside-2 w ↦ w.cs-is ∙ unmoved (x b).at (x b).to (s b).carriers (sym c.any_beside-in-9.ensures ∙ w.if-any_beside-2.false)
     ]))
 
 loop-less-7 : tie.Need-loop-at-smaller-then-kind-lt1 invariant-loop decreases-loop

@@ -3,15 +3,11 @@ use borrow.Author.Rules.{rules}
 use borrow.Author.Tests.{eq-eqb, ne_eqb}
 use Prim.Native.Nat.{ℕ, ◌≤◌}
 use mathlib.Core.Path.{◌≡◌, sym, ap, subst, ◌∙◌}
-use mathlib.Core.Bool.{cond}
 use native.Mathlib.Omega.{arith}
 use mathlib.Core.List.{List}
-use mathlib.Core.Logic.{⊎_elim}
-use lib.Dec.{eqb}
-use lib.ListN.{length, take, length-map}
+use lib.ListN.{length, take}
 use lib.Seq.{length-take-le}
 use Rattle.machine.specs.declared.Walked.{Walked}
-use Rattle.machine.specs.Machine.{complete_of}
 use Rattle.machine.proofs.Laws.{complete_by}
 use Rattle.machine.proofs.Walks.{beds_most}
 use Rattle.run.specs.declared.Reached.{Reached}
@@ -71,8 +67,8 @@ returns c = let b = c.before.before.before.before.before in let size = c.front-s
     step_given _ (whole b) (end b) (stopped b) size number complete b.look_at_beds-beds.result.looked long c.front-size.ensures
     (elim c.if-size-eq0.branch [ then-size-eq0 u ↦ simp (eq-eqb size 0 u.if-size-eq0.true) u.number-is | else-size-eq0 u ↦ simp (ne_eqb size 0 u.if-size-eq0.false) u.number-is ])
     (elim c.if-beds.branch [
-      then-beds u ↦ u.complete-is ∙ u.one_if-complete.ensures ∙ ap one_if (u.carriers_pass.ensures ∙ complete_by (end b).state (sym (ap (λ (w : Walked). w.none) b.look_at_beds-beds.ensures) ∙ u.if-beds.true))
-    | else-beds u ↦ u.complete-is ∙ ap one_if (complete_by (end b).state (sym (ap (λ (w : Walked). w.none) b.look_at_beds-beds.ensures) ∙ u.if-beds.false))
+      | then-beds u ↦ u.complete-is ∙ u.one_if-complete.ensures ∙ ap one_if (u.carriers_pass.ensures ∙ complete_by (end b).state (sym (ap (λ (w : Walked). w.none) b.look_at_beds-beds.ensures) ∙ u.if-beds.true))
+      | else-beds u ↦ u.complete-is ∙ ap one_if (complete_by (end b).state (sym (ap (λ (w : Walked). w.none) b.look_at_beds-beds.ensures) ∙ u.if-beds.false))
     ])
     (ap (λ (w : Walked). w.looked) b.look_at_beds-beds.ensures)
     (elim c.if-number-eq0.branch [ then-number-eq0 u ↦ simp (eq-eqb _ 0 u.if-number-eq0.true) u.length-is | else-number-eq0 u ↦ simp (ne_eqb _ 0 u.if-number-eq0.false) u.length-is ])

@@ -1,12 +1,10 @@
 -- By whether they meet. Assumes nothing.
 use borrow.Author.Rules.{rules}
-use borrow.Author.Tests.{not-true, not-false}
 use mathlib.Core.Path.{sym, ap, ◌∙◌}
 use mathlib.Core.Path.{◌≡◌}
 use mir.Syntax.{w32}
 use mir.Val.{to_z, of_z}
 use Rattle.machine.proofs.Signed.{back}
-use Rattle.tie.specs.declared.Tied.{Tied}
 use Rattle.tie.specs.Tie.{by_extents, tie_of_extents}
 use Rattle.tie.proofs.crossing.Statement.{statement}
 use Rattle.tie.proofs.crossing.Tie as tie

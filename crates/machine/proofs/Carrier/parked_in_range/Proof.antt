@@ -1,6 +1,5 @@
 -- The slot, then the attachment. Assumes nothing.
 use borrow.Author.Rules.{rules}
-use borrow.Author.Tests.{not-true, not-false}
 use mathlib.Core.Path.{◌∙◌}
 use Rattle.machine.proofs.Carrier.parked_in_range.Statement.{statement}
 use Rattle.machine.proofs.Carrier.parked_in_range.Tie as tie

@@ -4,7 +4,6 @@ use mathlib.Core.Path.{◌≡◌, sym, ◌∙◌}
 use mathlib.Core.Bool.{true, false}
 use Prim.Native.Nat.{ℕ}
 use lib.Dec.{leb}
-use borrow.Author.Tests.{not-true, not-false}
 use Rattle.machine.specs.declared.State.{State}
 use Rattle.machine.specs.Machine.{all}
 use Rattle.machine.specs.Range.{racking_ok, limit_ok, carrier_ok, state_ok}
