@@ -1,11 +1,17 @@
 """Files of faults, crates/CRATE/must-fail/BUNDLE.edit and tools/faults/CRATE.edit: read, and written again; see tools/edits."""
 import os
 import re
+import shutil
 import sys
 import textwrap
 
 TOP = os.path.realpath(os.path.join(os.path.dirname(os.path.abspath(__file__)), ".."))
 WIDTH = 150  # characters of a comment line that is written
+
+
+def kit():
+    """the folder of the Rattle kit"""
+    return os.environ.get("RATTLE_HOME") or os.path.dirname(os.path.dirname(os.path.realpath(shutil.which("rt") or sys.exit("no Rattle kit: rt is missing"))))
 
 
 def read(path):
@@ -27,7 +33,7 @@ PLACE = re.compile(r"(`[^`;]+` )?(of `[^`;]+`|\(`[^`;]+`\))")
 def crates():
     """the crates, in the order of crates.txt"""
     lines = (line.split("#")[0] for line in read("crates.txt").split("\n"))
-    return [line.split(":")[0].strip() for line in lines if ":" in line]
+    return [line.split()[0].rstrip(":") for line in lines if ":" in line]
 
 
 class Fault:
