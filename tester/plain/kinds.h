@@ -1,4 +1,4 @@
-/* The kinds of records by short names, with their words, sizes, fields and extents, which stand nowhere else in bench/.
+/* The kinds of records by short names, with their words, sizes, fields and extents, which stand nowhere else in tester/plain.
    Numbers and limits are those of banthewig.h. */
 #ifndef BENCH_KINDS_H
 #define BENCH_KINDS_H
