@@ -11,7 +11,8 @@ WIDTH = 150  # characters of a comment line that is written
 
 def kit():
     """the folder of the Rattle kit"""
-    return os.environ.get("RATTLE_HOME") or os.path.dirname(os.path.dirname(os.path.realpath(shutil.which("rt") or sys.exit("no Rattle kit: rt is missing"))))
+    rt = shutil.which("rt") or sys.exit("no Rattle kit: rt is missing")
+    return os.environ.get("RATTLE_HOME") or os.path.dirname(os.path.dirname(os.path.realpath(rt)))
 
 
 def read(path):
@@ -30,10 +31,26 @@ BEGINS = re.compile(r"([a-z][a-z0-9_]*): (\S.*)")
 PLACE = re.compile(r"(`[^`;]+` )?(of `[^`;]+`|\(`[^`;]+`\))")
 
 
+def lines():
+    """crate -> the libraries that it uses, in the order of crates.txt"""
+    found = (line.split("#")[0].split(":") for line in read("crates.txt").split("\n"))
+    return {line[0].split()[0]: line[1].split() for line in found if len(line) == 2}
+
+
 def crates():
     """the crates, in the order of crates.txt"""
-    lines = (line.split("#")[0] for line in read("crates.txt").split("\n"))
-    return [line.split()[0].rstrip(":") for line in lines if ":" in line]
+    return list(lines())
+
+
+def below(crate):
+    """a crate and the repository's crates below it, in the order of crates.txt"""
+    uses, found, left = lines(), set(), [crate]
+    while left:
+        name = left.pop()
+        if name in uses and name not in found:
+            found.add(name)
+            left += uses[name]
+    return [name for name in uses if name in found]
 
 
 class Fault:

@@ -239,9 +239,10 @@ fn lay(program: &[u8], output: &mut [u8], work: &mut [u16])
     while i < work.len() {
         let a = place(work, i);
         let e = end(program, a);
-        bytes::copy(&program[a..e], &mut output[at..]);
+        let next = at + (e - a);
+        output[at..next].copy_from_slice(&program[a..e]);
         work[i] = at as u16;
-        at += e - a;
+        at = next;
         i += 1;
     }
 }

@@ -78,7 +78,7 @@ module _ (n : Needle) (x : Record) where
   named_enters (Known.miss k) e = absurd (works_none (simp k) e)
   named_enters (Known.tuck k) e = Enters.by_tuck k ((works_one (simp k)).0 e)
   named_enters (Known.knit k) e = Enters.by_knit k ((works_one (simp k)).0 e)
-  named_enters (Known.split k) e = ⊎_elim (Enters.Split-from k) (Enters.split_to k) ((works_two (simp k)).0 e)
+  named_enters (Known.split k) e = ⊎_elim (Enters.split_from k) (Enters.split_to k) ((works_two (simp k)).0 e)
   named_enters (Known.plated_tuck k) e = Enters.by_plated_tuck k ((works_one (simp k)).0 e)
   named_enters (Known.plated_knit k) e = Enters.by_plated_knit k ((works_one (simp k)).0 e)
 
@@ -89,7 +89,7 @@ module _ (n : Needle) (x : Record) where
   enters_named (Enters.xfer_to k e) = (works_two (simp k)).1 (inr e)
   enters_named (Enters.by_tuck k e) = (works_one (simp k)).1 e
   enters_named (Enters.by_knit k e) = (works_one (simp k)).1 e
-  enters_named (Enters.Split-from k e) = (works_two (simp k)).1 (inl e)
+  enters_named (Enters.split_from k e) = (works_two (simp k)).1 (inl e)
   enters_named (Enters.split_to k e) = (works_two (simp k)).1 (inr e)
   enters_named (Enters.by_plated_tuck k e) = (works_one (simp k)).1 e
   enters_named (Enters.by_plated_knit k e) = (works_one (simp k)).1 e

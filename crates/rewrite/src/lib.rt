@@ -221,10 +221,10 @@ fn rotate(part: &mut [u8], k: usize)
 {
     let mut old = [0u8; 12];
     let n = part.len();
-    bytes::copy(part, &mut old);
-    bytes::copy(&old[k..n], part);
+    old[..n].copy_from_slice(part);
     let m = n - k;
-    bytes::copy(&old[..k], &mut part[m..]);
+    part[..m].copy_from_slice(&old[k..n]);
+    part[m..].copy_from_slice(&old[..k]);
 }
 
 // Exchanges the two halves of a part, k bytes each.
@@ -456,7 +456,7 @@ pub fn rewrite(limit: u8, program: &[u8], log: &[u8], output: &mut [u8], work: &
     if a.number != 0 {
         return a;
     }
-    bytes::copy(program, output);
+    output[..n].copy_from_slice(program);
     let count = starts(program, work);
     let mut table = [0u8; MARKS];
     marks(program, &work[..count], &mut table);

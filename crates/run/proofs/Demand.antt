@@ -99,18 +99,21 @@ pub current_rack_steps : CurrentRackSteps
 current_rack_steps = current_rack
 
 -- the step of a rack is by its rule
+rule_of : {s : State} {x : Record} {t : State} → x.kind ≡ RACK → Step s x t → Unstretched s x.racking
+rule_of k (Step.rack e u) = u
+rule_of k (Step.drop e) = absurd (omega arith)
+rule_of k (Step.xfer e o r) = absurd (omega arith)
+rule_of k (Step.carrier_in e c) = absurd (omega arith)
+rule_of k (Step.carrier_out e p) = absurd (omega arith)
+rule_of k (Step.miss e p) = absurd (omega arith)
+rule_of k (Step.tuck e p f r) = absurd (omega arith)
+rule_of k (Step.knit e p f) = absurd (omega arith)
+rule_of k (Step.split e p f o r) = absurd (omega arith)
+rule_of k (Step.plated_tuck e two p q f g r) = absurd (omega arith)
+rule_of k (Step.plated_knit e two p q f g r) = absurd (omega arith)
+
 by_rule : {s t : State} {x : Record} → x.kind ≡ RACK → Step s x t → Unstretched s x.racking
-by_rule k (Step.rack e u) = u
-by_rule k (Step.drop e) = absurd (omega arith)
-by_rule k (Step.xfer e o r) = absurd (omega arith)
-by_rule k (Step.carrier_in e c) = absurd (omega arith)
-by_rule k (Step.carrier_out e p) = absurd (omega arith)
-by_rule k (Step.miss e p) = absurd (omega arith)
-by_rule k (Step.tuck e p f r) = absurd (omega arith)
-by_rule k (Step.knit e p f) = absurd (omega arith)
-by_rule k (Step.split e p f o r) = absurd (omega arith)
-by_rule k (Step.plated_tuck e two p q f g r) = absurd (omega arith)
-by_rule k (Step.plated_knit e two p q f g r) = absurd (omega arith)
+by_rule k step = rule_of k step
 
 pub rack_exactly : RackExactly
 rack_exactly s x e = (

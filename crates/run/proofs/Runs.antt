@@ -89,18 +89,21 @@ pub record SameFrame (s t : State) : Type 0 where
   pub limit : t.limit ≡ s.limit
   pub carriers : length t.carriers ≡ length s.carriers
 
+frame_after : {s : State} {x : Record} {t : State} → Step s x t → SameFrame s t
+frame_after (Step.rack e u) = record { loops = refl; limit = refl; carriers = refl }
+frame_after (Step.drop e) = record { loops = simp length-set; limit = refl; carriers = refl }
+frame_after (Step.xfer e o r) = record { loops = simp length-set; limit = refl; carriers = simp length-map }
+frame_after (Step.carrier_in e c) = record { loops = refl; limit = refl; carriers = simp length-set }
+frame_after (Step.carrier_out e p) = record { loops = refl; limit = refl; carriers = simp length-set }
+frame_after (Step.miss e p) = record { loops = refl; limit = refl; carriers = simp length-set }
+frame_after (Step.tuck e p h r) = record { loops = simp length-set; limit = refl; carriers = simp length-set }
+frame_after (Step.knit e p h) = record { loops = simp length-set; limit = refl; carriers = simp length-set }
+frame_after (Step.split e p h o r) = record { loops = simp length-set; limit = refl; carriers = simp (length-set, length-map) }
+frame_after (Step.plated_tuck e two p q h i r) = record { loops = simp length-set; limit = refl; carriers = simp length-set }
+frame_after (Step.plated_knit e two p q h i r) = record { loops = simp length-set; limit = refl; carriers = simp length-set }
+
 pub step_frame : {s t : State} {x : Record} → Step s x t → SameFrame s t
-step_frame (Step.rack e u) = record { loops = refl; limit = refl; carriers = refl }
-step_frame (Step.drop e) = record { loops = simp length-set; limit = refl; carriers = refl }
-step_frame (Step.xfer e o r) = record { loops = simp length-set; limit = refl; carriers = simp length-map }
-step_frame (Step.carrier_in e c) = record { loops = refl; limit = refl; carriers = simp length-set }
-step_frame (Step.carrier_out e p) = record { loops = refl; limit = refl; carriers = simp length-set }
-step_frame (Step.miss e p) = record { loops = refl; limit = refl; carriers = simp length-set }
-step_frame (Step.tuck e p h r) = record { loops = simp length-set; limit = refl; carriers = simp length-set }
-step_frame (Step.knit e p h) = record { loops = simp length-set; limit = refl; carriers = simp length-set }
-step_frame (Step.split e p h o r) = record { loops = simp length-set; limit = refl; carriers = simp (length-set, length-map) }
-step_frame (Step.plated_tuck e two p q h i r) = record { loops = simp length-set; limit = refl; carriers = simp length-set }
-step_frame (Step.plated_knit e two p q h i r) = record { loops = simp length-set; limit = refl; carriers = simp length-set }
+step_frame step = frame_after step
 
 pub steps_frame : {s t : State} {p : List ℕ} → Steps s p t → SameFrame s t
 steps_frame Steps.none = record { loops = refl; limit = refl; carriers = refl }

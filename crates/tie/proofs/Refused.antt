@@ -51,7 +51,7 @@ form_racking (Encodes.plated a b c d e f g h i) = omega arith
 in_range : (r : Racking) (l : List (List ℕ)) → nat_abs r.0 ≤ racking_most → AllRecords l → nat_abs (in_force knitting r l).0 ≤ racking_most
 in_range r [] h e = h
 in_range r (x ∷ l) h (a, e) =
-    in_range _ l (cond_cases (λ (s : Racking). nat_abs s.0 ≤ racking_most) (is_rack (what x)) (λ t. form_racking (record_form x a)) (λ t. h)) e
+    in_range (knitting.after r x) l (cond_cases (λ (s : Racking). nat_abs s.0 ≤ racking_most) (is_rack (what x)) (λ t. form_racking (record_form x a)) (λ t. h)) e
 
 -- ---- two neighbours of the program that was left, where work says that they start
 module _ (u : List (List ℕ)) (x y : List ℕ) (v : List (List ℕ)) where

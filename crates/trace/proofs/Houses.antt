@@ -57,11 +57,14 @@ module _ {A R : Type 0} (K : Records A R) (L : Lawful K) (less : R → A → A �
 
   -- ---- one house order
   -- what remains is fixed
+  rest_of_equals : {r : R} {x z : A} {l u v : List A} → Freed r x l u → Freed r z l v → x ≡ z → u ≡ v
+  rest_of_equals Free.at_front Free.at_front q = refl
+  rest_of_equals {r} {x} Free.at_front (Free.behind d g) q = absurd (d (subst (λ (w : A). tied K r x w ≡ true) q (tied_self r x)))
+  rest_of_equals {r} {z = z} (Free.behind d f) Free.at_front q = absurd (d (subst (λ (w : A). tied K r z w ≡ true) (sym q) (tied_self r z)))
+  rest_of_equals (Free.behind {y} d f) (Free.behind e g) q = ap (λ (l : List A). y ∷ l) (rest_of_equals f g q)
+
   pub one_rest : {r : R} {x : A} {l u v : List A} → Freed r x l u → Freed r x l v → u ≡ v
-  one_rest Free.at_front Free.at_front = refl
-  one_rest {r} {x} Free.at_front (Free.behind d g) = absurd (d (tied_self r x))
-  one_rest {r} {x} (Free.behind d f) Free.at_front = absurd (d (tied_self r x))
-  one_rest (Free.behind {y} d f) (Free.behind e g) = ap (λ (l : List A). y ∷ l) (one_rest f g)
+  one_rest f g = rest_of_equals f g refl
 
   -- two that are both the least are equal
   one_least : {r : R} {x y : A} {l u v : List A} → Freed r x l u → ((z : A) (o : List A) → Freed r z l o → (z ≡ x → ⊥) → less r x z ≡ true)
@@ -74,6 +77,8 @@ module _ {A R : Type 0} (K : Records A R) (L : Lawful K) (less : R → A → A �
 
   pub one_order : {r : R} {l m n : List A} → House r l m → House r l n → m ≡ n
   one_order HouseOrder.no_more HouseOrder.no_more = refl
+  one_order HouseOrder.no_more (HouseOrder.take_next g q k) = elim g [ ]
+  one_order (HouseOrder.take_next f p h) HouseOrder.no_more = elim f [ ]
   one_order {r} {l} (HouseOrder.take_next {x = x} f p h) (HouseOrder.take_next {x = y} {rest = v} {m = n} g q k) =
       let e = one_least f p g q in
       let g' = subst (λ (z : A). Freed r z l v) (sym e) g in
@@ -91,6 +96,7 @@ module _ {A R : Type 0} (K : Records A R) (L : Lawful K) (less : R → A → A �
   first_or (In.later i) = inr i
 
   keep_in : (p : A → Bool) (x : A) (l : List A) → In x (keep p l) → In x l × (p x ≡ true)
+  keep_in p x [] i = elim i [ ]
   keep_in p x (y ∷ l) i = cases (p y) (λ e. kept (keep_in p x l) e (first_or (rw e at i))) (λ e. let (j, f) = keep_in p x l (rw e at i) in (In.later j, f))
     where
       kept : (In x (keep p l) → In x l × (p x ≡ true)) → p y ≡ true → (x ≡ y) ⊎ In x (keep p l) → In x (y ∷ l) × (p x ≡ true)
@@ -98,6 +104,7 @@ module _ {A R : Type 0} (K : Records A R) (L : Lawful K) (less : R → A → A �
       kept ih e (inr j) = let (k, f) = ih j in (In.later k, f)
 
   in_keep : (p : A → Bool) (x : A) (l : List A) → p x ≡ true → In x l → In x (keep p l)
+  in_keep p x [] e i = elim i [ ]
   in_keep p x (y ∷ l) e In.first = rw e In.first
   in_keep p x (y ∷ l) e (In.later i) = let j = in_keep p x l e i in cases (p y) (λ f. rw f (In.later j)) (λ f. rw f j)
 
@@ -108,6 +115,7 @@ module _ {A R : Type 0} (K : Records A R) (L : Lawful K) (less : R → A → A �
   -- what is free, and what remains
   in_free : (r : R) (z : A) (l : List A) → In z (free_of K less r l) → Freed r z l (without K less z l)
   unfolding free_of without
+  in_free r z [] i = elim i [ ]
   in_free r z (x ∷ l) In.first = rw (same_refl x) Free.at_front
   in_free r z (x ∷ l) (In.later i) =
       let (j, e) = keep_in (λ y. not (tied K r x y)) z (free_of K less r l) i in
@@ -146,6 +154,7 @@ module _ {A R : Type 0} (K : Records A R) (L : Lawful K) (less : R → A → A �
   least_of_lem : (r : R) (x : A) (l : List A) (z : A) → In z (x ∷ l) → NotLess r (least_of K less r x l) z
   unfolding least_of
   least_of_lem r x [] z In.first = inl refl
+  least_of_lem r x [] z (In.later i) = elim i [ ]
   least_of_lem r x (y ∷ l) z i = go (least_of_lem r (cond (less r y x) y x) l) (first_or i)
     where
       w : A
@@ -208,6 +217,7 @@ module _ {A R : Type 0} (K : Records A R) (L : Lawful K) (less : R → A → A �
       further {others} (inr (j, k)) a b = inr (suc j, Made.there (subst (λ (q : R). Made K q j rest others) (b ∙ sym a ∙ ap (λ (q : R). after q y) (sym b)) k))
 
   swap_order : {r : R} {l m n : List A} {i : ℕ} → House r l n → Made K r i l m → House r m n
+  swap_order HouseOrder.no_more s = elim s [ ]
   swap_order {r} {m = m} (HouseOrder.take_next {x = x} f least h) s =
       let (others, g, c) = swap_free f s in
       HouseOrder.take_next g (λ y o k d. let (o', k', b) = swap_free k (made_back K L s) in least y o' k' d) (go c h (λ j k. swap_order h k))

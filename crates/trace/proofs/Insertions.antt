@@ -47,6 +47,7 @@ module _ {A R : Type 0} (K : Records A R) (L : Lawful K) (less : R → A → A �
   free_else : {r : R} {x z : A} (w : List A) {rest : List A} → Freed K L less S r z (w ++ x ∷ []) rest → Else r x z w rest
   unfolding tied_to_one
   free_else [] Free.at_front = inr (refl, refl)
+  free_else [] (Free.behind d f) = elim f [ ]
   free_else (y ∷ w) Free.at_front = inl (w, Free.at_front)
   free_else {r} {x} {z} (y ∷ w) (Free.behind {rest = rest} d f) = go (free_else w f)
     where
@@ -141,7 +142,7 @@ module _ {A R : Type 0} (K : Records A R) (L : Lawful K) (less : R → A → A �
       (λ t. let f = tied_end r x l ∙ t in
       let g = subst (λ (q : R). tied_to_one K less (in_force K q l) x l ≡ false) (sym e) f in
       let h : in_force K (after r y) l ≡ r = no_rack r (after r y) x l t ∙ e in
-      simp (h, t)))
+      simp (g, h, t)))
 
   placed_spot : (r : R) (x : A) (l : List A) → placed r x l ≡ take (spot_of K less (in_force K r l) x l) l ++ x ∷ drop (spot_of K less (in_force K r l) x l) l
   unfolding placed up_to_tied

@@ -31,9 +31,13 @@ module _ {A R S N : Type 0} (K : Records A R) (M : Machine A R S) (names : N →
       go none e ih = cc
       go (some u) e ih = rw e (ih u (good_step s u x g e) (racking_step s u x e ∙ ap (λ (z : R). after z x) q))
 
+  -- by recursion on the swaps, with the state before their positions
+  run_kept : (s : S) {is : List ℕ} {l m : List A} → Good s → Swaps K (racking s) is l m → run M s l ≡ run M s m
+  run_kept s g no_swap = refl
+  run_kept s g (swap_first {i} {l = l} {m = m} e t) = made_run (made_is K l m (racking s) i e) s g refl ∙ run_kept s g t
+
   pub swaps_run : {is : List ℕ} {l m : List A} (s : S) → Good s → Swaps K (racking s) is l m → run M s l ≡ run M s m
-  swaps_run s g no_swap = refl
-  swaps_run s g (swap_first {i} {l = l} {m = m} e t) = made_run (made_is K l m (racking s) i e) s g refl ∙ swaps_run s g t
+  swaps_run s g t = run_kept s g t
 
   module _ (n : N) where
     -- two that have their steps and name one thing are not swapped
@@ -57,8 +61,11 @@ module _ {A R S N : Type 0} (K : Records A R) (M : Machine A R S) (names : N →
         go none f ih = absurd (true≢false (cc))
         go (some u) f ih = let z = ih u e (good_step s u x g f) (racking_step s u x f ∙ ap (λ (w : R). after w x) q) (cc) in cc
 
-    pub swaps_history : {is : List ℕ} {l m : List A} (s e : S) → Good s → Ends M s l e → Swaps K (racking s) is l m → keep (names n) l ≡ keep (names n) m
-    swaps_history s e g v no_swap = refl
-    swaps_history s e g v (swap_first {i} {l = l} {m = m} h t) =
+    history_kept : (s e : S) {is : List ℕ} {l m : List A} → Good s → Ends M s l e → Swaps K (racking s) is l m → keep (names n) l ≡ keep (names n) m
+    history_kept s e g v no_swap = refl
+    history_kept s e g v (swap_first {i} {l = l} {m = m} h t) =
         let k = made_is K l m (racking s) i h in
-        made_history k s e g refl v ∙ swaps_history s e g (sym (made_run k s g refl) ∙ v) t
+        made_history k s e g refl v ∙ history_kept s e g (sym (made_run k s g refl) ∙ v) t
+
+    pub swaps_history : {is : List ℕ} {l m : List A} (s e : S) → Good s → Ends M s l e → Swaps K (racking s) is l m → keep (names n) l ≡ keep (names n) m
+    swaps_history s e g v t = history_kept s e g v t

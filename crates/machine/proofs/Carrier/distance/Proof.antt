@@ -13,48 +13,48 @@ use Rattle.machine.proofs.Carrier.distance.Statement.{statement}
 use Rattle.machine.proofs.Carrier.distance.Tie as tie
 
 -- what is known where both slots are
-module _ (b : tie.After-struct-told2) where
-  abbrev got : tie.After-beside
+module _ (b : tie.After-struct_told-2-1) where
+  abbrev got : tie.After-beside-y
   got = b.before.before.before.before.before
 
   abbrev a : ℤ
-  a = got.beside.result.0
+  a = got.beside-y.result.0
 
   abbrev z : ℤ
   z = got.before.before.args.self.slot.0
 
   far : mag a < 66000
-  far = got.beside.ensures.1
+  far = got.beside-y.ensures.1
 
   near : mag z < 32768
-  near = b.before.before.struct_told.given.0.1
+  near = b.before.before.struct_told-1.given.0.1
 
   is : nat_abs (a -ℤ z) ≡ distance_of got.before.before.args.r got.before.before.args.self
-  is = distance_is got.before.before.args.r got.before.before.args.self got.beside.result got.beside.ensures.0
+  is = distance_is got.before.before.args.r got.before.before.args.self got.beside-y.result got.beside-y.ensures.0
 
-beside-requires : tie.Need-beside-requires
+beside-requires : tie.Need-beside-y-requires
 beside-requires c κs = search rules
 
-cast-d : tie.Need-overflow-cast-d
-cast-d c = let z = c.before.before.before.before.before.args.self.slot.0 in let h = c.struct_told.given.0.1 in
+cast-d : tie.Need-overflow_cast-d
+cast-d c = let z = c.before.before.before.before.before.args.self.slot.0 in let h = c.struct_told-1.given.0.1 in
     simp (back w16 z h) (fits w32 z (omega arith))
 
-sub-d : tie.Need-overflow-sub-d
+sub-d : tie.Need-overflow_sub-d
 sub-d c = span_fits (a c) (z c) (far c) (near c)
 
-sub-result : tie.Need-overflow-sub-result
+sub-result : tie.Need-overflow_sub-result
 sub-result c = let b = c.before in turned_fits (a b) (z b) (far b) (near b)
 
-cast-result : tie.Need-overflow-cast-result
-cast-result c = let b = c.before in turned_unsigned (a b) (z b) (far b) (near b) c.if1.true
+cast-result : tie.Need-overflow_cast-result
+cast-result c = let b = c.before in turned_unsigned (a b) (z b) (far b) (near b) c.if-d-lt0.true
 
-cast-result-2 : tie.Need-overflow-cast-result-2
-cast-result-2 c = let b = c.before in span_unsigned (a b) (z b) (far b) (near b) c.if1.false
+cast-result-2 : tie.Need-overflow_cast-result-else-d-lt0
+cast-result-2 c = let b = c.before in span_unsigned (a b) (z b) (far b) (near b) c.if-d-lt0.false
 
-returns : tie.Need-returns
-returns c = let b = c.before in turned_distance (a b) (z b) (far b) (near b) c.if1.true ∙ is b
+returns : tie.Need-returns-then-d-lt0
+returns c = let b = c.before in turned_distance (a b) (z b) (far b) (near b) c.if-d-lt0.true ∙ is b
 
-returns-2 : tie.Need-returns-2
+returns-2 : tie.Need-returns-else-d-lt0
 returns-2 c = let b = c.before in span_distance (a b) (z b) (far b) (near b) ∙ is b
 
 pub distance_spec : {M : Type 1} → statement M

@@ -27,28 +27,28 @@ module _ (d : Carrier) (p : d.active ≡ 0) (q : d.side ≡ 0) where
   last e f = simp (eq-eqb _ _ p, eq-eqb _ _ q, e, eq-eqb _ _ f)
 
 -- a slot of 0, by its bits
-at_zero : (b : tie.Else3) → eq_z b.before.before.before.before.before.before.before.before.before.args.self.slot.0 (pos 0) ≡ true
-at_zero b = is_bits w16 b.before.before.before.before.before.before.before.before.before.args.self.slot.0 (pos 0) b.before.struct_told.given.0.1 (omega arith) b.if3.false
+at_zero : (b : tie.Else-z-ne0) → eq_z b.before.before.before.before.before.before.before.before.before.args.self.slot.0 (pos 0) ≡ true
+at_zero b = is_bits w16 b.before.before.before.before.before.before.before.before.before.args.self.slot.0 (pos 0) b.before.struct_told-1.given.0.1 (omega arith) b.if-z-ne0.false
 
-returns : tie.Need-returns
+returns : tie.Need-returns-then-self-ne0
 unfolding inactive_carrier
-returns c = simp (ne_eqb _ _ c.if1.true)
+returns c = simp (ne_eqb _ _ c.if-self-ne0.true)
 
-returns-2 : tie.Need-returns-2
+returns-2 : tie.Need-returns-then-self-ne0-2
 unfolding inactive_carrier
-returns-2 c = simp (eq-eqb _ _ c.before.before.if1.false, ne_eqb _ _ c.if2.true)
+returns-2 c = simp (eq-eqb _ _ c.before.before.if-self-ne0.false, ne_eqb _ _ c.if-self-ne0-2.true)
 
-returns-3 : tie.Need-returns-3
+returns-3 : tie.Need-returns-then-z-ne0
 returns-3 c = let d = c.before.before.before.before.before.before.before.before.before.args.self in
-    slot_no_lem d c.before.before.before.before.before.if1.false c.before.before.before.if2.false (not_bits w16 d.slot.0 (pos 0) c.before.struct_told.given.0.1 (omega arith) c.if3.true)
+    slot_no_lem d c.before.before.before.before.before.if-self-ne0.false c.before.before.before.if-self-ne0-2.false (not_bits w16 d.slot.0 (pos 0) c.before.struct_told-1.given.0.1 (omega arith) c.if-z-ne0.true)
 
-returns-4 : tie.Need-returns-4
+returns-4 : tie.Need-returns-then-n-ne0
 returns-4 c = let b = c.before.before in
-    bed_no b.before.before.before.before.before.before.before.before.before.args.self b.before.before.before.before.before.if1.false b.before.before.before.if2.false (at_zero b) c.if4.true
+    bed_no b.before.before.before.before.before.before.before.before.before.args.self b.before.before.before.before.before.if-self-ne0.false b.before.before.before.if-self-ne0-2.false (at_zero b) c.if-n-ne0.true
 
-returns-5 : tie.Need-returns-5
+returns-5 : tie.Need-returns
 returns-5 c = let b = c.before.before.before in
-    last b.before.before.before.before.before.before.before.before.before.args.self b.before.before.before.before.before.if1.false b.before.before.before.if2.false (at_zero b) c.before.if4.false
+    last b.before.before.before.before.before.before.before.before.before.args.self b.before.before.before.before.before.if-self-ne0.false b.before.before.before.if-self-ne0-2.false (at_zero b) c.before.if-n-ne0.false
 
 pub is_inactive_spec : {M : Type 1} → statement M
 is_inactive_spec = tie.close (tie.spec returns returns-2 returns-3 returns-4 returns-5)

@@ -4,16 +4,16 @@ use Rattle.machine.specs.Machine.{moved_to}
 use Rattle.machine.proofs.Carrier.moved.Statement.{statement}
 use Rattle.machine.proofs.Carrier.moved.Tie as tie
 
-attached-at-requires : tie.Need-attached-at-requires
+attached-at-requires : tie.Need-attached_at-requires
 attached-at-requires c κs = search rules
 
-returns : tie.Need-returns
+returns : tie.Need-returns-then-attached_at
 unfolding moved_to
-returns c = simp (← c.before.before.attached-at.ensures, c.before.if1.true)
+returns c = simp (← c.before.before.attached_at.ensures, c.before.if-attached_at.true)
 
-returns-2 : tie.Need-returns-2
+returns-2 : tie.Need-returns
 unfolding moved_to
-returns-2 c = simp (← c.before.attached-at.ensures, c.if1.false)
+returns-2 c = simp (← c.before.attached_at.ensures, c.if-attached_at.false)
 
 pub moved_spec : {M : Type 1} → statement M
 moved_spec = tie.close (tie.spec attached-at-requires returns returns-2)

@@ -5,17 +5,17 @@ use mathlib.Core.Path.{◌∙◌}
 use Rattle.machine.proofs.Carrier.parked_in_range.Statement.{statement}
 use Rattle.machine.proofs.Carrier.parked_in_range.Tie as tie
 
-in-range-requires : tie.Need-in-range-requires
+in-range-requires : tie.Need-in_range-requires
 in-range-requires c κs = search rules
 
-returns : tie.Need-returns
-returns c = simp (← c.before.in_range.ensures, not-true c.before.in_range.result c.if1.true)
+returns : tie.Need-returns-then-not-in_range
+returns c = simp (← c.before.in_range.ensures, c.if-not-in_range.true)
 
-attachment-in-range-requires : tie.Need-attachment-in-range-requires
+attachment-in-range-requires : tie.Need-attachment_in_range-requires
 attachment-in-range-requires c κs = search rules
 
-returns-2 : tie.Need-returns-2
-returns-2 c = c.attachment-in-range.ensures ∙ simp (← c.before.before.in_range.ensures, not-false c.before.before.in_range.result c.before.if1.false)
+returns-2 : tie.Need-returns
+returns-2 c = c.attachment_in_range.ensures ∙ simp (← c.before.before.in_range.ensures, c.before.if-not-in_range.false)
 
 pub parked_in_range_spec : {M : Type 1} → statement M
 parked_in_range_spec = tie.close (tie.spec in-range-requires returns attachment-in-range-requires returns-2)

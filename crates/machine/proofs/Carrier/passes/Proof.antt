@@ -30,20 +30,20 @@ module _ (d : Carrier) where
   either h true = refl
   either h false = unparked h
 
-returns : tie.Need-returns
-returns c = simp c.if2.true (parked_idle _ (sym c.before.before.requires ∙ c.before.if1.true))
+returns : tie.Need-returns-then-idle
+returns c = simp c.if-idle.true (parked_idle _ (sym c.before.before.requires ∙ c.before.if-active-eq1.true))
 
-parked-in-range-requires : tie.Need-parked-in-range-requires
+parked-in-range-requires : tie.Need-parked_in_range-requires
 parked-in-range-requires c κs = search rules
 
-returns-2 : tie.Need-returns-2
-returns-2 c = simp c.before.if2.false (c.parked-in-range.ensures ∙ parked_ranged _ (sym c.before.before.before.requires ∙ c.before.before.if1.true))
+returns-2 : tie.Need-returns-then-active-eq1
+returns-2 c = simp c.before.if-idle.false (c.parked_in_range.ensures ∙ parked_ranged _ (sym c.before.before.before.requires ∙ c.before.before.if-active-eq1.true))
 
-is-inactive-requires : tie.Need-is-inactive-requires
+is-inactive-requires : tie.Need-is_inactive-requires
 is-inactive-requires c κs = search rules
 
-returns-3 : tie.Need-returns-3
-returns-3 c = let a = c.before.before in c.is-inactive.ensures ∙ either a.args.self (λ e. c.before.if1.false (a.requires ∙ e)) a.args.idle
+returns-3 : tie.Need-returns
+returns-3 c = let a = c.before.before in c.is_inactive.ensures ∙ either a.args.self (λ e. c.before.if-active-eq1.false (a.requires ∙ e)) a.args.idle
 
 pub passes_spec : {M : Type 1} → statement M
 passes_spec = tie.close (tie.spec returns parked-in-range-requires returns-2 is-inactive-requires returns-3)

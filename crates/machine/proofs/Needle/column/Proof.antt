@@ -33,21 +33,21 @@ rear n r h k e =
     to_z-of_z (fitting n.1 r.0 h k) ∙ simp (cast_back w8 w32 r.0 k (omega arith), to_z_pos w32 {n = n.1} (omega arith)) in
     ap {B = Column} (λ (z : ℤ). record { 0 = z }) s ∙ simp (ne_eqb n.0 0 e)
 
-cast-n : tie.Need-overflow-cast-n
+cast-n : tie.Need-overflow_cast-n
 cast-n c = search rules
 
-cast-t6 : tie.Need-overflow-cast-t6
-cast-t6 c = let z = c.before.before.before.before.before.args.r.0 in let h = c.struct_told.given.0.1 in
+cast-t6 : tie.Need-overflow_cast-result
+cast-t6 c = let z = c.before.before.before.before.before.args.r.0 in let h = c.struct_told-1.given.0.1 in
     simp (back w8 z h) (fits w32 z (omega arith))
 
-add-t7 : tie.Need-overflow-add-t7
-add-t7 c = let a = c.before.before.before.before.before.args in fitting a.self.1 a.r.0 (search rules) c.struct_told.given.0.1
+add-t7 : tie.Need-overflow_add-result
+add-t7 c = let a = c.before.before.before.before.before.args in fitting a.self.1 a.r.0 (search rules) c.struct_told-1.given.0.1
 
-returns : tie.Need-returns
-returns c = let a = c.before.before.before.args in front a.self a.r (search rules) c.if1.true
+returns : tie.Need-returns-then-self-eq0
+returns c = let a = c.before.before.before.args in front a.self a.r (search rules) c.if-self-eq0.true
 
-returns-2 : tie.Need-returns-2
-returns-2 c = let a = c.before.before.before.before.before.args in rear a.self a.r (search rules) c.struct_told.given.0.1 c.before.before.if1.false
+returns-2 : tie.Need-returns-else-self-eq0
+returns-2 c = let a = c.before.before.before.before.before.args in rear a.self a.r (search rules) c.struct_told-1.given.0.1 c.before.before.if-self-eq0.false
 
 pub column_spec : {M : Type 1} → statement M
 column_spec = tie.close (tie.spec cast-n cast-t6 add-t7 returns returns-2)

@@ -5,28 +5,28 @@ use Rattle.machine.proofs.Laws.{Got, here_fits, slot_here, next_fits, next_narro
 use Rattle.machine.proofs.Needle.entry.Statement.{statement}
 use Rattle.machine.proofs.Needle.entry.Tie as tie
 
-got : (b : tie.After-column) → Got b.before.args.self b.before.args.r b.column.result
-got b = record { is = b.column.ensures; on_bed_lem = b.before.requires; racking = b.before.well-formed.1.0.1.1.0.1 }
+got : (b : tie.After-column-z) → Got b.before.args.self b.before.args.r b.column-z.result
+got b = record { is = b.column-z.ensures; on_bed_lem = b.before.requires; racking = (search rules) }
 
-column-requires : tie.Need-column-requires
+column-requires : tie.Need-column-z-requires
 column-requires c κs = search rules
 
-cast-t7 : tie.Need-overflow-cast-t7
+cast-t7 : tie.Need-overflow_cast-result
 cast-t7 c = here_fits (got c.before.before.before)
 
-add-t8 : tie.Need-overflow-add-t8
+add-t8 : tie.Need-overflow_add-result
 add-t8 c = next_fits (got c.before.before.before)
 
-cast-t9 : tie.Need-overflow-cast-t9
+cast-t9 : tie.Need-overflow_cast-result-else-right
 cast-t9 c = next_narrow (got c.before.before.before)
 
-returns : tie.Need-returns
+returns : tie.Need-returns-then-right
 unfolding entry_of
-returns c = simp (slot_here (got c.before.before.before), c.before.before.if1.true)
+returns c = simp (slot_here (got c.before.before.before), c.before.before.if-right.true)
 
-returns-2 : tie.Need-returns-2
+returns-2 : tie.Need-returns-else-right
 unfolding entry_of
-returns-2 c = simp (slot_next (got c.before.before.before), c.before.before.if1.false)
+returns-2 c = simp (slot_next (got c.before.before.before), c.before.before.if-right.false)
 
 pub entry_spec : {M : Type 1} → statement M
 entry_spec = tie.close (tie.spec column-requires cast-t7 add-t8 cast-t9 returns returns-2)

@@ -4,13 +4,13 @@ use Rattle.machine.specs.Machine.{same_needle}
 use Rattle.machine.proofs.Needle.equals.Statement.{statement}
 use Rattle.machine.proofs.Needle.equals.Tie as tie
 
-returns : tie.Need-returns
+returns : tie.Need-returns-then-self-other
 unfolding same_needle
-returns c = simp (eq-eqb _ _ c.before.before.if1.true)
+returns c = simp (eq-eqb _ _ c.before.before.if-self-other.true)
 
-returns-2 : tie.Need-returns-2
+returns-2 : tie.Need-returns-else-self-other
 unfolding same_needle
-returns-2 c = simp (ne_eqb _ _ c.if1.false)
+returns-2 c = simp (ne_eqb _ _ c.if-self-other.false)
 
 pub equals_spec : {M : Type 1} → statement M
 equals_spec = tie.close (tie.spec returns returns-2)

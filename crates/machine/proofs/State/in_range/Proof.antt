@@ -31,41 +31,41 @@ module _ (s : State) where
       last g = simp (e, f, g)
 
 -- what is known past each test
-racking_in : (b : tie.Else1) → racking_ok b.before.before.before.args.t1.racking.0 ≡ true
-racking_in b = sym b.before.in_range.ensures ∙ not-false b.before.in_range.result b.if1.false
+racking_in : (b : tie.Else-not-in_range) → racking_ok b.before.before.before.args.self.racking.0 ≡ true
+racking_in b = sym b.before.in_range.ensures ∙ b.if-not-in_range.false
 
-limit_in : (b : tie.Else2) → limit_ok b.before.before.before.before.before.args.t1.limit ≡ true
-limit_in b = sym b.before.has-limit.ensures ∙ not-false b.before.has-limit.result b.if2.false
+limit_in : (b : tie.Else-not-has_limit) → limit_ok b.before.before.before.before.before.args.self.limit ≡ true
+limit_in b = sym b.before.has_limit.ensures ∙ b.if-not-has_limit.false
 
-in-range-requires : tie.Need-in-range-requires
+in-range-requires : tie.Need-in_range-requires
 in-range-requires c κs = search rules
 
-returns : tie.Need-returns
-returns c = racked c.before.before.before.args.t1 (sym c.before.in_range.ensures ∙ not-true c.before.in_range.result c.if1.true)
+returns : tie.Need-returns-then-not-in_range
+returns c = racked c.before.before.before.args.self (sym c.before.in_range.ensures ∙ c.if-not-in_range.true)
 
-has-limit-requires : tie.Need-has-limit-requires
+has-limit-requires : tie.Need-has_limit-requires
 has-limit-requires c κs = search rules
 
-returns-2 : tie.Need-returns-2
+returns-2 : tie.Need-returns-then-not-has_limit
 returns-2 c = let b = c.before.before in
-    limited b.before.before.before.args.t1 (racking_in b) (sym c.before.has-limit.ensures ∙ not-true c.before.has-limit.result c.if2.true)
+    limited b.before.before.before.args.self (racking_in b) (sym c.before.has_limit.ensures ∙ c.if-not-has_limit.true)
 
-loops-in-range-requires : tie.Need-loops-in-range-requires
+loops-in-range-requires : tie.Need-loops_in_range-requires
 loops-in-range-requires c κs = search rules
 
-returns-3 : tie.Need-returns-3
-returns-3 c = let b = c.before.before.before.before.before in
-    looped b.before.before.before.before.before.args.t1 (racking_in b.before.before) (limit_in b)
-    (sym c.before.loops-in-range.ensures ∙ not-true c.before.loops-in-range.result c.if3.true)
+returns-3 : tie.Need-returns-then-not-loops_in_range
+returns-3 c = let b = c.before.before.before.before in
+    looped b.before.before.before.before.before.args.self (racking_in b.before.before) (limit_in b)
+    (sym c.before.loops_in_range.ensures ∙ c.if-not-loops_in_range.true)
 
-carriers-pass-requires : tie.Need-carriers-pass-requires
+carriers-pass-requires : tie.Need-carriers_pass-requires
 carriers-pass-requires c κs = search rules
 
-returns-4 : tie.Need-returns-4
-returns-4 c = let d = c.before.before in let b = d.before.before.before.before.before in
-    c.carriers-pass.ensures
-    ∙ last b.before.before.before.before.before.args.t1 (racking_in b.before.before) (limit_in b)
-    (sym d.before.loops-in-range.ensures ∙ not-false d.before.loops-in-range.result d.if3.false)
+returns-4 : tie.Need-returns
+returns-4 c = let d = c.before.before in let b = d.before.before.before.before in
+    c.carriers_pass.ensures
+    ∙ last b.before.before.before.before.before.args.self (racking_in b.before.before) (limit_in b)
+    (sym d.before.loops_in_range.ensures ∙ d.if-not-loops_in_range.false)
 
 pub in_range_spec : {M : Type 1} → statement M
 in_range_spec =
