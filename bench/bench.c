@@ -1,7 +1,7 @@
-/* Lists, counts and times the measured work of library and plain C, takes its stack, and checks that both do the same. */
+/* Lists, counts and times the measured work through the library and plain C, and checks that both do the same. */
 #define _POSIX_C_SOURCE 200809L
 
-#include "bench.h"
+#include "machine.h"
 
 #include <stdio.h>
 #include <stdlib.h>
@@ -10,27 +10,19 @@
 /* Short work is called often enough for the clock. */
 enum { TIMED_RECORDS = 20000 };
 
-enum { STACK_SIZE = 1 << 18 };
-
 /* One thing done with an input that has been built. */
 typedef int (*treatment)(const struct group *g, int i, const struct about *about);
 
 static const char *const version_names[VERSIONS] = { "nothing", "library", "plain" };
 static unsigned long repetitions;
 
-static const struct group *const groups[] = { &run_group, &rewrite_group, &order_group, &tie_group, &step_group,
-                                              &carriers_group };
-enum { GROUPS = sizeof groups / sizeof *groups };
-
-/* A stack that is painted, the call that is made on it, and the most that each version took of it. */
-static _Alignas(16) unsigned char stack[STACK_SIZE];
-static void (*stacked_call)(enum version v);
-static enum version stacked_version;
-static size_t most[VERSIONS];
+const struct group *const groups[GROUPS] = { &run_group, &rewrite_group, &order_group, &tie_group, &step_group,
+                                             &carriers_group };
 
 static int usage(void)
 {
     fputs("usage: bench [NAME=VALUE..] COMMAND, with values put into the environment, which a board has not by itself\n"
+          "       bench check\n"
           "       bench list\n"
           "       bench count (under callgrind: one dump each, named by entry, input and version)\n"
           "       bench call ENTRY INPUT (the library and the entry that does nothing, once: for a trace)\n"
@@ -105,61 +97,36 @@ static int take_time(const struct group *g, int i, const struct about *about)
     return g->differs();
 }
 
-static void make_call(void) { stacked_call(stacked_version); }
-
-/* The bytes of the painted stack that one call changed, counted from its far end. */
-static size_t changed(const struct group *g, unsigned char paint)
-{
-    memset(stack, paint, STACK_SIZE);
-    g->prepare(stacked_version);
-    call_on(stack, STACK_SIZE, make_call);
-    size_t low = 0;
-    while (low < STACK_SIZE && stack[low] == paint) low++;
-    if (low > 0) return STACK_SIZE - low;
-    fputs("bench: the painted stack is too small\n", stderr);
-    exit(1);
-}
-
-/* Two paints, since a call may by chance write the paint itself. */
-static size_t deepest(const struct group *g, enum version v)
-{
-    stacked_call = g->call;
-    stacked_version = v;
-    size_t a = changed(g, PAINT), b = changed(g, (unsigned char)~PAINT);
-    return a > b ? a : b;
-}
-
-/* Raises the most to this input's, less what a call that does nothing takes; a return address is the call's own.
-   Arguments that are handed over on the stack are the caller's. */
-static int take_stack(const struct group *g, int i, const struct about *about)
-{
-    size_t without = deepest(g, NOTHING) - return_address_size;
-    (void)about;
-    if (i == 0) memset(most, 0, sizeof most);
-    for (int v = LIBRARY; v <= PLAIN; v++) {
-        size_t taken = deepest(g, v) - without;
-        if (taken > most[v]) most[v] = taken;
-    }
-    if (i + 1 == g->inputs()) printf("%s %lu %lu\n", g->entry, (unsigned long)most[LIBRARY], (unsigned long)most[PLAIN]);
-    return g->differs();
-}
-
-/* Builds and treats the input of an entry, or every one: entry null. How many were treated, -1 if the versions differ. */
-static int treat(const char *entry, int input, treatment chosen)
+static int treat(const struct group *g, int i, treatment chosen)
 {
     struct about about;
-    int treated = 0;
-    for (int n = 0; n < GROUPS; n++)
-        for (int i = 0; i < groups[n]->inputs(); i++) {
-            if (entry && (strcmp(groups[n]->entry, entry) != 0 || i != input)) continue;
-            groups[n]->build(i, &about);
-            if (chosen(groups[n], i, &about)) return -1;
-            treated++;
-        }
-    return treated;
+    g->build(i, &about);
+    return chosen(g, i, &about);
 }
 
-static int treat_all(treatment chosen) { return treat(NULL, 0, chosen) < 0; }
+static int treat_all(treatment chosen)
+{
+    for (int n = 0; n < GROUPS; n++)
+        for (int i = 0; i < groups[n]->inputs(); i++)
+            if (treat(groups[n], i, chosen)) return 1;
+    return 0;
+}
+
+/* One input of one entry. */
+static int treat_one(const char *entry, int i, treatment chosen)
+{
+    for (int n = 0; n < GROUPS; n++)
+        if (strcmp(groups[n]->entry, entry) == 0 && 0 <= i && i < groups[n]->inputs()) return treat(groups[n], i, chosen);
+    return usage();
+}
+
+/* The inputs that are not measured. */
+static int check_all(void)
+{
+    for (int i = 0; i < GROUPS; i++)
+        if (groups[i]->checks()) return 1;
+    return 0;
+}
 
 /* Puts NAME=VALUE before the command into the environment; how many there are. */
 static int take_values(char **words)
@@ -180,11 +147,12 @@ static int obey(int words_given, char **words)
         repetitions = strtoul(words[1], NULL, 10);
         return treat_all(take_time);
     }
-    if (words_given == 3 && strcmp(command, "call") == 0) return treat(words[1], atoi(words[2]), call) == 1 ? 0 : usage();
+    if (words_given == 3 && strcmp(command, "call") == 0) return treat_one(words[1], atoi(words[2]), call);
     if (words_given != 1) return usage();
+    if (strcmp(command, "check") == 0) return check_all();
     if (strcmp(command, "list") == 0) return treat_all(list);
     if (strcmp(command, "count") == 0) return counts_fail() || treat_all(count);
-    if (strcmp(command, "stack") == 0) return treat_all(take_stack);
+    if (strcmp(command, "stack") == 0) return print_stacks();
     return usage();
 }
 

@@ -1,6 +1,6 @@
 /* The controller's board in QEMU (mps2-an386): instructions by its timers, which QEMU's -icount drives. There is no wall
    clock. */
-#include "bench.h"
+#include "machine.h"
 
 #include <inttypes.h>
 #include <stdio.h>
@@ -97,6 +97,5 @@ void call_on(unsigned char *stack, size_t size, void (*call)(void))
     __asm__ volatile("mov r4, sp\n\tmov sp, %0\n\tblx %1\n\tmov sp, r4"
                      :
                      : "r"(stack + size), "r"(call)
-                     : "r0", "r1", "r2", "r3", "r4", "r12", "lr", "d0", "d1", "d2", "d3", "d4", "d5", "d6", "d7", "cc",
-                       "memory");
+                     : "r0", "r1", "r2", "r3", "r4", "r12", "lr", "d0", "d1", "d2", "d3", "d4", "d5", "d6", "d7", "cc", "memory");
 }

@@ -1,7 +1,7 @@
 /* The x86-64 under Linux: instructions by callgrind, the system's clock and contexts. */
 #define _XOPEN_SOURCE 700
 
-#include "bench.h"
+#include "machine.h"
 
 #include <stdio.h>
 #include <stdlib.h>

@@ -1,23 +1,34 @@
-/* The house order as measured work: builds its programs, which the run accepts, and hands them to library and plain C. */
-#include "plain.h"
+/* Builds the programs on which the house order is measured. All are valid: the run must accept them. */
+#include "orders.h"
+
 #include "programs.h"
 
-#include <stdio.h>
+#include <stdlib.h>
+#include <string.h>
 
-/* Each program is built at five lengths, each the double of the one before. */
-enum { LENGTHS = 5 };
+/* In intarsia each carrier works columns of its own. A row of lace over so many needles takes nearly 2,048 bytes, the
+   shortest length, so that each length holds whole rows. */
+enum { WIDTH = KNITOUT_NEEDLES / KNITOUT_CARRIERS, LAST = KNITOUT_NEEDLES - 1, LACE = 226 };
 
-/* A row of lace over so many needles takes nearly 2,048 bytes, the shortest length, so that each length holds whole rows. */
-enum { LAST = KNITOUT_NEEDLES - 1, LACE = 226 };
+static struct order_input input;
+static size_t length_most;
 
-static struct program built;
-static const struct program *in; /* what is built, or one of the listed programs */
+/* Appends a record if there is room for it. */
+static int append(const uint8_t *record)
+{
+    size_t size = record_size[record[0]];
+    if (size > length_most - input.length) return 0;
+    memcpy(input.program + input.length, record, size);
+    input.length += size;
+    input.records++;
+    return 1;
+}
 
-static int drop(unsigned bed, unsigned needle) { return append(&built, (uint8_t[]){ DROP, (uint8_t)bed, (uint8_t)needle }); }
+static int drop(unsigned bed, unsigned needle) { return append((uint8_t[]){ DROP, (uint8_t)bed, (uint8_t)needle }); }
 
 static int stitch(unsigned kind, unsigned direction, unsigned bed, unsigned needle, unsigned k)
 {
-    return append(&built, (uint8_t[]){ (uint8_t)kind, (uint8_t)direction, (uint8_t)bed, (uint8_t)needle, (uint8_t)k });
+    return append((uint8_t[]){ (uint8_t)kind, (uint8_t)direction, (uint8_t)bed, (uint8_t)needle, (uint8_t)k });
 }
 
 /* A row of knits over some needles from a first one on. */
@@ -42,7 +53,7 @@ static void build_rows(void) { build_sheet(KNITOUT_FRONT, 3); }
 static void xfer_row(unsigned bed, unsigned shift)
 {
     for (unsigned i = 0; i < LACE; i += 2)
-        append(&built, (uint8_t[]){ XFER, (uint8_t)bed, (uint8_t)i, (uint8_t)(i + shift) });
+        append((uint8_t[]){ XFER, (uint8_t)bed, (uint8_t)i, (uint8_t)(i + shift) });
 }
 
 /* A row, then every second loop goes to the back bed and, at racking 1, onto the needle beside its own. */
@@ -51,9 +62,9 @@ static void build_lace(void)
     stitch(IN, RIGHT, KNITOUT_FRONT, 0, 3);
     for (unsigned row = 0; knit_row(row % 2 == 0 ? RIGHT : LEFT, KNITOUT_FRONT, 0, LACE, 3); row++) {
         xfer_row(KNITOUT_FRONT, 0);
-        append(&built, (uint8_t[]){ RACK, 1 });
+        append((uint8_t[]){ RACK, 1 });
         xfer_row(KNITOUT_BACK, 1);
-        append(&built, (uint8_t[]){ RACK, 0 });
+        append((uint8_t[]){ RACK, 0 });
     }
 }
 
@@ -93,10 +104,10 @@ static void build_ten(void)
 /* Two whole sheets, one behind the other, of which no record is tied to one of the other. */
 static void build_sheets(unsigned bed, unsigned k, unsigned second_bed, unsigned second_k)
 {
-    size_t most = built.most;
-    built.most = most / 2;
+    size_t most = length_most;
+    length_most = most / 2;
     build_sheet(bed, k);
-    built.most = most;
+    length_most = most;
     build_sheet(second_bed, second_k);
 }
 
@@ -120,9 +131,9 @@ static void build_drops_down(void)
 /* Drops at some hooks, as many at each, hook by hook. */
 static void build_blocks(unsigned count, const uint8_t hooks[][2])
 {
-    size_t most = built.most;
+    size_t most = length_most;
     for (unsigned i = 0; i < count; i++) {
-        built.most = most * (i + 1) / count;
+        length_most = most * (i + 1) / count;
         while (drop(hooks[i][0], hooks[i][1])) continue;
     }
 }
@@ -141,32 +152,44 @@ static void build_worst(void)
                                           { KNITOUT_FRONT, 101 }, { KNITOUT_FRONT, 100 } });
 }
 
-/* The mixed programs of the run: four records of a hundred are racks. */
-static void use_mixed(void)
+static void use_listed(const struct program *p)
 {
-    static const char *const names[] = { "mixed-2048", "mixed-4096", "mixed-8192", "mixed-16384", "mixed" };
-    for (int i = 0; i < LENGTHS; i++)
-        if (find_program(names[i])->length == built.most) in = find_program(names[i]);
+    memcpy(input.program, p->bytes, p->length);
+    input.length = p->length;
+    input.records = p->records;
 }
 
-static void use_plated_mix(void) { build_plated_mix(&built, built.most); }
+/* The mixed programs of the run: four records of a hundred are racks. */
+static void build_mixed(void)
+{
+    static const char *const names[] = { "mixed-2048", "mixed-4096", "mixed-8192", "mixed-16384", "mixed" };
+    for (int i = 0; i < ORDER_LENGTHS; i++)
+        if (find_program(names[i])->length == length_most) use_listed(find_program(names[i]));
+}
+
+static void build_plated_mix(void)
+{
+    static struct program generated;
+    build_generated(&generated, length_most, KNITOUT_LIMIT_MOST, 1);
+    use_listed(&generated);
+}
 
 static const struct {
     const char *name;
-    size_t most; /* of the longest; 0: as bench/run gives it */
+    size_t length_most; /* of the longest; 0: as bench/run gives it */
     void (*build)(void);
 } parts[] = {
     { "rows", KNITOUT_PROGRAM_MOST, build_rows },
     { "lace", KNITOUT_PROGRAM_MOST, build_lace },
-    { "mixed", KNITOUT_PROGRAM_MOST, use_mixed },
-    { "plated-mix", KNITOUT_PROGRAM_MOST, use_plated_mix },
+    { "mixed", KNITOUT_PROGRAM_MOST, build_mixed },
+    { "plated-mix", KNITOUT_PROGRAM_MOST, build_plated_mix },
     { "intarsia", KNITOUT_PROGRAM_MOST, build_intarsia },
     { "sheets-kept", KNITOUT_PROGRAM_MOST, build_sheets_kept },
     { "tubular", KNITOUT_PROGRAM_MOST, build_tubular },
     { "ten", KNITOUT_PROGRAM_MOST, build_ten },
     { "sheets-passed", KNITOUT_PROGRAM_MOST, build_sheets_passed },
-    { "drops-up", DROP_SIZE * KNITOUT_HOOKS, build_drops_up },
-    { "drops-down", DROP_SIZE * KNITOUT_HOOKS, build_drops_down },
+    { "drops-up", 3 * KNITOUT_HOOKS, build_drops_up },
+    { "drops-down", 3 * KNITOUT_HOOKS, build_drops_down },
     { "drops-passed", KNITOUT_PROGRAM_MOST, build_drops_passed },
     { "worst", 0, build_worst },
 };
@@ -179,39 +202,16 @@ static size_t worst_length(void)
     return length < KNITOUT_PROGRAM_MOST ? length : KNITOUT_PROGRAM_MOST;
 }
 
-static int inputs(void) { return (int)(sizeof parts / sizeof *parts) * LENGTHS; }
+int count_orders(void) { return (int)(sizeof parts / sizeof *parts) * ORDER_LENGTHS; }
 
-/* Name, bytes, records, and whether it is the longest of its name. */
-static void build(int i, struct about *about)
+const struct order_input *build_order(int i)
 {
-    int part = i / LENGTHS, shorter = LENGTHS - 1 - i % LENGTHS;
-    in = &built;
-    begin(&built, parts[part].name, (parts[part].most ? parts[part].most : worst_length()) >> shorter);
+    int part = i / ORDER_LENGTHS, shorter = ORDER_LENGTHS - 1 - i % ORDER_LENGTHS;
+    memset(&input, 0, sizeof input);
+    input.name = parts[part].name;
+    input.longest = shorter == 0;
+    length_most = (parts[part].length_most ? parts[part].length_most : worst_length()) >> shorter;
     parts[part].build();
-    if (in->records == 0) abort();
-    about->records = in->records;
-    about->timed = shorter == 0;
-    snprintf(about->text, sizeof about->text, "%s %lu %u %d", parts[part].name, (unsigned long)in->length, in->records,
-             about->timed);
+    if (input.records == 0) abort();
+    return &input;
 }
-
-static uint64_t order_nothing(const uint8_t *program, size_t length, uint8_t *output, size_t output_length, uint16_t *work,
-                              size_t work_count)
-{
-    (void)program, (void)length, (void)output, (void)output_length, (void)work, (void)work_count;
-    return 0;
-}
-
-static uint64_t (*const versions[VERSIONS])(const uint8_t *, size_t, uint8_t *, size_t, uint16_t *, size_t) = {
-    order_nothing, knitout_order, plain_order
-};
-
-static void call(enum version v)
-{
-    struct lent *l = &lent[v];
-    l->answer = versions[v](in->bytes, in->length, l->output, OUTPUT, l->work, WORK);
-}
-
-static int differs(void) { return lent_differ("order", in->name, KNITOUT_DONE); }
-
-const struct group order_group = { "order", inputs, build, paint, call, differs };

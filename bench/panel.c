@@ -1,15 +1,13 @@
-/* The panel's services as measured work: builds states, records and lists and hands them to library and plain C. */
-#include "plain.h"
-#include "programs.h"
+/* Builds the states, records and lists on which the panel's services are measured. */
+#include "panel.h"
 
-#include <stdio.h>
+#include "plain_panel.h"
+
+#include <stdlib.h>
 #include <string.h>
 
 /* The inputs for complete alone, and those with ten carriers attached at one needle. */
-enum { LOOKED = 7, TEN = 5, STEP_INPUTS = PLATED_KNIT + 3 + LOOKED + TEN + 6, LIST_INPUTS = 4 };
-
-/* The entries of a list: two more than there are carriers. */
-enum { ENTRIES = 12 };
+enum { LOOKED = 7, TEN = 5 };
 
 /* A program before its last record of a kind. */
 struct moment {
@@ -18,34 +16,29 @@ struct moment {
     size_t place;
 };
 
-/* Steps through some bytes from a state. */
-static struct {
-    const char *name;
-    struct knitout_state state;
-    const uint8_t *bytes;
-    size_t length;
-    unsigned steps;
-    uint16_t places[KNITOUT_WORK_MOST]; /* of each step's record */
-    unsigned number;
-} step;
-
-/* A list of a state. */
-static struct list_input {
-    const char *name;
-    size_t count;
-    unsigned number;
-    struct knitout_state state;
-} list;
-
-/* What is lent to a version, and what it answers: all numbers together, completes, hooks looked at and lengths added. */
-static struct lent_state {
-    _Alignas(PAGE) struct knitout_state state;
-    _Alignas(LINE) struct knitout_carrier entries[ENTRIES];
-    unsigned number, complete, looked;
-    unsigned long length;
-} lent_states[VERSIONS];
-
 static const struct knitout_state empty = KNITOUT_EMPTY(KNITOUT_LIMIT_MOST);
+static struct step_input step;
+static struct list_input list;
+
+int states_agree(const struct knitout_state *a, const struct knitout_state *b)
+{
+    return memcmp(a, b, sizeof *a) == 0;
+}
+
+int is_empty(const struct knitout_state *state)
+{
+    struct knitout_state none = empty;
+    none.limit = state->limit;
+    return states_agree(state, &none);
+}
+
+unsigned count_looked(const struct knitout_state *state)
+{
+    unsigned hook = 0;
+    if (state->racking != 0) return 0;
+    while (hook < KNITOUT_HOOKS && state->loops[hook] == 0) hook++;
+    return hook == KNITOUT_HOOKS ? hook : hook + 1;
+}
 
 /* Steps through a program, up to a refused record, and keeps, for each kind from the first one given, the moment before
    its last record. */
@@ -78,40 +71,44 @@ static const struct moment *find_rack(const char *program)
     return &moments[RACK];
 }
 
-/* One step from a state. */
-static void use(const char *name, const struct knitout_state *state, const uint8_t *bytes, size_t length, unsigned number)
+static void one_step(const char *name, const struct moment *moment, unsigned number)
 {
     step.name = name;
-    step.state = *state;
-    step.bytes = bytes;
-    step.length = length;
+    step.state = moment->state;
+    step.bytes = moment->program->bytes;
+    step.length = moment->program->length;
     step.steps = 1;
-    step.places[0] = 0;
+    step.places[0] = (uint16_t)moment->place;
     step.number = number;
+    step.served = number ? 0 : record_size[step.bytes[moment->place]];
 }
 
-static void use_moment(const char *name, const struct moment *m, unsigned number)
-{
-    use(name, &m->state, m->program->bytes + m->place, m->program->length - m->place, number);
-}
-
-/* Its record with one byte altered, which is refused. */
-static void use_altered(const char *name, const struct moment *m, unsigned number, int at, uint8_t value)
+/* The same record with one byte altered, which is refused. */
+static void altered_step(const char *name, const struct moment *moment, unsigned number, int at, uint8_t value)
 {
     static uint8_t record[KNITOUT_RECORD_MOST];
-    size_t size = record_size[m->program->bytes[m->place]];
-    memcpy(record, m->program->bytes + m->place, size);
+    one_step(name, moment, number);
+    step.length = record_size[step.bytes[moment->place]];
+    memcpy(record, step.bytes + moment->place, step.length);
     record[at] = value;
-    use(name, &m->state, record, size, number);
+    step.bytes = record;
+    step.places[0] = 0;
 }
 
 /* Every record of the program, from the empty state. */
-static void use_program(const struct program *p)
+static void step_through(const struct program *p)
 {
-    use(p->name, &empty, p->bytes, p->length, KNITOUT_DONE);
+    step.name = p->name;
+    step.state = empty;
+    step.bytes = p->bytes;
+    step.length = p->length;
     step.steps = p->records;
-    for (unsigned i = 1; i < p->records; i++)
-        step.places[i] = (uint16_t)(step.places[i - 1] + record_size[p->bytes[step.places[i - 1]]]);
+    size_t at = 0;
+    for (unsigned i = 0; i < p->records; i++) {
+        step.places[i] = (uint16_t)at;
+        at += record_size[p->bytes[at]];
+    }
+    step.served = at;
 }
 
 static void make_foul(struct knitout_state *state) { state->carriers[KNITOUT_CARRIERS - 1].needle = KNITOUT_NEEDLES; }
@@ -122,19 +119,19 @@ static void build_refused(int i, const struct moment *moments)
 {
     const struct moment *plated = &moments[PLATED_KNIT];
     if (i == 0) {
-        use_altered("refused-7", &moments[IN], KNITOUT_NOT_IN, 0, KNIT);
+        altered_step("refused-7", &moments[IN], KNITOUT_NOT_IN, 0, KNIT);
     } else if (i == 1) {
-        use_altered("refused-16", plated, KNITOUT_YARN_TWICE, 5, plated->program->bytes[plated->place + 4]);
+        altered_step("refused-16", plated, KNITOUT_YARN_TWICE, 5, plated->program->bytes[plated->place + 4]);
     } else if (i == 2) {
-        use_moment("refused-17", find_rack("refused-17"), KNITOUT_STRETCHED);
+        one_step("refused-17", find_rack("refused-17"), KNITOUT_STRETCHED);
     } else if (i == 3) {
-        use_moment("refused-15-racking", &moments[KNIT], KNITOUT_BAD_STATE);
+        one_step("refused-15-racking", &moments[KNIT], KNITOUT_BAD_STATE);
         step.state.racking = KNITOUT_RACKING_MOST + 1;
     } else if (i == 4) {
-        use_moment("refused-15-limit", &moments[KNIT], KNITOUT_BAD_STATE);
+        one_step("refused-15-limit", &moments[KNIT], KNITOUT_BAD_STATE);
         step.state.limit = KNITOUT_LIMIT_LEAST - 1;
     } else {
-        use_moment("refused-15-carrier-10", &moments[KNIT], KNITOUT_BAD_STATE);
+        one_step("refused-15-carrier-10", &moments[KNIT], KNITOUT_BAD_STATE);
         make_foul(&step.state);
     }
 }
@@ -148,7 +145,8 @@ static void build_looked(int i)
         { "first-hook", 1, 1 }, { "last-hook", KNITOUT_HOOKS, 1 }, { "empty", KNITOUT_HOOKS, 0 },
         { "hook-31", 31, 1 }, { "hook-62", 62, 1 }, { "hook-125", 125, 1 }, { "hook-250", 250, 1 },
     };
-    use(left[i].name, &empty, drop, sizeof drop, KNITOUT_DONE);
+    step = (struct step_input){ .name = left[i].name, .state = empty, .bytes = drop, .length = sizeof drop, .steps = 1,
+                                .served = sizeof drop };
     step.state.loops[DROPPED] = 1;
     step.state.loops[left[i].looked - 1] = (uint8_t)left[i].loops;
 }
@@ -169,140 +167,55 @@ static void build_ten(int i)
         { "xfer-ten", { 1, KNITOUT_RIGHT, MIDDLE + 1, KNITOUT_FRONT, MIDDLE }, 0, { XFER, KNITOUT_FRONT, MIDDLE, MIDDLE },
           KNITOUT_HOOKS - 1 },
         { "drop-ten", { 1, KNITOUT_RIGHT, MIDDLE + 1, KNITOUT_FRONT, MIDDLE }, 0, { DROP, KNITOUT_FRONT, MIDDLE }, MIDDLE },
-        { "plated-last", { 1, KNITOUT_RIGHT, LAST, KNITOUT_BACK, LAST - 1 }, 0,
-          { PLATED_KNIT, RIGHT, KNITOUT_BACK, LAST, 1, 2 }, KNITOUT_HOOKS },
+        { "plated-last", { 1, KNITOUT_RIGHT, LAST, KNITOUT_BACK, LAST - 1 }, 0, { PLATED_KNIT, RIGHT, KNITOUT_BACK, LAST, 1, 2 },
+          KNITOUT_HOOKS },
         { "split-last", { 1, KNITOUT_LEFT, LAST, KNITOUT_BACK, LAST }, 0, { SPLIT, RIGHT, KNITOUT_BACK, LAST, 1, LAST },
           KNITOUT_HOOKS },
     };
-    use(ten[i].name, &empty, ten[i].record, KNITOUT_RECORD_MOST, KNITOUT_DONE);
+    step = (struct step_input){ .name = ten[i].name, .state = empty, .bytes = ten[i].record, .length = KNITOUT_RECORD_MOST,
+                                .steps = 1, .served = record_size[ten[i].record[0]] };
     step.state.racking = ten[i].racking;
     for (int k = 0; k < KNITOUT_CARRIERS; k++) step.state.carriers[k] = ten[i].carrier;
     if (ten[i].loop < KNITOUT_HOOKS) step.state.loops[ten[i].loop] = 1;
 }
 
-static void build_step(int i)
+/* How many of the steps leave the empty state, by its bytes, and the hooks looked at; neither of a state out of range. */
+static void count_complete(void)
 {
-    const struct moment *moments = find_moments();
-    if (i < PLATED_KNIT) use_moment(kind_word(i + 1), &moments[i + 1], KNITOUT_DONE);
-    else if (i == PLATED_KNIT) use_program(find_program("mixed"));
-    else if (i == PLATED_KNIT + 1) use_program(find_program("plated-mix"));
-    else if (i == PLATED_KNIT + 2) use_moment("rack-ten", find_rack("rack-ten"), KNITOUT_DONE);
-    else if (i < PLATED_KNIT + 3 + LOOKED) build_looked(i - (PLATED_KNIT + 3));
-    else if (i < PLATED_KNIT + 3 + LOOKED + TEN) build_ten(i - (PLATED_KNIT + 3 + LOOKED));
-    else build_refused(i - (PLATED_KNIT + 3 + LOOKED + TEN), moments);
-}
-
-static struct knitout_stepped step_nothing(struct knitout_state *state, const uint8_t *bytes, size_t length)
-{
-    (void)state, (void)bytes, (void)length;
-    return (struct knitout_stepped){ 0 };
-}
-
-static struct knitout_served carriers_nothing(const struct knitout_state *state, struct knitout_carrier *all, size_t count)
-{
-    (void)state, (void)all, (void)count;
-    return (struct knitout_served){ 0, 0 };
-}
-
-static struct knitout_stepped (*const steps[VERSIONS])(struct knitout_state *, const uint8_t *, size_t) = {
-    step_nothing, knitout_step, plain_step
-};
-static struct knitout_served (*const lists[VERSIONS])(const struct knitout_state *, struct knitout_carrier *, size_t) = {
-    carriers_nothing, knitout_carriers, plain_carriers
-};
-
-static void lend(enum version v, const struct knitout_state *state)
-{
-    struct lent_state *l = &lent_states[v];
-    l->state = *state;
-    memset(l->entries, PAINT, sizeof l->entries);
-    l->number = l->complete = l->looked = 0;
-    l->length = 0;
-}
-
-static void prepare_steps(enum version v) { lend(v, &step.state); }
-
-static void call_steps(enum version v)
-{
-    struct lent_state *l = &lent_states[v];
+    struct knitout_state state = step.state;
+    if (step.number == KNITOUT_BAD_STATE) return;
     for (unsigned i = 0; i < step.steps; i++) {
-        size_t at = step.places[i];
-        struct knitout_stepped stepped = steps[v](&l->state, step.bytes + at, step.length - at);
-        l->number |= stepped.number;
-        l->complete += stepped.complete;
-        l->looked += stepped.looked;
-        l->length += (unsigned long)stepped.length;
+        plain_step(&state, step.bytes + step.places[i], step.length - step.places[i]);
+        step.complete += is_empty(&state);
+        step.looked += count_looked(&state);
     }
 }
 
-static int step_inputs(void) { return STEP_INPUTS; }
-
-/* Name, steps, number, length, hooks looked at for complete. */
-static void build_steps(int i, struct about *about)
+const struct step_input *build_step(int i)
 {
-    build_step(i);
-    prepare_steps(PLAIN);
-    call_steps(PLAIN);
-    about->records = 10 * step.steps;
-    about->timed = 1;
-    snprintf(about->text, sizeof about->text, "%s %u %u %lu %u", step.name, step.steps, step.number,
-             lent_states[PLAIN].length, lent_states[PLAIN].looked);
+    const struct moment *moments = find_moments();
+    step = (struct step_input){ 0 };
+    if (i < PLATED_KNIT) one_step(kind_name(i + 1), &moments[i + 1], KNITOUT_DONE);
+    else if (i == PLATED_KNIT) step_through(find_program("mixed"));
+    else if (i == PLATED_KNIT + 1) step_through(find_program("plated-mix"));
+    else if (i == PLATED_KNIT + 2) one_step("rack-ten", find_rack("rack-ten"), KNITOUT_DONE);
+    else if (i < PLATED_KNIT + 3 + LOOKED) build_looked(i - (PLATED_KNIT + 3));
+    else if (i < PLATED_KNIT + 3 + LOOKED + TEN) build_ten(i - (PLATED_KNIT + 3 + LOOKED));
+    else build_refused(i - (PLATED_KNIT + 3 + LOOKED + TEN), moments);
+    count_complete();
+    return &step;
 }
 
-/* Both versions give the same, of it the number that is expected, and leave the same; a state's every byte is a value. */
-static int state_differs(const char *entry, const char *name, unsigned number)
+const struct list_input *build_list(int i)
 {
-    const struct lent_state *l = &lent_states[LIBRARY], *p = &lent_states[PLAIN];
-    int same = memcmp(&l->state, &p->state, sizeof l->state) == 0 && memcmp(l->entries, p->entries, sizeof l->entries) == 0;
-    if (same && l->number == number && p->number == number && l->complete == p->complete && l->looked == p->looked
-        && l->length == p->length) return 0;
-    fprintf(stderr, "bench: %s %s: library %u, complete %u, looked %u, length %lu; plain C %u, %u, %u, %lu; number expected "
-            "%u; contents %s\n", entry, name, l->number, l->complete, l->looked, l->length, p->number, p->complete,
-            p->looked, p->length, number, same ? "agree" : "differ");
-    return 1;
-}
-
-static int steps_differ(void)
-{
-    if (state_differs("step", step.name, step.number)) return 1;
-    if (step.number == KNITOUT_DONE || memcmp(&lent_states[PLAIN].state, &step.state, sizeof step.state) == 0) return 0;
-    fprintf(stderr, "bench: step %s: refused, but the state has changed\n", step.name);
-    return 1;
-}
-
-const struct group step_group = { "step", step_inputs, build_steps, prepare_steps, call_steps, steps_differ };
-
-static void prepare_lists(enum version v) { lend(v, &list.state); }
-
-static void call_lists(enum version v)
-{
-    struct lent_state *l = &lent_states[v];
-    struct knitout_served served = lists[v](&l->state, l->entries, list.count);
-    l->number = served.number;
-    l->length = (unsigned long)served.length;
-}
-
-static int list_inputs(void) { return LIST_INPUTS; }
-
-/* Name, lists, number, length. */
-static void build_lists(int i, struct about *about)
-{
-    static const struct list_input inputs[LIST_INPUTS] = {
-        { .name = "ten", .count = KNITOUT_CARRIERS },
-        { .name = "twelve", .count = ENTRIES },
-        { .name = "refused-2", .count = KNITOUT_CARRIERS - 1, .number = KNITOUT_NO_ROOM },
-        { .name = "refused-15-carrier-10", .count = KNITOUT_CARRIERS, .number = KNITOUT_BAD_STATE },
+    static const struct list_input lists[LIST_INPUTS] = {
+        { .name = "ten", .count = 10, .served = 10 },
+        { .name = "twelve", .count = 12, .served = 10 },
+        { .name = "refused-2", .count = 9, .number = KNITOUT_NO_ROOM },
+        { .name = "refused-15-carrier-10", .count = 10, .number = KNITOUT_BAD_STATE },
     };
-    list = inputs[i];
+    list = lists[i];
     list.state = find_moments()[KNIT].state;
     if (list.number == KNITOUT_BAD_STATE) make_foul(&list.state);
-    prepare_lists(PLAIN);
-    call_lists(PLAIN);
-    about->records = 10;
-    about->timed = 1;
-    snprintf(about->text, sizeof about->text, "%s 1 %u %lu", list.name, list.number, lent_states[PLAIN].length);
+    return &list;
 }
-
-static int lists_differ(void) { return state_differs("carriers", list.name, list.number); }
-
-const struct group carriers_group = { "carriers", list_inputs, build_lists, prepare_lists, call_lists, lists_differ };

@@ -1,8 +1,9 @@
 /* The house order in plain C, written for speed and going the same way: one run, one pass for starts, each record put to
    its place by its start alone, one pass that writes. */
-#include "plain.h"
+#include "plain_order.h"
 
-#include "kinds.h"
+#include "plain.h"
+#include "plain_extents.h"
 
 #include <string.h>
 
@@ -18,7 +19,7 @@ struct moved {
 static inline struct moved moved_at(const uint8_t *p, int racking)
 {
     int number = p[2 + has_carrier(p)], reach = 1 + (racking < 0 ? -racking : racking);
-    return (struct moved){ p, record_size[p[0]], column_at(p, racking), number - reach, number + reach,
+    return (struct moved){ p, record_size[p[0]], column_of(p, racking), number - reach, number + reach,
                            has_carrier(p) ? p[4] : 0, is_plated(p) ? p[5] : 0 };
 }
 
@@ -32,9 +33,9 @@ static inline int tied_to(const struct moved *x, const uint8_t *y, int racking)
     } else if (y[0] == RACK) {
         return 1;
     }
-    int apart = column_at(y, racking) - x->column;
+    int apart = column_of(y, racking) - x->column;
     if (apart < -1 || 1 < apart) return 0;
-    return extents_meet(x->bytes, y, racking);
+    return share_column(x->bytes, y, racking) && share_layer(x->bytes, y);
 }
 
 /* Do the bytes of x come before those of y? A kind has one size, so none is a shorter prefix of another. */
@@ -98,7 +99,7 @@ static void lay(const uint8_t *program, uint8_t *output, uint16_t *starts, size_
 uint64_t plain_order_at(uint8_t limit, const uint8_t *program, size_t length, uint8_t *output, size_t output_length,
                         uint16_t *work, size_t work_count)
 {
-    if (limit_is_out(limit)) return packed(KNITOUT_BAD_STATE, 0);
+    if (!limit_in_range(limit)) return packed(KNITOUT_BAD_STATE, 0);
     if (length > KNITOUT_PROGRAM_MOST) return packed(KNITOUT_TOO_LONG, 0);
     if (output_length < length || work_count < length / 2) return packed(KNITOUT_NO_ROOM, 0);
     uint64_t answer = plain_run_at(limit, program, length);

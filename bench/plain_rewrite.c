@@ -1,7 +1,8 @@
 /* The rewriter in plain C, written for speed: one run, one copy, one pass for starts and rackings, swaps in place. */
-#include "plain.h"
+#include "plain_rewrite.h"
 
-#include "kinds.h"
+#include "plain.h"
+#include "plain_extents.h"
 
 #include <string.h>
 
@@ -22,14 +23,15 @@ static inline int racking_at(const struct copy *c, size_t i)
     int racking = c->marks[i / STRIDE];
     for (size_t j = i / STRIDE * STRIDE; j < i; j++) {
         size_t at = c->starts[j];
-        if (SELDOM(c->bytes[at] == RACK)) racking = (int8_t)c->bytes[at + 1];
+        if (c->bytes[at] == RACK) racking = (int8_t)c->bytes[at + 1];
     }
     return racking;
 }
 
 static inline int tied(const struct copy *c, size_t i, const uint8_t *x, const uint8_t *y)
 {
-    return x[0] == RACK || y[0] == RACK || least_shared(x, y) || extents_meet(x, y, racking_at(c, i));
+    if (x[0] == RACK || y[0] == RACK || share_carrier(x, y)) return 1;
+    return share_column(x, y, racking_at(c, i)) && share_layer(x, y);
 }
 
 /* A record of 3 to 6 bytes held in two words: its first bytes and its last ones, which overlap. */
@@ -86,8 +88,8 @@ static inline int swap(struct copy *c, size_t i)
 /* Makes the swaps of a log up to the first that is refused. */
 static uint64_t replay(struct copy *c, const uint8_t *log, size_t length)
 {
-    for (size_t at = 0; at < length; at += KNITOUT_LOG_RECORD) {
-        if (length - at < KNITOUT_LOG_RECORD || log[at] != KNITOUT_SWAP) return packed(KNITOUT_TORN_LOG, at);
+    for (size_t at = 0; at < length; at += SWAP_SIZE) {
+        if (length - at < SWAP_SIZE || log[at] != SWAP) return packed(KNITOUT_TORN_LOG, at);
         int number = swap(c, (size_t)log[at + 1] << 8 | log[at + 2]);
         if (number) return packed(number, at);
     }
@@ -112,7 +114,7 @@ static void find_starts(struct copy *c, size_t length)
 uint64_t plain_rewrite_at(uint8_t limit, const uint8_t *program, size_t length, const uint8_t *log, size_t log_length,
                           uint8_t *output, size_t output_length, uint16_t *work, size_t work_count)
 {
-    if (limit_is_out(limit)) return packed(KNITOUT_BAD_STATE, 0);
+    if (!limit_in_range(limit)) return packed(KNITOUT_BAD_STATE, 0);
     if (length > KNITOUT_PROGRAM_MOST || log_length > KNITOUT_LOG_MOST) return packed(KNITOUT_TOO_LONG, 0);
     if (output_length < length || work_count < length / 2) return packed(KNITOUT_NO_ROOM, 0);
     uint64_t answer = plain_run_at(limit, program, length);
@@ -120,7 +122,7 @@ uint64_t plain_rewrite_at(uint8_t limit, const uint8_t *program, size_t length, 
     struct copy c; /* its marks are written as they are needed */
     c.bytes = output;
     c.starts = work;
-    if (length > 0) memcpy(output, program, length);
+    memcpy(output, program, length);
     find_starts(&c, length);
     return replay(&c, log, log_length);
 }

@@ -1,4 +1,4 @@
-/* Makes the calls that the tester recorded (model/compare/record.rs): each must answer and leave what the rules say. Prints the
+/* Makes the calls that the tester recorded (tester/compare/record.rs): each must answer and leave what the rules say. Prints the
    first thing that differs, or how often each entry gave each number.
    replay FILE           every call of the file
    replay FILE fenced    the same with fences at both ends of everything lent

@@ -1,11 +1,18 @@
 """Files of faults, crates/CRATE/must-fail/BUNDLE.edit and tools/faults/CRATE.edit: read, and written again; see tools/edits."""
 import os
 import re
+import shutil
 import sys
 import textwrap
 
 TOP = os.path.realpath(os.path.join(os.path.dirname(os.path.abspath(__file__)), ".."))
 WIDTH = 150  # characters of a comment line that is written
+
+
+def kit():
+    """the folder of the Rattle kit"""
+    rt = shutil.which("rt") or sys.exit("no Rattle kit: rt is missing")
+    return os.environ.get("RATTLE_HOME") or os.path.dirname(os.path.dirname(os.path.realpath(rt)))
 
 
 def read(path):

@@ -1,110 +1,144 @@
-//! The lender: memory with a guard page at both ends, which the library sees as read-only or as writable.
+//! Memory lent to the library: marks stand around it, and it may end at a page without access.
 
-use crate::call::Loan;
-use crate::random::Random;
-use std::ffi::{c_char, c_int, c_void};
-use std::ptr::null_mut;
+use crate::draft::Random;
+use crate::fail;
+use std::ffi::{c_int, c_void};
+use std::ops::Range;
 use std::slice::{from_raw_parts, from_raw_parts_mut};
 
 extern "C" {
-    fn mmap(at: *mut c_void, length: usize, protection: c_int, flags: c_int, file: c_int, offset: i64) -> *mut c_void;
-    fn memfd_create(name: *const c_char, flags: u32) -> c_int;
-    fn ftruncate(file: c_int, length: i64) -> c_int;
+    fn mmap(
+        at: *mut c_void,
+        len: usize,
+        prot: c_int,
+        flags: c_int,
+        fd: c_int,
+        off: i64,
+    ) -> *mut c_void;
+    fn mprotect(at: *mut c_void, length: usize, protection: c_int) -> c_int;
 }
 
-const NONE: c_int = 0;
+// Linux values, and a page size that suits every Linux machine.
 const READ: c_int = 1;
-const READ_WRITE: c_int = 3;
-const SHARED: c_int = 0x1;
-const PRIVATE: c_int = 0x2;
-const FIXED: c_int = 0x10;
-const ANONYMOUS: c_int = 0x20;
-const NO_RESERVE: c_int = 0x4000;
+const READ_WRITE: c_int = 1 | 2;
+const NO_ACCESS: c_int = 0;
+const PRIVATE_ANONYMOUS: c_int = 2 | 0x20;
+const PAGE: usize = 65_536;
+const READABLE: usize = 3 * PAGE;
 
-const PAGE: usize = 4096;
-/// The bytes of one area, and those that a loan may claim behind them.
-const SIZE: usize = 20 * PAGE;
-const BEYOND: usize = 8 << 32;
-/// Bytes on both sides of a loan that must keep their contents.
+/// The most bytes between what is lent and the guard page, and the bytes marked on each side.
 const MARGIN: usize = 64;
-const MARK: u8 = 0xc3;
+const MARK: u8 = 0x5c;
 
-/// One memory: the tester's own view, and four for the library, with guards: read-only, writable, and these two with room behind for
-/// loans that claim more.
-pub struct Area {
-    own: *mut u8,
-    views: [*mut u8; 4],
-    lent: (usize, usize),
+/// Bytes between what is lent and the guard page: none, or an even number of marks.
+pub fn behind(random: &mut Random) -> usize {
+    match random.below(2) {
+        0 => 0,
+        _ => 2 + 2 * random.below(MARGIN / 2),
+    }
 }
 
-fn map(at: *mut u8, length: usize, protection: c_int, flags: c_int, file: c_int) -> *mut u8 {
-    // SAFETY: a new mapping, or one over a reservation of ours.
-    let start = unsafe { mmap(at.cast(), length, protection, flags, file, 0) };
-    assert!(start as isize != -1, "no memory to lend");
-    start.cast()
+/// What was lent: where it begins, whether the guard page follows at once, and whether it is a null pointer.
+pub struct Loan {
+    pub start: *mut u8,
+    pub guarded: bool,
+    pub null: bool,
 }
 
-impl Area {
-    pub fn new() -> Area {
-        // SAFETY: a name that ends in 0.
-        let file = unsafe { memfd_create(c"lent".as_ptr(), 0) };
-        // SAFETY: the file was just made.
-        assert!(file >= 0 && unsafe { ftruncate(file, SIZE as i64) } == 0, "no memory to lend");
-        let own = map(null_mut(), SIZE, READ_WRITE, SHARED, file);
-        let view = |protection, beyond: usize| {
-            let reserved = SIZE + beyond + 2 * PAGE;
-            let start = map(null_mut(), reserved, NONE, PRIVATE | ANONYMOUS | NO_RESERVE, -1).wrapping_add(PAGE);
-            if beyond > 0 {
-                let behind = start.wrapping_add(SIZE);
-                map(behind, beyond, protection, PRIVATE | ANONYMOUS | NO_RESERVE | FIXED, -1);
+/// Lends bytes before a guard page or before marks, of which bytes that need no alignment may have an odd number; none are
+/// often lent as a null pointer.
+pub fn lend(random: &mut Random, lent: &mut Lent, bytes: &[u8], unaligned: bool) -> Loan {
+    let behind = behind(random);
+    let behind = behind - usize::from(behind > 0 && unaligned && random.percent(50));
+    let null = bytes.is_empty() && random.percent(50);
+    let guarded = behind == 0 && !bytes.is_empty();
+    let start = lent.lend(bytes, behind);
+    let start = if null { std::ptr::null_mut() } else { start };
+    Loan {
+        start,
+        guarded,
+        null,
+    }
+}
+
+/// Where some bytes lie within others, if they are part of them in memory.
+pub fn place_in(whole: &[u8], part: &[u8]) -> Option<usize> {
+    let place = (part.as_ptr() as usize).checked_sub(whole.as_ptr() as usize)?;
+    (!part.is_empty() && place + part.len() <= whole.len()).then_some(place)
+}
+
+/// Readable bytes before a page without access; a part of them is lent.
+pub struct Lent {
+    start: *mut u8,
+    lent: Range<usize>,
+}
+
+impl Lent {
+    pub fn new() -> Lent {
+        // SAFETY: a fresh mapping that nothing else uses; its last page loses all access.
+        unsafe {
+            let null = std::ptr::null_mut();
+            let start = mmap(null, READABLE + PAGE, READ_WRITE, PRIVATE_ANONYMOUS, -1, 0);
+            if start as isize == -1 {
+                fail("mmap failed");
             }
-            map(start, SIZE, protection, SHARED | FIXED, file)
-        };
-        let views = [view(READ, 0), view(READ_WRITE, 0), view(READ, BEYOND), view(READ_WRITE, BEYOND)];
-        Area { own, views, lent: (0, 0) }
+            let start = start.cast::<u8>();
+            if mprotect(start.add(READABLE).cast(), PAGE, NO_ACCESS) != 0 {
+                fail("mprotect failed");
+            }
+            let lent = READABLE..READABLE;
+            Lent { start, lent }
+        }
     }
 
     fn memory(&self) -> &[u8] {
-        // SAFETY: the tester's own view, which lives as long as the program.
-        unsafe { from_raw_parts(self.own, SIZE) }
+        // SAFETY: the mapping's readable part, which lives as long as the program.
+        unsafe { from_raw_parts(self.start, READABLE) }
     }
 
-    /// Copies a loan to a place and gives the library's view of it. A loan that claims more ends where the room behind begins.
-    pub fn lend(&mut self, random: &mut Random, loan: &Loan, writable: bool) -> *mut u8 {
-        let length = loan.bytes.len();
-        assert!(length + 2 * MARGIN <= SIZE, "a loan is longer than an area");
-        let start = match random.below(4) {
-            _ if loan.beyond > 0 => SIZE - length,
-            0 => 0,
-            1 => MARGIN + if loan.unit == 1 { 1 } else { 2 },
-            _ => SIZE - length,
-        };
-        self.lent = (start, start + length);
+    /// Lends a copy that ends so many bytes before the guard page.
+    pub fn lend(&mut self, bytes: &[u8], behind: usize) -> *mut u8 {
+        assert!(behind <= MARGIN && bytes.len() + 2 * MARGIN <= READABLE);
+        let end = READABLE - behind;
+        self.lent = end - bytes.len()..end;
         // SAFETY: as in `memory`; nothing else refers to it now.
-        let memory = unsafe { from_raw_parts_mut(self.own, SIZE) };
-        memory[start.saturating_sub(MARGIN)..start].fill(MARK);
-        memory[start..start + length].copy_from_slice(&loan.bytes);
-        memory[start + length..SIZE.min(start + length + MARGIN)].fill(MARK);
-        if length == 0 && random.percent(50) {
-            return null_mut();
-        }
-        let view = self.views[usize::from(writable) + if loan.beyond > 0 { 2 } else { 0 }];
-        view.wrapping_add(start)
+        let memory = unsafe { from_raw_parts_mut(self.start, READABLE) };
+        memory[self.lent.start - MARGIN..self.lent.start].fill(MARK);
+        memory[self.lent.clone()].copy_from_slice(bytes);
+        memory[end..].fill(MARK);
+        self.at()
     }
 
-    /// What is wrong with the loan after a call, if anything is: contents other than these, or bytes around it.
-    pub fn wrong(&self, wanted: &[u8]) -> Option<String> {
-        let bytes = &self.memory()[self.lent.0..self.lent.1];
-        if let Some(at) = (0..wanted.len()).find(|&at| bytes[at] != wanted[at]) {
-            return Some(format!("byte {at}: {} for {}", bytes[at], wanted[at]));
+    /// Where the lent bytes start.
+    pub fn at(&self) -> *mut u8 {
+        // SAFETY: within the mapping or just behind its readable part.
+        unsafe { self.start.add(self.lent.start) }
+    }
+
+    fn protect(&self, protection: c_int) {
+        // SAFETY: the mapping's readable part, which nothing refers to now.
+        if unsafe { mprotect(self.start.cast(), READABLE, protection) } != 0 {
+            fail("mprotect failed");
         }
-        (!self.marks_stand()).then(|| "bytes around it".to_string())
+    }
+
+    /// Makes a call while the memory can only be read.
+    pub fn read_only<T>(&self, call: impl FnOnce() -> T) -> T {
+        self.protect(READ);
+        let answer = call();
+        self.protect(READ_WRITE);
+        answer
+    }
+
+    /// The lent bytes as they are now.
+    pub fn bytes(&self) -> &[u8] {
+        &self.memory()[self.lent.clone()]
     }
 
     /// Whether the bytes on both sides are as they were.
-    fn marks_stand(&self) -> bool {
-        let before = &self.memory()[self.lent.0.saturating_sub(MARGIN)..self.lent.0];
-        let behind = &self.memory()[self.lent.1..SIZE.min(self.lent.1 + MARGIN)];
+    pub fn marks_stand(&self) -> bool {
+        let before = &self.memory()[self.lent.start - MARGIN..self.lent.start];
+        let behind = &self.memory()[self.lent.end..];
         before.iter().chain(behind).all(|&byte| byte == MARK)
     }
 }

@@ -1,46 +1,27 @@
-/* The rewriter as measured work: builds its programs and logs, and hands them to the library and to plain C. */
-#include "plain.h"
+/* Builds the programs and logs on which the rewriter is measured. */
+#include "swaps.h"
+
+#include "plain_rewrite.h"
 #include "programs.h"
 
-#include <stdio.h>
+#include <stdlib.h>
 #include <string.h>
 
-enum { CASES_LIMIT = 256 };
+enum { WIDTH = 25, CASES_LIMIT = 256 };
 
 /* The racking of every 64th record is kept, so that a swap's walk is (position modulo 64) records long. */
 enum { STRIDE = 64 };
 
 /* Swaps of a log at one position, of one all over the program, of a full log. MANY is even, so that each is undone;
    one is enough where it is refused. */
-enum { MANY = 1000, FEW = 200, FULL = KNITOUT_LOG_MOST / KNITOUT_LOG_RECORD };
+enum { MANY = 1000, FEW = 200, FULL = KNITOUT_LOG_MOST / SWAP_SIZE };
 
 /* The dearest program: its records, and where its two stand that swap. */
 enum { DEAREST = 16350, DEAREST_AT = 255 * STRIDE - 1 };
 
-/* How a log's positions go: position_of says more. */
-enum log_kind { AT, SPREAD, ENDS, FOUND, FORTH_AND_BACK, AGAIN };
-
-/* What a case is named by. Before a case with swaps stands the last one with its program and an empty log. */
-struct swap_case {
-    const char *table; /* that it is printed in */
-    const char *program;
-    unsigned records;
-    enum log_kind log;
-    unsigned position; /* of the two drops, and of every swap AT it or AGAIN */
-    unsigned swaps;    /* records of the log */
-    unsigned number;   /* of the answer: 0 if every swap is accepted */
-    uint8_t at;        /* the limit of the entry at a limit; 0: the entry at 8 */
-};
-
 static struct swap_case cases[CASES_LIMIT];
 static int case_count;
-
-/* The case built: its program, which may be one of the listed, and its log. */
-static const struct swap_case *in;
-static struct program built;
-static const struct program *program;
-static uint8_t log_bytes[KNITOUT_LOG_MOST];
-static size_t log_length;
+static struct swap_input input;
 
 static void add(struct swap_case c)
 {
@@ -119,7 +100,8 @@ static void add_full_logs(void)
 /* The longest program of knits once more, at limit 1. */
 static void add_at_limit(void)
 {
-    add((struct swap_case){ "empty", "knit-at-1", 6500, AT, 0, 0, KNITOUT_DONE, 1 });
+    struct swap_case c = { "empty", "knit-at-1", 6500, AT, 0, 0, KNITOUT_DONE, 1 };
+    add(c);
 }
 
 /* Doubling: mixed programs with an empty log, knit programs with one log's swaps, logs on one program, both. */
@@ -134,14 +116,25 @@ static void add_growth(void)
     }
 }
 
-static int inputs(void)
+const struct swap_case *list_swaps(int *count)
 {
-    if (case_count > 0) return case_count;
-    add_one_place();
-    add_full_logs();
-    add_at_limit();
-    add_growth();
-    return case_count;
+    if (case_count == 0) {
+        add_one_place();
+        add_full_logs();
+        add_at_limit();
+        add_growth();
+    }
+    *count = case_count;
+    return cases;
+}
+
+static void append(const uint8_t *record)
+{
+    size_t size = record_size[record[0]];
+    if (size > KNITOUT_PROGRAM_MOST - input.length) abort();
+    memcpy(input.program + input.length, record, size);
+    input.length += size;
+    input.records++;
 }
 
 /* Five-byte records: ten in, then a knit with each carrier in turn, right and left over its own 25 columns. Odd
@@ -157,7 +150,7 @@ static void build_knit(unsigned records)
             step = (round - 1) % WIDTH;
         }
         unsigned needle = WIDTH * k + (left ? WIDTH - 1 - step : step);
-        append(&built, (uint8_t[]){ (uint8_t)kind, !left, k % 2 == 0, (uint8_t)needle, (uint8_t)(k + 1) });
+        append((uint8_t[]){ (uint8_t)kind, !left, k % 2 == 0, (uint8_t)needle, (uint8_t)(k + 1) });
     }
 }
 
@@ -167,11 +160,11 @@ static void build_plated_knit(unsigned records)
 {
     enum { PAIRS = KNITOUT_CARRIERS / 2 };
     for (unsigned k = 0; k < KNITOUT_CARRIERS; k++)
-        append(&built, (uint8_t[]){ IN, RIGHT, KNITOUT_FRONT, (uint8_t)(2 * WIDTH * (k % PAIRS)), (uint8_t)(k + 1) });
+        append((uint8_t[]){ IN, RIGHT, KNITOUT_FRONT, (uint8_t)(2 * WIDTH * (k % PAIRS)), (uint8_t)(k + 1) });
     for (unsigned i = 0; i < records - KNITOUT_CARRIERS; i++) {
         unsigned pair = i % PAIRS, round = i / PAIRS, left = round / (2 * WIDTH) % 2, step = round % (2 * WIDTH);
         unsigned needle = 2 * WIDTH * pair + (left ? 2 * WIDTH - 1 - step : step);
-        append(&built, (uint8_t[]){ PLATED_KNIT, !left, pair % 2 == 0, (uint8_t)needle, (uint8_t)(pair + 1),
+        append((uint8_t[]){ PLATED_KNIT, !left, pair % 2 == 0, (uint8_t)needle, (uint8_t)(pair + 1),
                             (uint8_t)(pair + 1 + PAIRS) });
     }
 }
@@ -180,9 +173,9 @@ static void build_plated_knit(unsigned records)
 static void build_racks(unsigned records, unsigned position)
 {
     for (unsigned i = 0; i < records; i++) {
-        if (i == position) append(&built, (uint8_t[]){ DROP, KNITOUT_FRONT, 10 });
-        else if (i == position + 1) append(&built, (uint8_t[]){ DROP, KNITOUT_BACK, 100 });
-        else append(&built, (uint8_t[]){ RACK, (uint8_t)(i * 5 % 17 - 8) });
+        if (i == position) append((uint8_t[]){ DROP, KNITOUT_FRONT, 10 });
+        else if (i == position + 1) append((uint8_t[]){ DROP, KNITOUT_BACK, 100 });
+        else append((uint8_t[]){ RACK, (uint8_t)(i * 5 % 17 - 8) });
     }
 }
 
@@ -193,44 +186,55 @@ static void build_dearest(unsigned records)
 {
     for (unsigned i = 0; i < 2 * KNITOUT_CARRIERS; i++) {
         unsigned k = i / 2 + 1, needle = k <= 3 ? 0 : WIDTH * (k - 1);
-        append(&built, (uint8_t[]){ i % 2 ? TUCK : IN, RIGHT, KNITOUT_BACK, (uint8_t)needle, (uint8_t)k });
+        append((uint8_t[]){ i % 2 ? TUCK : IN, RIGHT, KNITOUT_BACK, (uint8_t)needle, (uint8_t)k });
     }
-    for (unsigned i = built.records; i < records; i++) {
-        if (i == DEAREST_AT) append(&built, (uint8_t[]){ TUCK, RIGHT, KNITOUT_FRONT, 1, 1 });
-        else if (i == DEAREST_AT + 1) append(&built, (uint8_t[]){ PLATED_TUCK, RIGHT, KNITOUT_BACK, 1, 2, 3 });
-        else append(&built, (uint8_t[]){ RACK, i + 1 == DEAREST_AT ? 0 : (uint8_t)(i * 5 % 17 - 8) });
+    for (unsigned i = input.records; i < records; i++) {
+        if (i == DEAREST_AT) append((uint8_t[]){ TUCK, RIGHT, KNITOUT_FRONT, 1, 1 });
+        else if (i == DEAREST_AT + 1) append((uint8_t[]){ PLATED_TUCK, RIGHT, KNITOUT_BACK, 1, 2, 3 });
+        else append((uint8_t[]){ RACK, i + 1 == DEAREST_AT ? 0 : (uint8_t)(i * 5 % 17 - 8) });
     }
+}
+
+static void build_listed(const struct program *p)
+{
+    memcpy(input.program, p->bytes, p->length);
+    input.length = p->length;
+    input.records = p->records;
 }
 
 static void log_swap(unsigned position)
 {
-    uint8_t record[] = { KNITOUT_SWAP, (uint8_t)(position >> 8), (uint8_t)position };
-    memcpy(log_bytes + log_length, record, KNITOUT_LOG_RECORD);
-    log_length += KNITOUT_LOG_RECORD;
+    uint8_t *at = input.log + input.log_length;
+    at[0] = SWAP;
+    at[1] = (uint8_t)(position >> 8);
+    at[2] = (uint8_t)position;
+    input.log_length += SWAP_SIZE;
 }
 
 /* Makes the log's swaps: number and the refused one's place. */
 static uint64_t try_log(void)
 {
-    struct lent *l = &lent[PLAIN];
-    return plain_rewrite(program->bytes, program->length, log_bytes, log_length, l->output, OUTPUT, l->work, WORK);
+    static uint8_t output[KNITOUT_PROGRAM_MOST];
+    static uint16_t work[KNITOUT_PROGRAM_MOST / 2];
+    return plain_rewrite(input.program, input.length, input.log, input.log_length, output, KNITOUT_PROGRAM_MOST,
+                         work, KNITOUT_PROGRAM_MOST / 2);
 }
 
 static void leave_out(size_t place)
 {
-    log_length -= KNITOUT_LOG_RECORD;
-    memmove(log_bytes + place, log_bytes + place + KNITOUT_LOG_RECORD, log_length - place);
+    input.log_length -= SWAP_SIZE;
+    memmove(input.log + place, input.log + place + SWAP_SIZE, input.log_length - place);
 }
 
 /* The positions go all over the program, and those are left out at which a swap is refused. */
 static void build_found(unsigned swaps)
 {
-    size_t length = swaps * (size_t)KNITOUT_LOG_RECORD;
+    size_t length = swaps * (size_t)SWAP_SIZE;
     uint64_t answer = 0;
-    for (unsigned i = 0; log_length < length || answer; i++) {
+    for (unsigned i = 0; input.log_length < length || answer; i++) {
         if (answer) leave_out(KNITOUT_PLACE(answer));
-        log_swap(i * 2741 % (program->records - 1));
-        if (log_length == length) answer = try_log();
+        log_swap(i * 2741 % (input.records - 1));
+        if (input.log_length == length) answer = try_log();
     }
 }
 
@@ -240,8 +244,8 @@ static void build_forth_and_back(unsigned swaps)
     build_found(FEW);
     for (unsigned i = FEW; i < swaps; i++) {
         unsigned from = i / FEW % 2 ? FEW - 1 - i % FEW : i % FEW;
-        memcpy(log_bytes + log_length, log_bytes + from * KNITOUT_LOG_RECORD, KNITOUT_LOG_RECORD);
-        log_length += KNITOUT_LOG_RECORD;
+        memcpy(input.log + input.log_length, input.log + from * SWAP_SIZE, SWAP_SIZE);
+        input.log_length += SWAP_SIZE;
     }
 }
 
@@ -256,70 +260,29 @@ static unsigned position_of(const struct swap_case *c, unsigned i)
     return second * (strides - 1) * STRIDE + pair * 13 % STRIDE;
 }
 
-static void build_log(const struct swap_case *c)
+static void build_positions(const struct swap_case *c)
 {
-    log_length = 0;
-    if (c->log == FOUND) build_found(c->swaps);
-    else if (c->log == FORTH_AND_BACK && c->swaps > 0) build_forth_and_back(c->swaps);
-    else for (unsigned i = 0; i < c->swaps; i++) log_swap(position_of(c, i));
+    for (unsigned i = 0; i < c->swaps; i++) log_swap(position_of(c, i));
 }
 
 static void build_program_of(const struct swap_case *c)
 {
-    begin(&built, c->program, KNITOUT_PROGRAM_MOST);
-    program = &built;
     if (strcmp(c->program, "knit") == 0 || strcmp(c->program, "knit-at-1") == 0) build_knit(c->records);
     else if (strcmp(c->program, "plated-knit") == 0) build_plated_knit(c->records);
     else if (strcmp(c->program, "rack") == 0) build_racks(c->records, c->records);
     else if (strcmp(c->program, "dearest") == 0) build_dearest(c->records);
     else if (strcmp(c->program, "two-drops") == 0) build_racks(c->records, c->position);
-    else program = find_program(c->program);
+    else build_listed(find_program(c->program));
 }
 
-/* Table, program, bytes, records, log, position, swaps, number. */
-static void build(int i, struct about *about)
+const struct swap_input *build_swaps(const struct swap_case *c)
 {
-    static const char *const logs[] = { "one", "spread", "ends", "found", "forth-and-back", "again" };
-    in = &cases[i];
-    build_program_of(in);
-    build_log(in);
-    if (program->records != in->records || log_length != in->swaps * (size_t)KNITOUT_LOG_RECORD) abort();
-    about->records = in->records + in->swaps;
-    about->timed = in->log != AT;
-    snprintf(about->text, sizeof about->text, "%s %s %lu %u %s %u %u %u", in->table, in->program,
-             (unsigned long)program->length, in->records, logs[in->log], in->position, in->swaps, in->number);
+    memset(&input, 0, sizeof input);
+    build_program_of(c);
+    if (c->log == FOUND) build_found(c->swaps);
+    else if (c->log == FORTH_AND_BACK && c->swaps > 0) build_forth_and_back(c->swaps);
+    else build_positions(c);
+    input.answer = packed((int)c->number, 0);
+    if (input.records != c->records || input.log_length != c->swaps * (size_t)SWAP_SIZE) abort();
+    return &input;
 }
-
-static uint64_t rewrite_nothing(const uint8_t *bytes, size_t length, const uint8_t *log, size_t log_size, uint8_t *output,
-                                size_t output_length, uint16_t *work, size_t work_count)
-{
-    (void)bytes, (void)length, (void)log, (void)log_size, (void)output, (void)output_length, (void)work, (void)work_count;
-    return 0;
-}
-
-static uint64_t rewrite_nothing_at(uint8_t limit, const uint8_t *bytes, size_t length, const uint8_t *log, size_t log_size,
-                                   uint8_t *output, size_t output_length, uint16_t *work, size_t work_count)
-{
-    (void)limit;
-    (void)bytes, (void)length, (void)log, (void)log_size, (void)output, (void)output_length, (void)work, (void)work_count;
-    return 0;
-}
-
-static uint64_t (*const versions[VERSIONS])(const uint8_t *, size_t, const uint8_t *, size_t, uint8_t *, size_t, uint16_t *,
-                                            size_t) = { rewrite_nothing, knitout_rewrite, plain_rewrite };
-static uint64_t (*const versions_at[VERSIONS])(uint8_t, const uint8_t *, size_t, const uint8_t *, size_t, uint8_t *, size_t,
-                                               uint16_t *, size_t) = { rewrite_nothing_at, knitout_rewrite_at,
-                                                                       plain_rewrite_at };
-
-static void call(enum version v)
-{
-    struct lent *l = &lent[v];
-    const uint8_t *bytes = program->bytes;
-    size_t length = program->length;
-    if (in->at) l->answer = versions_at[v](in->at, bytes, length, log_bytes, log_length, l->output, OUTPUT, l->work, WORK);
-    else l->answer = versions[v](bytes, length, log_bytes, log_length, l->output, OUTPUT, l->work, WORK);
-}
-
-static int differs(void) { return lent_differ("rewrite", in->program, packed((int)in->number, 0)); }
-
-const struct group rewrite_group = { "rewrite", inputs, build, paint, call, differs };
