@@ -5,3 +5,5 @@ pub mod Laws
 pub mod Ranges
 pub mod Walks
 pub mod Stretches
+pub mod Conversion
+pub mod Beside

@@ -168,6 +168,7 @@ impl Needle {
     }
 
     // The one conversion of a needle to a column.
+    #[tactic(auto, using(crate::proofs::Conversion::conversion))]
     pub fn column(self, r: Racking) -> Column
         ensures { result ≡ column_of self r }
     {
@@ -180,6 +181,7 @@ impl Needle {
     }
 
     // The slot beside it on its right side (2) or its left (1).
+    #[tactic(auto, using(crate::proofs::Beside::beside))]
     fn beside(self, r: Racking, side: u8) -> FarSlot
         ensures { (result.0 ≡ (slot_beside (column_of self r) side).0) × (mag result.0 < 66000) }
     {
