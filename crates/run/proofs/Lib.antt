@@ -19,3 +19,6 @@ pub mod Demand
 pub mod Yarns
 pub mod Limits
 pub mod Exact
+pub mod Parking
+pub mod Starting
+pub mod Forming

@@ -62,6 +62,7 @@ struct Halted {
 }
 
 // Whether the carrier is parked at the slot: 0, or 7 or 8.
+#[tactic(auto, using(crate::proofs::Parking::parking), unfolding(crate::specs::Step::parked_no))]
 fn parked(c: Carrier, z: Slot) -> u8
     ensures { result ≡ parked_no (not (eqb c.active 0)) c.slot z }
 {
@@ -212,6 +213,7 @@ fn tuck(loops: &mut [u8; State::HOOKS], n: Needle, v: u8, limit: u8) -> u8
 
 // The loops that a tuck or a knit forms on the needle's hook, plain or plated: 0, or 11 and no store. (One loop always
 // fits.)
+#[tactic(auto, using(crate::proofs::Forming::forming), unfolding(crate::specs::Loops::tuck_no, crate::specs::Loops::tucked, crate::specs::Loops::form_no, crate::specs::Loops::formed_loops, crate::specs::Step::first_asked, crate::specs::Step::first_after, record::specs::Kinds::by_kind))]
 fn form(kind: u8, loops: &mut [u8; State::HOOKS], n: Needle, limit: u8) -> u8
     requires { (TUCK ≤ kind) × (kind ≤ PLATED_KNIT) × (kind ≡ SPLIT → ⊥) × (OnBed n) }
     ensures { (result ≡ form_no limit kind (get_or loops.old (hook_of n) 0)) × (loops.new ≡ formed_loops limit kind loops.old n) }
@@ -448,6 +450,7 @@ fn answer_limit(limit: u8) -> u8
 }
 
 // Whether a run can start: 0, or 15 or 1.
+#[tactic(auto, using(crate::proofs::Starting::starting), unfolding(crate::specs::Run::start_no))]
 pub fn start(limit: u8, length: usize) -> u8
     ensures { result ≡ start_no limit length }
 {
