@@ -11,7 +11,7 @@ tie-requires : tie.Need-tie-requires
 tie-requires c κs = search rules
 
 returns : tie.Need-returns
-returns c = let k = c in c.tie.ensures ∙ (λ i. tie_of (back w8 k.args.racking (search rules) i) k.args.first.now k.args.second.now)
+returns c = c.tie.ensures ∙ (λ i. tie_of (back w8 c.args.racking (search rules) i) c.args.first.now c.args.second.now)
 
 pub knitout_tie_spec : {M : Type 1} → statement M
 knitout_tie_spec = tie.close (tie.spec tie-requires returns)

@@ -23,7 +23,7 @@ abbrev decreases-loop : tie.decreases-loop-j
 decreases-loop program work₀ b₀ j₀ work b j = length work₀ - j
 
 loop-holds : tie.Need-loop-j-init invariant-loop decreases-loop
-loop-holds c = let k = c in none_in_order k.args.program.now k.args.work.now k.requires
+loop-holds c = none_in_order c.args.program.now c.args.work.now c.requires
 
 place-requires : tie.Need-place-a-requires invariant-loop decreases-loop
 place-requires c κs = c.loop-j-test.true
@@ -88,8 +88,8 @@ same_length : tie.Need-shape_of-work invariant-loop decreases-loop
 same_length c = search rules
 
 returns : tie.Need-returns invariant-loop decreases-loop
-returns c = let k = c in let v = c.loop-j in
-    (v.invariant.starts, all_in_order k.args.program.now k.args.work.now v.work v.b v.j v.invariant c.loop-j-test.false)
+returns c = let v = c.loop-j in
+    (v.invariant.starts, all_in_order c.args.program.now c.args.work.now v.work v.b v.j v.invariant c.loop-j-test.false)
 
 pub arrange_spec : {M : Type 1} → statement M
 arrange_spec =

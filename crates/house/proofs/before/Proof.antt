@@ -105,8 +105,8 @@ loop-again c = let d = c.before in let b = d.before.before.before in let k = s b
 )
 
 returns-2 : tie.Need-returns invariant-loop decreases-loop
-returns-2 c = let k = c in let v = c.loop-k in
-    (sym (v.invariant.2 ∙ on_end k.args.program.now k.args.work.now k.args.j k.args.r k.requires.2 v.k c.loop-k-test.false v.invariant.1), omega arith)
+returns-2 c = let v = c.loop-k in
+    (sym (v.invariant.2 ∙ on_end c.args.program.now c.args.work.now c.args.j c.args.r c.requires.2 v.k c.loop-k-test.false v.invariant.1), omega arith)
 
 pub before_spec : {M : Type 1} → statement M
 before_spec =

@@ -51,7 +51,7 @@ within-requires c κs = let k = c.before.before.before.before.before in
     (needle_small k.args.program.now _ _ (begins k _ c.place-b.ensures) c.outline_at-x.ensures, k.requires.4)
 
 loop-holds : tie.Need-loop-i-init invariant-loop decreases-loop
-loop-holds c = let k = c in (omega arith, back_first k.args.program.now k.args.work.now k.args.j k.args.r k.requires.1)
+loop-holds c = (omega arith, back_first c.args.program.now c.args.work.now c.args.j c.args.r c.requires.1)
 
 sub-place : tie.Need-overflow_sub-i invariant-loop decreases-loop
 sub-place c = search rules
@@ -99,8 +99,8 @@ loop-again c = let b = c.before in let s = k b in let v = b.loop-i in (
 )
 
 returns-2 : tie.Need-returns invariant-loop decreases-loop
-returns-2 c = let s = c in let v = c.loop-i in
-    back_none s.args.program.now s.args.work.now s.args.j s.args.r s.requires.1 v.i c.loop-i-test.false v.invariant.1
+returns-2 c = let v = c.loop-i in
+    back_none c.args.program.now c.args.work.now c.args.j c.args.r c.requires.1 v.i c.loop-i-test.false v.invariant.1
 
 pub behind_spec : {M : Type 1} → statement M
 behind_spec =

@@ -35,9 +35,9 @@ shared-slice-read-result-2 : tie.Need-bounds-y-i-then-x-i invariant-loop decreas
 shared-slice-read-result-2 c = omega (arith, c.loop-i-test.true, c.shorter-n.ensures.1)
 
 returns : tie.Need-returns-then-x-i invariant-loop decreases-loop
-returns c = let k = c in let v = c.loop-i in
+returns c = let v = c.loop-i in
     let s = c.shorter-n in let t = c.loop-i-test.true in
-    sym (differ k.args.x.now k.args.y.now v.i (omega (arith, t, s.ensures.0)) (omega (arith, t, s.ensures.1)) c.if-x-i.true) ∙ v.invariant.1
+    sym (differ c.args.x.now c.args.y.now v.i (omega (arith, t, s.ensures.0)) (omega (arith, t, s.ensures.1)) c.if-x-i.true) ∙ v.invariant.1
 
 add-i : tie.Need-overflow_add-i invariant-loop decreases-loop
 add-i c = search rules
@@ -46,14 +46,14 @@ loop-less : tie.Need-loop-i-smaller invariant-loop decreases-loop
 loop-less c = omega (arith, c.loop-i-test.true)
 
 loop-again : tie.Need-loop-i-preserved invariant-loop decreases-loop
-loop-again c = let k = c in let v = c.loop-i in
+loop-again c = let v = c.loop-i in
     let s = c.shorter-n in let t = c.loop-i-test.true in
-    (omega (arith, t), sym (agree k.args.x.now k.args.y.now v.i (omega (arith, t, s.ensures.0)) (omega (arith, t, s.ensures.1)) c.if-x-i.false) ∙ v.invariant.1)
+    (omega (arith, t), sym (agree c.args.x.now c.args.y.now v.i (omega (arith, t, s.ensures.0)) (omega (arith, t, s.ensures.1)) c.if-x-i.false) ∙ v.invariant.1)
 
 returns-2 : tie.Need-returns invariant-loop decreases-loop
-returns-2 c = let k = c in let v = c.loop-i in let s = c.shorter-n in
+returns-2 c = let v = c.loop-i in let s = c.shorter-n in
     let e : v.i ≡ s.result = omega (arith, v.invariant.0, c.loop-i-test.false) in
-    ends k.args.x.now k.args.y.now v.i (omega (arith, e, s.ensures.0)) (omega (arith, e, s.ensures.1)) (⊎_elim (λ f. inl (e ∙ f)) (λ f. inr (e ∙ f)) s.ensures.2) ∙ v.invariant.1
+    ends c.args.x.now c.args.y.now v.i (omega (arith, e, s.ensures.0)) (omega (arith, e, s.ensures.1)) (⊎_elim (λ f. inl (e ∙ f)) (λ f. inr (e ∙ f)) s.ensures.2) ∙ v.invariant.1
 
 pub comes_first_spec : {M : Type 1} → statement M
 comes_first_spec =

@@ -10,20 +10,20 @@ use Rattle.house.proofs.end.Statement.{statement}
 use Rattle.house.proofs.end.Tie as tie
 
 shared-slice-read-size-of : tie.Need-bounds-program-a
-shared-slice-read-size-of c = let k = c in omega (arith, k.requires.ends, (sized k.args.program.now k.args.a k.requires).least)
+shared-slice-read-size-of c = omega (arith, c.requires.ends, (sized c.args.program.now c.args.a c.requires).least)
 
 size-of-requires : tie.Need-size_of-requires
 size-of-requires c κs = search rules
 
 -- the length that is added
 size_is : (c : tie.After-size_of) → c.size_of.result ≡ length (record_in c.args.program.now c.args.a)
-size_is c = let k = c in c.size_of.ensures ∙ size_in k.args.program.now k.args.a k.requires
+size_is c = c.size_of.ensures ∙ size_in c.args.program.now c.args.a c.requires
 
 add-result : tie.Need-overflow_add-result
-add-result c = let k = c in omega (arith, size_is c, (sized k.args.program.now k.args.a k.requires).most, k.requires.ends)
+add-result c = omega (arith, size_is c, (sized c.args.program.now c.args.a c.requires).most, c.requires.ends)
 
 returns : tie.Need-returns
-returns c = let k = c in ap (λ (n : ℕ). k.args.a + n) (size_is c)
+returns c = ap (λ (n : ℕ). c.args.a + n) (size_is c)
 
 pub end_spec : {M : Type 1} → statement M
 end_spec = tie.close (tie.spec shared-slice-read-size-of size-of-requires add-result returns)

@@ -25,7 +25,7 @@ slice-read-a : tie.Need-bounds-part-i invariant-loop decreases-loop
 slice-read-a c = omega (arith, c.requires)
 
 loop-holds : tie.Need-loop-i-init invariant-loop decreases-loop
-loop-holds c = let k = c in (omega (arith, k.requires), shift_first k.args.part.now k.requires)
+loop-holds c = (omega (arith, c.requires), shift_first c.args.part.now c.requires)
 
 -- the part is as long as before
 long : (c : tie.At-loop-i invariant-loop decreases-loop) → length c.loop-i.part ≡ length c.args.part.now
@@ -53,9 +53,9 @@ loop-less : tie.Need-loop-i-smaller invariant-loop decreases-loop
 loop-less c = omega (arith, c.loop-i-test.true)
 
 loop-again : tie.Need-loop-i-preserved invariant-loop decreases-loop
-loop-again c = let k = c in let v = c.loop-i in (
+loop-again c = let v = c.loop-i in (
   omega (arith, v.invariant.0),
-  ap (λ (l : List ℕ). set l v.i (get_or l (v.i - 1) 0)) v.invariant.1 ∙ shift_on k.args.part.now v.i c.loop-i-test.true v.invariant.0,
+  ap (λ (l : List ℕ). set l v.i (get_or l (v.i - 1) 0)) v.invariant.1 ∙ shift_on c.args.part.now v.i c.loop-i-test.true v.invariant.0,
 )
 
 slice-write-part-2 : tie.Need-bounds-part-0 invariant-loop decreases-loop
@@ -65,8 +65,8 @@ same_length : tie.Need-shape_of-part invariant-loop decreases-loop
 same_length c = search rules
 
 returns : tie.Need-returns invariant-loop decreases-loop
-returns c = let k = c in let v = c.loop-i in
-    ap (λ (l : List ℕ). set l 0 (get_or k.args.part.now (length k.args.part.now - 1) 0)) v.invariant.1 ∙ shift_last k.args.part.now v.i c.loop-i-test.false k.requires
+returns c = let v = c.loop-i in
+    ap (λ (l : List ℕ). set l 0 (get_or c.args.part.now (length c.args.part.now - 1) 0)) v.invariant.1 ∙ shift_last c.args.part.now v.i c.loop-i-test.false c.requires
 
 pub last_first_spec : {M : Type 1} → statement M
 last_first_spec =

@@ -15,13 +15,13 @@ extent_is : (r : Racking) (x u : Record) (e : Extent) → e ≡ extent_of r u �
 extent_is r x u e f g = f ∙ ap (extent_of r) g ∙ outline_extent r x
 
 outline-at-requires : tie.Need-outline_at-requires
-outline-at-requires c κs = let k = c in (k.requires.0, k.requires.1)
+outline-at-requires c κs = (c.requires.0, c.requires.1)
 
 extent-of-requires : tie.Need-extent_of-e-requires
 extent-of-requires c κs = search rules
 
 outline-at-requires-2 : tie.Need-outline_at-requires-2
-outline-at-requires-2 c κs = let k = c in (k.requires.2, k.requires.3)
+outline-at-requires-2 c κs = (c.requires.2, c.requires.3)
 
 extent-of-requires-2 : tie.Need-extent_of-requires
 extent-of-requires-2 c κs = search rules
@@ -30,7 +30,7 @@ meets-requires : tie.Need-meets-requires
 meets-requires c κs = search rules
 
 returns : tie.Need-returns
-returns c = let k = c in let r = k.args.r in
+returns c = let r = c.args.r in
     c.meets.ensures
     ∙ (λ i. meets (extent_is r _ _ _ c.extent_of-e.ensures c.outline_at.ensures i)
     (extent_is r _ _ _ c.extent_of.ensures c.outline_at-2.ensures i))

@@ -41,8 +41,7 @@ refused-requires c κs = search rules
 
 returns : tie.Need-returns-then-number-ne0
 unfolding Gives
-returns c = let s = c in
-    gives_lent s.args.limit s.args.program.now s.args.output.now s.args.work.now c.lent-number.result c.refused.result c.lent-number.ensures c.if-number-ne0.true c.refused.ensures
+returns c = gives_lent c.args.limit c.args.program.now c.args.output.now c.args.work.now c.lent-number.result c.refused.result c.lent-number.ensures c.if-number-ne0.true c.refused.ensures
 
 run-requires : tie.Need-run-a-requires
 run-requires c κs = search rules

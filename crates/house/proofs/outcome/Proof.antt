@@ -49,8 +49,7 @@ lent_tells limit p out w n e f d g =
 
 returns : tie.Need-returns-then-number-ne0
 unfolding Tells
-returns c = let s = c in
-    lent_tells s.args.limit s.args.program.now s.args.output.now s.args.work.now c.lent-number.result c.end_at.result c.lent-number.ensures c.if-number-ne0.true c.end_at.ensures
+returns c = lent_tells c.args.limit c.args.program.now c.args.output.now c.args.work.now c.lent-number.result c.end_at.result c.lent-number.ensures c.if-number-ne0.true c.end_at.ensures
 
 outcome-requires : tie.Need-outcome-e-requires
 outcome-requires c κs = search rules

@@ -14,7 +14,7 @@ use Rattle.house.proofs.outline_at.Tie as tie
 
 -- the bytes are the record's
 part : (c : tie.After-end-e) → take (c.end-e.result - c.args.a) (drop c.args.a c.args.program.now) ≡ record_in c.args.program.now c.args.a
-part c = let k = c in part_in k.args.program.now k.args.a k.requires.0 c.end-e.result c.end-e.ensures
+part c = part_in c.args.program.now c.args.a c.requires.0 c.end-e.result c.end-e.ensures
 
 end-requires : tie.Need-end-e-requires
 end-requires c κs = c.requires.0
@@ -29,9 +29,9 @@ part-outline-end : tie.Need-slice_bounds-outline-end
 part-outline-end c = omega (arith, c.end-e.ensures, c.requires.0.ends)
 
 outline-requires : tie.Need-outline-requires
-outline-requires c κs = let k = c in let e = part c.before in (
-  ap (λ (l : List ℕ). (decode_of l).number) e ∙ reads k.args.program.now k.args.a k.requires.0,
-  (λ q. k.requires.1 (kind_in k.args.program.now k.args.a k.requires.0 ∙ sym (ap (λ (l : List ℕ). byte l 0) e) ∙ q)),
+outline-requires c κs = let e = part c.before in (
+  ap (λ (l : List ℕ). (decode_of l).number) e ∙ reads c.args.program.now c.args.a c.requires.0,
+  (λ q. c.requires.1 (kind_in c.args.program.now c.args.a c.requires.0 ∙ sym (ap (λ (l : List ℕ). byte l 0) e) ∙ q)),
 )
 
 returns : tie.Need-returns

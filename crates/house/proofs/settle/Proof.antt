@@ -26,12 +26,10 @@ same_length : tie.Need-shape_of-work-then-i-j
 same_length c = search rules
 
 returns : tie.Need-returns-then-i-j
-returns c = let k = c in
-    stays k.args.program.now k.args.work.now k.args.j k.args.r k.requires.1 (sym c.behind-i.ensures ∙ c.if-i-j.true)
+returns c = stays c.args.program.now c.args.work.now c.args.j c.args.r c.requires.1 (sym c.behind-i.ensures ∙ c.if-i-j.true)
 
 before-requires : tie.Need-before-k-requires
-before-requires c κs = let k = c in
-    (k.requires.0, omega (arith, c.behind-i.ensures, tied_small k.args.program.now k.args.work.now k.args.j k.args.r k.requires.1), k.requires.1)
+before-requires c κs = (c.requires.0, omega (arith, c.behind-i.ensures, tied_small c.args.program.now c.args.work.now c.args.j c.args.r c.requires.1), c.requires.1)
 
 add-n : tie.Need-overflow_add-n
 add-n c = search rules
@@ -49,18 +47,18 @@ part-last-first-end : tie.Need-slice_bounds-last_first-end
 part-last-first-end c = omega (arith, c.requires.1)
 
 last-first-requires : tie.Need-last_first-requires
-last-first-requires c κs = let k = c in let n = c.before-k.result in
-    omega (arith, length-take-le (k.args.j + 1 - n) (drop n k.args.work.now) (omega (arith, length-drop n k.args.work.now, k.requires.1)), c.before-k.ensures.1)
+last-first-requires c κs = let n = c.before-k.result in
+    omega (arith, length-take-le (c.args.j + 1 - n) (drop n c.args.work.now) (omega (arith, length-drop n c.args.work.now, c.requires.1)), c.before-k.ensures.1)
 
 same-length-2 : tie.Need-shape_of-work
 same-length-2 c = search rules
 
 returns-2 : tie.Need-returns
-returns-2 c = let k = c in let p = k.args.program.now in let w = k.args.work.now in
+returns-2 c = let p = c.args.program.now in let w = c.args.work.now in
     let at = c.before-k in
-    let e : at.result ≡ spot_at p w k.args.j k.args.r =
-    at.ensures.0 ∙ ap (λ (i : ℕ). greater_from p w i k.args.j k.args.r) c.behind-i.ensures in
-    part_moved w at.result k.args.j at.ensures.1 k.requires.1 (k.args.j + 1) _ refl c.last_first.ensures ∙ ap (λ (n : ℕ). moved w n k.args.j) e
+    let e : at.result ≡ spot_at p w c.args.j c.args.r =
+    at.ensures.0 ∙ ap (λ (i : ℕ). greater_from p w i c.args.j c.args.r) c.behind-i.ensures in
+    part_moved w at.result c.args.j at.ensures.1 c.requires.1 (c.args.j + 1) _ refl c.last_first.ensures ∙ ap (λ (n : ℕ). moved w n c.args.j) e
 
 pub settle_spec : {M : Type 1} → statement M
 settle_spec =

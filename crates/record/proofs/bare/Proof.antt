@@ -66,8 +66,7 @@ refused-requires : tie.Need-refused-requires
 refused-requires c κs = search rules
 
 returns : tie.Need-returns-then-l-size
-returns c = let k = c in
-    c.refused.ensures ∙ sym (read_cut (l k.before.before.before.before) (omega (arith, c.before.if-l-size.true, c.before.before.size_of-size.ensures ∙ ap size_of (sym (is k.before.before.before.before)))))
+returns c = c.refused.ensures ∙ sym (read_cut (l c.before.before.before.before) (omega (arith, c.before.if-l-size.true, c.before.before.size_of-size.ensures ∙ ap size_of (sym (is c.before.before.before.before)))))
 
 byte-requires : tie.Need-byte-bed-requires
 byte-requires c κs = let k = begin c in omega (arith, long c, bare_size (l k) (low k) (high k))
@@ -82,8 +81,7 @@ refused-requires-2 : tie.Need-refused-requires-then-not-needle_ok
 refused-requires-2 c κs = search rules
 
 returns-2 : tie.Need-returns-then-not-needle_ok
-returns-2 c = let n = c in
-    c.refused-then-not-needle_ok.ensures ∙ sym (read_outside (bytes n.before.before) (long (there n.before.before)) (bare_outside (bytes n.before.before) (kind_low n.before.before) (kind_high n.before.before) (sym (ok n.before.before) ∙ c.before.if-not-needle_ok.true)))
+returns-2 c = c.refused-then-not-needle_ok.ensures ∙ sym (read_outside (bytes c.before.before) (long (there c.before.before)) (bare_outside (bytes c.before.before) (kind_low c.before.before) (kind_high c.before.before) (sym (ok c.before.before) ∙ c.before.if-not-needle_ok.true)))
 
 blank-requires : tie.Need-blank-what-requires
 blank-requires c κs = search rules
@@ -112,11 +110,11 @@ refused-requires-3 : tie.Need-refused-requires-then-m-gt-NEEDLE_MOST
 refused-requires-3 c κs = search rules
 
 returns-3 : tie.Need-returns-then-m-gt-NEEDLE_MOST
-returns-3 c = let t = c in let n = tested t.before.before.before in
-    c.refused-then-m-gt-NEEDLE_MOST.ensures ∙ sym (read_outside (bytes n) (long (there n)) (xfer_fields (bytes n) (xfer t.before.before.before) ∙ simp (← c.before.before.byte-m.ensures, lt-leb _ _ c.before.if-m-gt-NEEDLE_MOST.true, and-false (needle_ok (byte (bytes n) 1) (byte (bytes n) 2)))))
+returns-3 c = let n = tested c.before.before.before in
+    c.refused-then-m-gt-NEEDLE_MOST.ensures ∙ sym (read_outside (bytes n) (long (there n)) (xfer_fields (bytes n) (xfer c.before.before.before) ∙ simp (← c.before.before.byte-m.ensures, lt-leb _ _ c.before.if-m-gt-NEEDLE_MOST.true, and-false (needle_ok (byte (bytes n) 1) (byte (bytes n) 2)))))
 
 sub-t16 : tie.Need-overflow_sub-to
-sub-t16 c = let t = c in let n = tested t.before.before in omega (arith, n.before.before.byte-bed.ensures, needle_bed (byte (bytes n) 1) (byte (bytes n) 2) (good t.before.before))
+sub-t16 c = let n = tested c.before.before in omega (arith, n.before.before.byte-bed.ensures, needle_bed (byte (bytes n) 1) (byte (bytes n) 2) (good c.before.before))
 
 cast-t17 : tie.Need-overflow_cast-to
 cast-t17 c = search rules
@@ -125,19 +123,19 @@ cast-t18 : tie.Need-overflow_cast-to-then-kind-eq-XFER
 cast-t18 c = search rules
 
 returns-4 : tie.Need-returns-else-m-gt-NEEDLE_MOST
-returns-4 c = let t = c in let n = tested t.before.before in let e : (begin (there n)).args.kind ≡ XFER = t.before.before.if-kind-eq-XFER.true in
-    simp (t.before.before.before.blank-what.ensures, size (there n), c.before.byte-m.ensures, n.before.byte-n.ensures, n.before.before.byte-bed.ensures)
-    (sym (read_inside (bytes n) (long (there n)) (xfer_fields (bytes n) (xfer t.before.before) ∙ simp (good t.before.before, ← c.before.byte-m.ensures) (le-leb _ _ c.if-m-gt-NEEDLE_MOST.false))
+returns-4 c = let n = tested c.before.before in let e : (begin (there n)).args.kind ≡ XFER = c.before.before.if-kind-eq-XFER.true in
+    simp (c.before.before.before.blank-what.ensures, size (there n), c.before.byte-m.ensures, n.before.byte-n.ensures, n.before.before.byte-bed.ensures)
+    (sym (read_inside (bytes n) (long (there n)) (xfer_fields (bytes n) (xfer c.before.before) ∙ simp (good c.before.before, ← c.before.byte-m.ensures) (le-leb _ _ c.if-m-gt-NEEDLE_MOST.false))
     ∙ ap (λ (x : Record). record { number = 0; size = size_of (byte (bytes n) 0); what = x })
-    (xfer_record_lem (bytes n) (xfer t.before.before) ∙ ap (λ (k : ℕ). record_of k (pos 0) false (needle (byte (bytes n) 1) (byte (bytes n) 2)) 0 0 (needle (1 - byte (bytes n) 1) (byte (bytes n) 3))) (sym e))))
+    (xfer_record_lem (bytes n) (xfer c.before.before) ∙ ap (λ (k : ℕ). record_of k (pos 0) false (needle (byte (bytes n) 1) (byte (bytes n) 2)) 0 0 (needle (1 - byte (bytes n) 1) (byte (bytes n) 3))) (sym e))))
 
 returns-5 : tie.Need-returns-else-kind-eq-XFER
-returns-5 c = let n = c in let k = begin (there n.before.before.before) in
-    let other : byte (bytes n.before.before.before) 0 ≡ XFER → ⊥ = λ e. c.if-kind-eq-XFER.false (sym (is k) ∙ e) in
+returns-5 c = let k = begin (there c.before.before.before) in
+    let other : byte (bytes c.before.before.before) 0 ≡ XFER → ⊥ = λ e. c.if-kind-eq-XFER.false (sym (is k) ∙ e) in
     let drop : k.args.kind ≡ DROP = omega (arith, c.if-kind-eq-XFER.false, k.requires.1, k.requires.2) in
-    simp (c.before.blank-what.ensures, size (there n.before.before.before), n.before.before.before.before.byte-n.ensures, n.before.before.before.before.before.byte-bed.ensures, drop)
-    (sym (read_inside (bytes n.before.before.before) (long (there n.before.before.before)) (drop_fields (bytes n.before.before.before) (kind_low n.before.before.before) (kind_high n.before.before.before) other ∙ sym (ok n.before.before.before) ∙ c.before.before.if-not-needle_ok.false)
-    ∙ ap (λ (x : Record). record { number = 0; size = size_of (byte (bytes n.before.before.before) 0); what = x }) (drop_record_lem (bytes n.before.before.before) (kind_low n.before.before.before) (kind_high n.before.before.before) other)))
+    simp (c.before.blank-what.ensures, size (there c.before.before.before), c.before.before.before.before.byte-n.ensures, c.before.before.before.before.before.byte-bed.ensures, drop)
+    (sym (read_inside (bytes c.before.before.before) (long (there c.before.before.before)) (drop_fields (bytes c.before.before.before) (kind_low c.before.before.before) (kind_high c.before.before.before) other ∙ sym (ok c.before.before.before) ∙ c.before.before.if-not-needle_ok.false)
+    ∙ ap (λ (x : Record). record { number = 0; size = size_of (byte (bytes c.before.before.before) 0); what = x }) (drop_record_lem (bytes c.before.before.before) (kind_low c.before.before.before) (kind_high c.before.before.before) other)))
 
 pub bare_spec : {M : Type 1} → statement M
 bare_spec =

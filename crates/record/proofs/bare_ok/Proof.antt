@@ -38,27 +38,27 @@ module _ (n : tie.After-needle_ok) where
   ok = n.needle_ok.ensures ∙ (λ i. needle_ok (n.before.before.byte-bed.ensures i) (n.before.byte-n.ensures i))
 
 byte-requires : tie.Need-byte-bed-requires
-byte-requires c κs = let k = c in omega (arith, long k.before, bare_size (l k.before) (low k.before) (high k.before))
+byte-requires c κs = omega (arith, long c.before, bare_size (l c.before) (low c.before) (high c.before))
 
 byte-requires-2 : tie.Need-byte-n-requires
-byte-requires-2 c κs = let k = c in omega (arith, long k.before.before, bare_size (l k.before.before) (low k.before.before) (high k.before.before))
+byte-requires-2 c κs = omega (arith, long c.before.before, bare_size (l c.before.before) (low c.before.before) (high c.before.before))
 
 needle-ok-requires : tie.Need-needle_ok-requires
 needle-ok-requires c κs = search rules
 
 returns : tie.Need-returns-then-not-needle_ok
-returns c = let n = c in let k = begin n.before in sym (bare_outside (l k) (low k) (high k) (sym (ok n.before) ∙ c.if-not-needle_ok.true))
+returns c = let k = begin c.before in sym (bare_outside (l k) (low k) (high k) (sym (ok c.before) ∙ c.if-not-needle_ok.true))
 
 returns-2 : tie.Need-returns-then-kind-eq-DROP
-returns-2 c = let n = c in let k = begin n.before.before in
-    sym (drop_fields (l k) (low k) (high k) (λ e. omega (arith, c.if-kind-eq-DROP.true, is k)) ∙ sym (ok n.before.before) ∙ c.before.if-not-needle_ok.false)
+returns-2 c = let k = begin c.before.before in
+    sym (drop_fields (l k) (low k) (high k) (λ e. omega (arith, c.if-kind-eq-DROP.true, is k)) ∙ sym (ok c.before.before) ∙ c.before.if-not-needle_ok.false)
 
 byte-requires-3 : tie.Need-byte-requires
 byte-requires-3 c κs = let k = begin c.before.before in omega (arith, long k, xfer_size (l k) (omega (arith, c.if-kind-eq-DROP.false, low k, high k, is k)))
 
 returns-3 : tie.Need-returns
-returns-3 c = let n = c in let k = begin n.before.before.before in
-    ap number_ok c.byte.ensures ∙ sym (xfer_fields (l k) (omega (arith, c.before.if-kind-eq-DROP.false, low k, high k, is k)) ∙ simp (sym (ok n.before.before.before) ∙ c.before.before.if-not-needle_ok.false))
+returns-3 c = let k = begin c.before.before.before in
+    ap number_ok c.byte.ensures ∙ sym (xfer_fields (l k) (omega (arith, c.before.if-kind-eq-DROP.false, low k, high k, is k)) ∙ simp (sym (ok c.before.before.before) ∙ c.before.before.if-not-needle_ok.false))
 
 pub bare_ok_spec : {M : Type 1} → statement M
 bare_ok_spec = tie.close (tie.spec byte-requires byte-requires-2 needle-ok-requires returns returns-2 byte-requires-3 returns-3)

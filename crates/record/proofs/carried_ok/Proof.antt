@@ -61,7 +61,7 @@ work-ok-requires : tie.Need-work_ok-requires
 work-ok-requires c κs = search rules
 
 returns : tie.Need-returns-then-not-work_ok
-returns c = let n = c in let k = begin n.before in sym (carried_outside (l k) (low k) (high k) (sym (ok n.before) ∙ c.if-not-work_ok.true))
+returns c = let k = begin c.before in sym (carried_outside (l k) (low k) (high k) (sym (ok c.before) ∙ c.if-not-work_ok.true))
 
 -- in range
 module _ (e : tie.Else-not-work_ok) where
@@ -75,7 +75,7 @@ module _ (e : tie.Else-not-work_ok) where
   good = sym (ok tested) ∙ e.if-not-work_ok.false
 
 byte-requires-5 : tie.Need-byte-requires
-byte-requires-5 c κs = let e = c in omega (arith, long (k e.before), split_size (l (k e.before)) (is (k e.before) ∙ c.in-9.is))
+byte-requires-5 c κs = omega (arith, long (k c.before), split_size (l (k c.before)) (is (k c.before) ∙ c.in-9.is))
 
 -- a plated stitch
 module _ (t : tie.In-10-to-11) where
@@ -92,19 +92,17 @@ carrier-ok-requires : tie.Need-carrier_ok-requires
 carrier-ok-requires c κs = search rules
 
 returns-2 : tie.Need-returns-in-9
-returns-2 c = let e = c in
-    ap number_ok c.byte.ensures ∙ sym (split_fields (l (k e.before.before)) (is (k e.before.before) ∙ c.before.in-9.is) ∙ simp (good e.before.before))
+returns-2 c = ap number_ok c.byte.ensures ∙ sym (split_fields (l (k c.before.before)) (is (k c.before.before) ∙ c.before.in-9.is) ∙ simp (good c.before.before))
 
 returns-3 : tie.Need-returns-in-10-to-11
-returns-3 c = let t = c in let e = else t.before.before in
-    c.carrier_ok.ensures ∙ ap carrier_number_ok c.before.byte-in-10-to-11.ensures ∙ sym (plated_fields (l (k e)) (plated_low t.before.before) (high (k e)) ∙ simp (good e))
+returns-3 c = let e = else c.before.before in
+    c.carrier_ok.ensures ∙ ap carrier_number_ok c.before.byte-in-10-to-11.ensures ∙ sym (plated_fields (l (k e)) (plated_low c.before.before) (high (k e)) ∙ simp (good e))
 
 returns-4 : tie.Need-returns-in_default
-returns-4 c = let m = c in let e = m in
-    sym (work_fields (l (k e.before)) (low (k e.before)) (omega (arith, is (k e.before), c.in_default.if-kind-lt9-own.true, m.in_default.in_default-own.rest)) ∙ good e.before)
+returns-4 c = sym (work_fields (l (k c.before)) (low (k c.before)) (omega (arith, is (k c.before), c.in_default.if-kind-lt9-own.true, c.in_default.in_default-own.rest)) ∙ good c.before)
 
 returns-5 : tie.Need-returns-in_default-2
-returns-5 c = let e = c in absurd (omega (arith, is (k e.before), c.in_default.if-kind-lt12-own.false, high (k e.before)))
+returns-5 c = absurd (omega (arith, is (k c.before), c.in_default.if-kind-lt12-own.false, high (k c.before)))
 
 pub carried_ok_spec : {M : Type 1} → statement M
 carried_ok_spec =

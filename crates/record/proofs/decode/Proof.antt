@@ -88,15 +88,15 @@ returns-7 : tie.Need-returns-in-11
 returns-7 c = c.work-in-11.ensures ∙ of_kind c.before.before (Known.plated_knit c.before.in-11.is)
 
 returns-8 : tie.Need-returns-in-4-to-8
-returns-8 c = let b = c in let no = c.before.in-4-to-8.in_default-own.rest in
+returns-8 c = let no = c.before.in-4-to-8.in_default-own.rest in
     c.work-in-4-to-8.ensures
-    ∙ of_kind b.before.before (working (kind b.before.before) (above_bare (kind b.before.before) (omega (arith, c.before.in-4-to-8.if-kind-lt1-own.false)) no.0.0.0.0.0.1 no.0.0.0.0.1 no.0.0.0.1) (omega (arith, c.before.in-4-to-8.if-kind-lt9-own.true)))
+    ∙ of_kind c.before.before (working (kind c.before.before) (above_bare (kind c.before.before) (omega (arith, c.before.in-4-to-8.if-kind-lt1-own.false)) no.0.0.0.0.0.1 no.0.0.0.0.1 no.0.0.0.1) (omega (arith, c.before.in-4-to-8.if-kind-lt9-own.true)))
 
 returns-9 : tie.Need-returns-in_default
-returns-9 c = let b = c in let no = c.before.before.in_default-1.rest in
-    c.refused-in_default.ensures ∙ sym (decode_strange (bytes b.before.before.before) (some b.before.before.before)
-    (ap size_of (is b.before.before.before) ∙ no_size (kind b.before.before.before) no.0.0.0.0.0.1 no.0.0.0.0.1 no.0.0.0.1
-    (λ h j. elim c.in_default.branch [ in_default-via-then-kind-lt1 w ↦ omega arith | in_default-via-else-kind-lt1+else-kind-lt9 w ↦ above (kind b.before.before.before) j (omega arith) no.0.0.1 no.0.1 no.1 ])))
+returns-9 c = let no = c.before.before.in_default-1.rest in
+    c.refused-in_default.ensures ∙ sym (decode_strange (bytes c.before.before.before) (some c.before.before.before)
+    (ap size_of (is c.before.before.before) ∙ no_size (kind c.before.before.before) no.0.0.0.0.0.1 no.0.0.0.0.1 no.0.0.0.1
+    (λ h j. elim c.in_default.branch [ in_default-via-then-kind-lt1 w ↦ omega arith | in_default-via-else-kind-lt1+else-kind-lt9 w ↦ above (kind c.before.before.before) j (omega arith) no.0.0.1 no.0.1 no.1 ])))
   where
     above : (k : ℕ) → k ≤ PLATED_KNIT → 9 ≤ k → (k ≡ SPLIT → ⊥) → (k ≡ PLATED_TUCK → ⊥) → (k ≡ PLATED_KNIT → ⊥) → ⊥
     above k h i a b c = omega arith

@@ -74,7 +74,7 @@ byte-requires-2 : tie.Need-byte-bed-requires
 byte-requires-2 c κs = omega (arith, (bare_way c.before c.if-carriers-eq0.true).0)
 
 byte-requires-3 : tie.Need-byte-n-requires
-byte-requires-3 c κs = let t = c in omega (arith, (bare_way t.before.before t.before.if-carriers-eq0.true).0)
+byte-requires-3 c κs = omega (arith, (bare_way c.before.before c.before.if-carriers-eq0.true).0)
 
 cast-t12 : tie.Need-overflow_cast-at
 cast-t12 c = search rules
@@ -83,7 +83,7 @@ cast-t13 : tie.Need-overflow_cast-at-then-carriers-eq0
 cast-t13 c = search rules
 
 returns : tie.Need-returns-then-carriers-eq0
-returns c = let t = c in simp (t.before.before.before.before.blank-x.ensures, c.byte-n.ensures, c.before.byte-bed.ensures) (bare_way t.before.before.before t.before.before.if-carriers-eq0.true).1
+returns c = simp (c.before.before.before.before.blank-x.ensures, c.byte-n.ensures, c.before.byte-bed.ensures) (bare_way c.before.before.before c.before.before.if-carriers-eq0.true).1
 
 byte-requires-4 : tie.Need-byte-bed-requires-2
 byte-requires-4 c κs = omega (arith, five c)
@@ -101,16 +101,14 @@ byte-requires-6 : tie.Need-byte-requires
 byte-requires-6 c κs = omega (arith, five c.before.before)
 
 byte-requires-7 : tie.Need-byte-requires-then-carriers-eq2
-byte-requires-7 c κs = let b = c in omega (arith, (two_way b.before.before.before.before.before (named b.before.before.before.before.before ∙ c.if-carriers-eq2.true)).0)
+byte-requires-7 c κs = omega (arith, (two_way c.before.before.before.before.before (named c.before.before.before.before.before ∙ c.if-carriers-eq2.true)).0)
 
 returns-2 : tie.Need-returns-then-carriers-eq2
-returns-2 c = let s = c in let b = s in
-    simp (b.before.before.before.before.before.before.before.blank-x.ensures, c.byte-then-carriers-eq2.ensures, s.before.before.byte.ensures, s.before.before.before.byte-n-2.ensures, s.before.before.before.before.byte-bed-2.ensures) (two_way b.before.before.before.before.before.before (named b.before.before.before.before.before.before ∙ c.before.if-carriers-eq2.true)).1
+returns-2 c = simp (c.before.before.before.before.before.before.before.blank-x.ensures, c.byte-then-carriers-eq2.ensures, c.before.before.byte.ensures, c.before.before.before.byte-n-2.ensures, c.before.before.before.before.byte-bed-2.ensures) (two_way c.before.before.before.before.before.before (named c.before.before.before.before.before.before ∙ c.before.if-carriers-eq2.true)).1
 
 returns-3 : tie.Need-returns-else-carriers-eq2
-returns-3 c = let s = c in let t = s in let b = t in
-    let one = some_carrier (carrier_count_lem (byte (bytes b.before.before.before.before.before) 0)) (λ z. t.before.before.before.before.if-carriers-eq0.false (sym (named b.before.before.before.before.before) ∙ z)) (λ z. z) (λ z. absurd (c.if-carriers-eq2.false (sym (named b.before.before.before.before.before) ∙ z))) in
-    simp (b.before.before.before.before.before.before.blank-x.ensures, s.before.byte.ensures, s.before.before.byte-n-2.ensures, s.before.before.before.byte-bed-2.ensures) (one_way b.before.before.before.before.before one).1
+returns-3 c = let one = some_carrier (carrier_count_lem (byte (bytes c.before.before.before.before.before) 0)) (λ z. c.before.before.before.before.if-carriers-eq0.false (sym (named c.before.before.before.before.before) ∙ z)) (λ z. z) (λ z. absurd (c.if-carriers-eq2.false (sym (named c.before.before.before.before.before) ∙ z))) in
+    simp (c.before.before.before.before.before.before.blank-x.ensures, c.before.byte.ensures, c.before.before.byte-n-2.ensures, c.before.before.before.byte-bed-2.ensures) (one_way c.before.before.before.before.before one).1
 
 pub outline_spec : {M : Type 1} → statement M
 outline_spec =

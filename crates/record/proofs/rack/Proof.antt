@@ -70,8 +70,7 @@ refused-requires : tie.Need-refused-requires
 refused-requires c κs = search rules
 
 returns : tie.Need-returns-then-l-size
-returns c = let k = c in
-    c.refused.ensures ∙ sym (read_cut (l k.before.before.before.before) (omega (arith, two k.before.before.before.before, sized c.before.before, c.before.if-l-size.true)))
+returns c = c.refused.ensures ∙ sym (read_cut (l c.before.before.before.before) (omega (arith, two c.before.before.before.before, sized c.before.before, c.before.if-l-size.true)))
 
 byte-requires : tie.Need-byte-requires
 byte-requires c κs = omega (arith, two (begin c), long c)
@@ -86,17 +85,15 @@ refused-requires-2 : tie.Need-refused-requires-then-not-in_range
 refused-requires-2 c κs = search rules
 
 returns-2 : tie.Need-returns-then-not-in_range
-returns-2 c = let n = c in
-    c.refused-then-not-in_range.ensures ∙ sym (read_outside (bytes n.before.before) (long (there n.before.before)) (sym (ok n.before.before) ∙ c.before.if-not-in_range.true))
+returns-2 c = c.refused-then-not-in_range.ensures ∙ sym (read_outside (bytes c.before.before) (long (there c.before.before)) (sym (ok c.before.before) ∙ c.before.if-not-in_range.true))
 
 blank-requires : tie.Need-blank-what-requires
 blank-requires c κs = search rules
 
 returns-3 : tie.Need-returns
-returns-3 c = let n = c in
-    simp (c.blank-what.ensures, sized (there n.before.before).before ∙ sym (two (begin (there n.before.before))), back w8 (z n.before.before) (search rules) ∙ is n.before.before)
-    (sym (read_inside (bytes n.before.before) (long (there n.before.before)) (sym (ok n.before.before) ∙ c.before.if-not-in_range.false)
-    ∙ ap (λ (x : Record). record { number = 0; size = size_of (byte (bytes n.before.before) 0); what = x }) (reads (begin (there n.before.before)))))
+returns-3 c = simp (c.blank-what.ensures, sized (there c.before.before).before ∙ sym (two (begin (there c.before.before))), back w8 (z c.before.before) (search rules) ∙ is c.before.before)
+    (sym (read_inside (bytes c.before.before) (long (there c.before.before)) (sym (ok c.before.before) ∙ c.before.if-not-in_range.false)
+    ∙ ap (λ (x : Record). record { number = 0; size = size_of (byte (bytes c.before.before) 0); what = x }) (reads (begin (there c.before.before)))))
 
 pub rack_spec : {M : Type 1} → statement M
 rack_spec =

@@ -52,11 +52,11 @@ size-of-requires c κs = search rules
 
 returns-2 : tie.Need-returns-then-size-eq0
 unfolding refused_as
-returns-2 c = let b = c in sym (number (l b.before) (decode_strange (l b.before) (some b.before) (sym (size_is b.before) ∙ c.if-size-eq0.true)))
+returns-2 c = sym (number (l c.before) (decode_strange (l c.before) (some c.before) (sym (size_is c.before) ∙ c.if-size-eq0.true)))
 
 returns-3 : tie.Need-returns-then-l-size
 unfolding refused_as
-returns-3 c = let b = c in sym (number (l b.before.before) (decode_short (l b.before.before) (some b.before.before) (omega (arith, c.if-l-size.true, size_is b.before.before))))
+returns-3 c = sym (number (l c.before.before) (decode_short (l c.before.before) (some c.before.before) (omega (arith, c.if-l-size.true, size_is c.before.before))))
 
 fields-ok-requires : tie.Need-fields_ok-requires
 fields-ok-requires c κs = let b = sized c in
@@ -64,13 +64,13 @@ fields-ok-requires c κs = let b = sized c in
 
 returns-4 : tie.Need-returns-then-fields_ok
 unfolding refused_as
-returns-4 c = let w = c in let b = sized w.before.before in
-    sym (number (l b) (decode_known (l b) (some b) (known w.before.before) ∙ read_inside (l b) (long w.before.before) (sym c.before.fields_ok.ensures ∙ c.if-fields_ok.true)))
+returns-4 c = let b = sized c.before.before in
+    sym (number (l b) (decode_known (l b) (some b) (known c.before.before) ∙ read_inside (l b) (long c.before.before) (sym c.before.fields_ok.ensures ∙ c.if-fields_ok.true)))
 
 returns-5 : tie.Need-returns
 unfolding refused_as
-returns-5 c = let w = c in let b = sized w.before.before in
-    sym (number (l b) (decode_known (l b) (some b) (known w.before.before) ∙ read_outside (l b) (long w.before.before) (sym c.before.fields_ok.ensures ∙ c.if-fields_ok.false)))
+returns-5 c = let b = sized c.before.before in
+    sym (number (l b) (decode_known (l b) (some b) (known c.before.before) ∙ read_outside (l b) (long c.before.before) (sym c.before.fields_ok.ensures ∙ c.if-fields_ok.false)))
 
 pub refusal_spec : {M : Type 1} → statement M
 refusal_spec = tie.close (tie.spec returns byte-requires size-of-requires returns-2 returns-3 fields-ok-requires returns-4 returns-5)

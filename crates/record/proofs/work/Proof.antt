@@ -75,8 +75,7 @@ refused-requires : tie.Need-refused-requires
 refused-requires c κs = search rules
 
 returns : tie.Need-returns-then-l-size
-returns c = let k = c in
-    c.refused.ensures ∙ sym (read_cut (l k.before.before.before.before) (omega (arith, c.before.if-l-size.true, c.before.before.size_of-size.ensures ∙ ap size_of (sym (is k.before.before.before.before)))))
+returns c = c.refused.ensures ∙ sym (read_cut (l c.before.before.before.before) (omega (arith, c.before.if-l-size.true, c.before.before.size_of-size.ensures ∙ ap size_of (sym (is c.before.before.before.before)))))
 
 byte-requires : tie.Need-byte-right-requires
 byte-requires c κs = omega (arith, five c)
@@ -97,8 +96,8 @@ refused-requires-2 : tie.Need-refused-requires-then-not-work_ok
 refused-requires-2 c κs = search rules
 
 returns-2 : tie.Need-returns-then-not-work_ok
-returns-2 c = let n = c in let k = begin (there n.before.before) in
-    c.refused-then-not-work_ok.ensures ∙ sym (read_outside (bytes n.before.before) (long (there n.before.before)) (carried_outside (bytes n.before.before) (low k) (high k) (sym (ok n.before.before) ∙ c.before.if-not-work_ok.true)))
+returns-2 c = let k = begin (there c.before.before) in
+    c.refused-then-not-work_ok.ensures ∙ sym (read_outside (bytes c.before.before) (long (there c.before.before)) (carried_outside (bytes c.before.before) (low k) (high k) (sym (ok c.before.before) ∙ c.before.if-not-work_ok.true)))
 
 blank-requires : tie.Need-blank-what-requires
 blank-requires c κs = search rules
@@ -136,12 +135,11 @@ refused-requires-3 : tie.Need-refused-requires-then-m-gt-NEEDLE_MOST
 refused-requires-3 c κs = search rules
 
 returns-3 : tie.Need-returns-then-m-gt-NEEDLE_MOST
-returns-3 c = let t = c in let b = t in
-    c.refused-then-m-gt-NEEDLE_MOST.ensures ∙ sym (read_outside (all b.before.before.before.before) (long (there (tested b.before.before.before.before))) (split_fields (all b.before.before.before.before) (split t.before.before.before) ∙ simp (← c.before.before.byte-m.ensures, lt-leb _ _ c.before.if-m-gt-NEEDLE_MOST.true, and-false (work_fields_ok (all b.before.before.before.before)))))
+returns-3 c = c.refused-then-m-gt-NEEDLE_MOST.ensures ∙ sym (read_outside (all c.before.before.before.before) (long (there (tested c.before.before.before.before))) (split_fields (all c.before.before.before.before) (split c.before.before.before) ∙ simp (← c.before.before.byte-m.ensures, lt-leb _ _ c.before.if-m-gt-NEEDLE_MOST.true, and-false (work_fields_ok (all c.before.before.before.before)))))
 
 sub-t19 : tie.Need-overflow_sub-to
-sub-t19 c = let b = c in let n = tested b.before.before.before in
-    omega (arith, n.before.before.before.byte-bed.ensures, work_bed (byte (all b.before.before.before) 1) (byte (all b.before.before.before) 2) (byte (all b.before.before.before) 3) (byte (all b.before.before.before) 4) (good b.before.before.before))
+sub-t19 c = let n = tested c.before.before.before in
+    omega (arith, n.before.before.before.byte-bed.ensures, work_bed (byte (all c.before.before.before) 1) (byte (all c.before.before.before) 2) (byte (all c.before.before.before) 3) (byte (all c.before.before.before) 4) (good c.before.before.before))
 
 cast-t20 : tie.Need-overflow_cast-to
 cast-t20 c = search rules
@@ -178,29 +176,29 @@ module _ (t : tie.After-carrier_ok) where
   second_ok = t.carrier_ok.ensures ∙ ap carrier_number_ok t.before.byte-j.ensures
 
 returns-4 : tie.Need-returns-then-not-carrier_ok
-returns-4 c = let t = c in let w = way t.before.before in let b = stored w in
+returns-4 c = let w = way c.before.before in let b = stored w in
     c.refused-then-not-carrier_ok.ensures
     ∙ sym (read_outside (all b) (long (there (tested b))) (plated_fields (all b) (plated_low w) (high (from w))
-    ∙ simp (sym (second_ok t.before.before) ∙ c.before.if-not-carrier_ok.true, and-false (work_fields_ok (all b)))))
+    ∙ simp (sym (second_ok c.before.before) ∙ c.before.if-not-carrier_ok.true, and-false (work_fields_ok (all b)))))
 
 returns-5 : tie.Need-returns-else-m-gt-NEEDLE_MOST
-returns-5 c = let t = c in let b = t in let n = tested b.before.before.before in
-    simp (b.before.before.before.blank-what.ensures, size (there n), to_right n (good b.before.before.before), c.before.byte-m.ensures, n.before.byte-k.ensures, n.before.before.byte-n.ensures, n.before.before.before.byte-bed.ensures)
-    (inside b.before.before.before _ (split_fields (all b.before.before.before) (split t.before.before) ∙ simp (good b.before.before.before, ← c.before.byte-m.ensures) (le-leb _ _ c.if-m-gt-NEEDLE_MOST.false))
-    (split_record_lem (all b.before.before.before) (split t.before.before)
-    ∙ ap (λ (k : ℕ). record_of k (pos 0) (eqb (byte (all b.before.before.before) 1) 1) (needle (byte (all b.before.before.before) 2) (byte (all b.before.before.before) 3)) (byte (all b.before.before.before) 4) 0 (needle (1 - byte (all b.before.before.before) 2) (byte (all b.before.before.before) 5))) (sym t.before.before.in-9.is)))
+returns-5 c = let n = tested c.before.before.before in
+    simp (c.before.before.before.blank-what.ensures, size (there n), to_right n (good c.before.before.before), c.before.byte-m.ensures, n.before.byte-k.ensures, n.before.before.byte-n.ensures, n.before.before.before.byte-bed.ensures)
+    (inside c.before.before.before _ (split_fields (all c.before.before.before) (split c.before.before) ∙ simp (good c.before.before.before, ← c.before.byte-m.ensures) (le-leb _ _ c.if-m-gt-NEEDLE_MOST.false))
+    (split_record_lem (all c.before.before.before) (split c.before.before)
+    ∙ ap (λ (k : ℕ). record_of k (pos 0) (eqb (byte (all c.before.before.before) 1) 1) (needle (byte (all c.before.before.before) 2) (byte (all c.before.before.before) 3)) (byte (all c.before.before.before) 4) 0 (needle (1 - byte (all c.before.before.before) 2) (byte (all c.before.before.before) 5))) (sym c.before.before.in-9.is)))
 
 returns-6 : tie.Need-returns-then-kind-lt9
-returns-6 c = let r = c in let b = r in let n = tested b.before.before in let k = begin (there n) in
-    let knit : byte (all b.before.before) 0 ≤ KNIT = omega (arith, is k, c.if-kind-lt9-1.true, r.before.in_default-1.rest.1) in
-    simp (b.before.before.blank-what.ensures, size (there n), to_right n (good b.before.before), n.before.byte-k.ensures, n.before.before.byte-n.ensures, n.before.before.before.byte-bed.ensures)
-    (inside b.before.before _ (work_fields (all b.before.before) (low k) knit ∙ good b.before.before)
-    (work_record_lem (all b.before.before) (low k) knit ∙ ap (λ (m : ℕ). work_record m (eqb (byte (all b.before.before) 1) 1) (needle (byte (all b.before.before) 2) (byte (all b.before.before) 3)) (byte (all b.before.before) 4)) (is k)))
+returns-6 c = let n = tested c.before.before in let k = begin (there n) in
+    let knit : byte (all c.before.before) 0 ≤ KNIT = omega (arith, is k, c.if-kind-lt9-1.true, c.before.in_default-1.rest.1) in
+    simp (c.before.before.blank-what.ensures, size (there n), to_right n (good c.before.before), n.before.byte-k.ensures, n.before.before.byte-n.ensures, n.before.before.before.byte-bed.ensures)
+    (inside c.before.before _ (work_fields (all c.before.before) (low k) knit ∙ good c.before.before)
+    (work_record_lem (all c.before.before) (low k) knit ∙ ap (λ (m : ℕ). work_record m (eqb (byte (all c.before.before) 1) 1) (needle (byte (all c.before.before) 2) (byte (all c.before.before) 3)) (byte (all c.before.before) 4)) (is k)))
 
 returns-7 : tie.Need-returns-else-not-carrier_ok
-returns-7 c = let t = c in let w = way t.before in let b = stored w in let n = tested b in let k = from w in
-    simp (b.blank-what.ensures, size (there n), to_right n (good b), t.before.before.byte-j.ensures, n.before.byte-k.ensures, n.before.before.byte-n.ensures, n.before.before.before.byte-bed.ensures)
-    (inside b _ (plated_fields (all b) (plated_low w) (high k) ∙ simp (good b) (sym (second_ok t.before) ∙ c.if-not-carrier_ok.false))
+returns-7 c = let w = way c.before in let b = stored w in let n = tested b in let k = from w in
+    simp (b.blank-what.ensures, size (there n), to_right n (good b), c.before.before.byte-j.ensures, n.before.byte-k.ensures, n.before.before.byte-n.ensures, n.before.before.before.byte-bed.ensures)
+    (inside b _ (plated_fields (all b) (plated_low w) (high k) ∙ simp (good b) (sym (second_ok c.before) ∙ c.if-not-carrier_ok.false))
     (plated_record_lem (all b) (plated_low w) (high k)
     ∙ ap (λ (m : ℕ). plated_record m (eqb (byte (all b) 1) 1) (needle (byte (all b) 2) (byte (all b) 3)) (byte (all b) 4) (byte (all b) 5)) (is k)))
 

@@ -32,8 +32,7 @@ returns-2 c = simp (← c.before.needle_ok.ensures, c.if-not-needle_ok.true, and
 
 returns-3 : tie.Need-returns
 unfolding work_ok
-returns-3 c = let k = c in
-    simp (← c.before.needle_ok.ensures, c.if-not-needle_ok.false, ← k.before.before.before.carrier_ok.ensures, c.before.before.if-not-carrier_ok.false, and-true (leb k.before.before.before.before.args.right 1))
+returns-3 c = simp (← c.before.needle_ok.ensures, c.if-not-needle_ok.false, ← c.before.before.before.carrier_ok.ensures, c.before.before.if-not-carrier_ok.false, and-true (leb c.before.before.before.before.args.right 1))
 
 pub work_ok_spec : {M : Type 1} → statement M
 work_ok_spec = tie.close (tie.spec carrier-ok-requires returns needle-ok-requires returns-2 returns-3)

@@ -36,8 +36,8 @@ part-halves-end : tie.Need-slice_bounds-halves-end
 part-halves-end c = search rules
 
 halves-requires : tie.Need-halves-requires
-halves-requires c κs = let s = c in let g = s.args in let t = c.in-3.is in
-    two_long g.output.now g.a g.b g.e 3 s.requires.0 s.requires.1 s.requires.2 (both_long g.a g.b g.e _ 3 (elim c.if-e-b.branch [ then-e-b w ↦ inl (w.if-e-b.true, w.each-is) | else-e-b w ↦ inr w.each-is ]) t (omega arith))
+halves-requires c κs = let g = c.args in let t = c.in-3.is in
+    two_long g.output.now g.a g.b g.e 3 c.requires.0 c.requires.1 c.requires.2 (both_long g.a g.b g.e _ 3 (elim c.if-e-b.branch [ then-e-b w ↦ inl (w.if-e-b.true, w.each-is) | else-e-b w ↦ inr w.each-is ]) t (omega arith))
 
 sub-halves-2 : tie.Need-slice_bounds-halves-count-in-5
 sub-halves-2 c = search rules
@@ -49,8 +49,8 @@ part-halves-end-2 : tie.Need-slice_bounds-halves-end-in-5
 part-halves-end-2 c = search rules
 
 halves-requires-2 : tie.Need-halves-requires-in-5
-halves-requires-2 c κs = let s = c in let g = s.args in let t = c.in-5.is in
-    two_long g.output.now g.a g.b g.e 5 s.requires.0 s.requires.1 s.requires.2 (both_long g.a g.b g.e _ 5 (elim c.if-e-b.branch [ then-e-b w ↦ inl (w.if-e-b.true, w.each-is) | else-e-b w ↦ inr w.each-is ]) t (omega arith))
+halves-requires-2 c κs = let g = c.args in let t = c.in-5.is in
+    two_long g.output.now g.a g.b g.e 5 c.requires.0 c.requires.1 c.requires.2 (both_long g.a g.b g.e _ 5 (elim c.if-e-b.branch [ then-e-b w ↦ inl (w.if-e-b.true, w.each-is) | else-e-b w ↦ inr w.each-is ]) t (omega arith))
 
 sub-halves-3 : tie.Need-slice_bounds-halves-count-in-6
 sub-halves-3 c = search rules
@@ -62,8 +62,8 @@ part-halves-end-3 : tie.Need-slice_bounds-halves-end-in-6
 part-halves-end-3 c = search rules
 
 halves-requires-3 : tie.Need-halves-requires-in-6
-halves-requires-3 c κs = let s = c in let g = s.args in let t = c.in-6.is in
-    two_long g.output.now g.a g.b g.e 6 s.requires.0 s.requires.1 s.requires.2 (both_long g.a g.b g.e _ 6 (elim c.if-e-b.branch [ then-e-b w ↦ inl (w.if-e-b.true, w.each-is) | else-e-b w ↦ inr w.each-is ]) t (omega arith))
+halves-requires-3 c κs = let g = c.args in let t = c.in-6.is in
+    two_long g.output.now g.a g.b g.e 6 c.requires.0 c.requires.1 c.requires.2 (both_long g.a g.b g.e _ 6 (elim c.if-e-b.branch [ then-e-b w ↦ inl (w.if-e-b.true, w.each-is) | else-e-b w ↦ inr w.each-is ]) t (omega arith))
 
 sub-rotate : tie.Need-slice_bounds-rotate-count
 sub-rotate c = search rules
@@ -81,32 +81,32 @@ same_length : tie.Need-shape_of-output-in-3
 same_length c = search rules
 
 returns : tie.Need-returns-in-3
-returns c = let s = c in let g = s.args in let t = c.in-3.is in
-    put_back g.output.now c.halves.new.part g.a g.b g.e s.requires.0 s.requires.1 s.requires.2
+returns c = let g = c.args in let t = c.in-3.is in
+    put_back g.output.now c.halves.new.part g.a g.b g.e c.requires.0 c.requires.1 c.requires.2
     (c.halves.ensures ∙ ap (turned (take (g.e - g.a) (drop g.a g.output.now))) (sym (both_long g.a g.b g.e _ 3 (elim c.if-e-b.branch [ then-e-b w ↦ inl (w.if-e-b.true, w.each-is) | else-e-b w ↦ inr w.each-is ]) t (omega arith)).1))
 
 same-length-2 : tie.Need-shape_of-output-in-5
 same-length-2 c = search rules
 
 returns-2 : tie.Need-returns-in-5
-returns-2 c = let s = c in let g = s.args in let t = c.in-5.is in
-    put_back g.output.now c.halves-in-5.new.part g.a g.b g.e s.requires.0 s.requires.1 s.requires.2
+returns-2 c = let g = c.args in let t = c.in-5.is in
+    put_back g.output.now c.halves-in-5.new.part g.a g.b g.e c.requires.0 c.requires.1 c.requires.2
     (c.halves-in-5.ensures ∙ ap (turned (take (g.e - g.a) (drop g.a g.output.now))) (sym (both_long g.a g.b g.e _ 5 (elim c.if-e-b.branch [ then-e-b w ↦ inl (w.if-e-b.true, w.each-is) | else-e-b w ↦ inr w.each-is ]) t (omega arith)).1))
 
 same-length-3 : tie.Need-shape_of-output-in-6
 same-length-3 c = search rules
 
 returns-3 : tie.Need-returns-in-6
-returns-3 c = let s = c in let g = s.args in let t = c.in-6.is in
-    put_back g.output.now c.halves-in-6.new.part g.a g.b g.e s.requires.0 s.requires.1 s.requires.2
+returns-3 c = let g = c.args in let t = c.in-6.is in
+    put_back g.output.now c.halves-in-6.new.part g.a g.b g.e c.requires.0 c.requires.1 c.requires.2
     (c.halves-in-6.ensures ∙ ap (turned (take (g.e - g.a) (drop g.a g.output.now))) (sym (both_long g.a g.b g.e _ 6 (elim c.if-e-b.branch [ then-e-b w ↦ inl (w.if-e-b.true, w.each-is) | else-e-b w ↦ inr w.each-is ]) t (omega arith)).1))
 
 same-length-4 : tie.Need-shape_of-output-in_default
 same-length-4 c = search rules
 
 returns-4 : tie.Need-returns-in_default
-returns-4 c = let s = c in let g = s.args in
-    put_back g.output.now c.rotate.new.part g.a g.b g.e s.requires.0 s.requires.1 s.requires.2 c.rotate.ensures
+returns-4 c = let g = c.args in
+    put_back g.output.now c.rotate.new.part g.a g.b g.e c.requires.0 c.requires.1 c.requires.2 c.rotate.ensures
 
 pub exchange_spec : {M : Type 1} → statement M
 exchange_spec =

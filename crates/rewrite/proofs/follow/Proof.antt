@@ -32,11 +32,11 @@ enum-known-x : tie.Need-enum_known-x
 enum-known-x c = search rules
 
 swap-requires : tie.Need-swap-requires
-swap-requires c κs = let k = c in (k.requires.0, k.requires.1, subst InTwoBytes c.in-Swap.is k.requires.2)
+swap-requires c κs = (c.requires.0, c.requires.1, subst InTwoBytes c.in-Swap.is c.requires.2)
 
 returns : tie.Need-returns-in-Torn
 unfolding Left
-returns c = let k = c in torn_left k.args.x k.args.output.now k.args.work.now c.in-Torn.is k.requires.0
+returns c = torn_left c.args.x c.args.output.now c.args.work.now c.in-Torn.is c.requires.0
 
 same_length : tie.Need-shape_of-output
 same_length c = search rules
@@ -46,8 +46,8 @@ same-length-2 c = search rules
 
 returns-2 : tie.Need-returns-in-Swap
 unfolding Left
-returns-2 c = let k = c in let s = c.swap in
-    swap_left k.args.x k.args.output.now k.args.work.now _ c.in-Swap.is s.ensures.0 s.ensures.1.0 s.ensures.1.1
+returns-2 c = let s = c.swap in
+    swap_left c.args.x c.args.output.now c.args.work.now _ c.in-Swap.is s.ensures.0 s.ensures.1.0 s.ensures.1.1
 
 pub follow_spec : {M : Type 1} → statement M
 follow_spec =

@@ -42,8 +42,8 @@ loop-less : tie.Need-loop-i-smaller invariant-loop decreases-loop
 loop-less c = omega (arith, c.loop-i-test.true)
 
 loop-again : tie.Need-loop-i-preserved invariant-loop decreases-loop
-loop-again c = let s = c in let v = c.loop-i in let p = s.args.part.now in let k = s.args.k in (
-  half_next (take k p) (drop k p) k (half_front p k s.requires) (half_back p k s.requires) v.i c.loop-i-test.true v.part v.invariant.0,
+loop-again c = let v = c.loop-i in let p = c.args.part.now in let k = c.args.k in (
+  half_next (take k p) (drop k p) k (half_front p k c.requires) (half_back p k c.requires) v.i c.loop-i-test.true v.part v.invariant.0,
   length-set (set v.part v.i (get_or v.part (k + v.i) 0)) (k + v.i) (get_or v.part v.i 0) ∙ length-set v.part v.i (get_or v.part (k + v.i) 0) ∙ v.invariant.1,
   omega (arith, c.loop-i-test.true),
 )
@@ -52,7 +52,7 @@ same_length : tie.Need-shape_of-part invariant-loop decreases-loop
 same_length c = search rules
 
 returns : tie.Need-returns invariant-loop decreases-loop
-returns c = let s = c in let v = c.loop-i in v.invariant.0 ∙ half_all s.args.part.now s.args.k s.requires v.i (omega (arith, c.loop-i-test.false, v.invariant.2))
+returns c = let v = c.loop-i in v.invariant.0 ∙ half_all c.args.part.now c.args.k c.requires v.i (omega (arith, c.loop-i-test.false, v.invariant.2))
 
 pub halves_spec : {M : Type 1} → statement M
 halves_spec =

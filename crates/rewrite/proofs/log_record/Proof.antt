@@ -12,13 +12,13 @@ sub-if1 : tie.Need-overflow_sub-log
 sub-if1 c = search rules
 
 returns : tie.Need-returns-then-log-at-lt-LOG_RECORD
-returns c = let k = c in (read_short k.args.log.now k.args.at c.if-log-at-lt-LOG_RECORD.true, tt)
+returns c = (read_short c.args.log.now c.args.at c.if-log-at-lt-LOG_RECORD.true, tt)
 
 shared-slice-read-if2 : tie.Need-bounds-log-at
 shared-slice-read-if2 c = search rules
 
 returns-2 : tie.Need-returns-then-log-at-ne-SWAP
-returns-2 c = let k = c in (read_kind k.args.log.now k.args.at (omega (arith, c.if-log-at-lt-LOG_RECORD.false)) c.if-log-at-ne-SWAP.true, tt)
+returns-2 c = (read_kind c.args.log.now c.args.at (omega (arith, c.if-log-at-lt-LOG_RECORD.false)) c.if-log-at-ne-SWAP.true, tt)
 
 add_wide : tie.Need-overflow_add-at
 add_wide c = search rules
@@ -45,8 +45,8 @@ add-t14 : tie.Need-overflow_add-result
 add-t14 c = search rules
 
 returns-3 : tie.Need-returns
-returns-3 c = let k = c in let a = c.wide.ensures in let b = c.wide-2.ensures in
-    ((λ i. Swap (a.0 i * 256 + b.0 i)) ∙ read_swap k.args.log.now k.args.at (omega (arith, c.if-log-at-lt-LOG_RECORD.false)) c.if-log-at-ne-SWAP.false, omega (arith, a.1, b.1))
+returns-3 c = let a = c.wide.ensures in let b = c.wide-2.ensures in
+    ((λ i. Swap (a.0 i * 256 + b.0 i)) ∙ read_swap c.args.log.now c.args.at (omega (arith, c.if-log-at-lt-LOG_RECORD.false)) c.if-log-at-ne-SWAP.false, omega (arith, a.1, b.1))
 
 pub log_record_spec : {M : Type 1} → statement M
 log_record_spec =

@@ -19,8 +19,8 @@ abbrev decreases-loop : tie.decreases-loop-i
 decreases-loop program work table₀ n j₀ i₀ b₀ table j i b = length work - i
 
 loop-holds : tie.Need-loop-i-init invariant-loop decreases-loop
-loop-holds c = let k = c in let p = k.args.program.now in
-    (none_marked p k.args.table.now k.requires.1, rack_none (records_of p), refl, omega arith, work_short p k.args.work.now k.requires.0)
+loop-holds c = let p = c.args.program.now in
+    (none_marked p c.args.table.now c.requires.1, rack_none (records_of p), refl, omega arith, work_short p c.args.work.now c.requires.0)
 
 add-loop : tie.Need-overflow_add-i invariant-loop decreases-loop
 add-loop c = search rules
@@ -32,7 +32,7 @@ add-racking-after : tie.Need-overflow_add-i-in-loop-i invariant-loop decreases-l
 add-racking-after c = search rules
 
 racking-after-requires : tie.Need-racking_after-b-requires invariant-loop decreases-loop
-racking-after-requires c κs = let k = c in (k.requires.0, omega arith, omega (arith, c.loop-i-test.true, work_length k.args.program.now k.args.work.now k.requires.0))
+racking-after-requires c κs = (c.requires.0, omega arith, omega (arith, c.loop-i-test.true, work_length c.args.program.now c.args.work.now c.requires.0))
 
 add-i : tie.Need-overflow_add-i-in-loop-i-2 invariant-loop decreases-loop
 add-i c = search rules
@@ -59,16 +59,16 @@ same_length : tie.Need-shape_of-table-then-i-n invariant-loop decreases-loop
 same_length c = search rules
 
 returns : tie.Need-returns-then-i-n invariant-loop decreases-loop
-returns c = let k = c in let p = k.args.program.now in let v = c.loop-i in
+returns c = let p = c.args.program.now in let v = c.loop-i in
     all_marked p _ (v.j + 1) (one_more p v.table v.j v.i v.b v.invariant.0 v.invariant.2 (omega (arith, v.invariant.4, c.if-i-n.true)) v.invariant.1)
-    (omega (arith, c.loop-i-test.false, v.invariant.2, work_length p k.args.work.now k.requires.0))
+    (omega (arith, c.loop-i-test.false, v.invariant.2, work_length p c.args.work.now c.requires.0))
 
 same-length-2 : tie.Need-shape_of-table-else-i-n invariant-loop decreases-loop
 same-length-2 c = search rules
 
 returns-2 : tie.Need-returns-else-i-n invariant-loop decreases-loop
-returns-2 c = let k = c in let p = k.args.program.now in let v = c.loop-i in
-    all_marked p v.table v.j v.invariant.0 (omega (arith, c.if-i-n.false, v.invariant.2, work_length p k.args.work.now k.requires.0))
+returns-2 c = let p = c.args.program.now in let v = c.loop-i in
+    all_marked p v.table v.j v.invariant.0 (omega (arith, c.if-i-n.false, v.invariant.2, work_length p c.args.work.now c.requires.0))
 
 pub marks_spec : {M : Type 1} → statement M
 marks_spec =

@@ -32,18 +32,18 @@ carriers-named-requires c κs = search rules
 
 returns : tie.Need-returns-in-0
 unfolding member
-returns c = let n = c in sym (simp (none_named n.args.x (sym n.carriers_named.ensures ∙ c.in-0.is)))
+returns c = sym (simp (none_named c.args.x (sym c.carriers_named.ensures ∙ c.in-0.is)))
 
 returns-2 : tie.Need-returns-in-1
-returns-2 c = let n = c in let a = n.args in one_member a.x a.k (sym n.carriers_named.ensures ∙ c.in-1.is)
+returns-2 c = let a = c.args in one_member a.x a.k (sym c.carriers_named.ensures ∙ c.in-1.is)
 
 returns-3 : tie.Need-returns-then-k-x
-returns-3 c = let m = c in let n = m in let a = n.args in
-    first_member a.x a.k (two_of a.x n.carriers_named.ensures m.in_default.in_default-own.rest.0.1 m.in_default.in_default-own.rest.1) c.if-k-x.true
+returns-3 c = let a = c.args in
+    first_member a.x a.k (two_of a.x c.carriers_named.ensures c.in_default.in_default-own.rest.0.1 c.in_default.in_default-own.rest.1) c.if-k-x.true
 
 returns-4 : tie.Need-returns-else-k-x
-returns-4 c = let m = c in let n = m in let a = n.args in
-    second_member a.x a.k (two_of a.x n.carriers_named.ensures m.in_default.in_default-own.rest.0.1 m.in_default.in_default-own.rest.1) c.if-k-x.false
+returns-4 c = let a = c.args in
+    second_member a.x a.k (two_of a.x c.carriers_named.ensures c.in_default.in_default-own.rest.0.1 c.in_default.in_default-own.rest.1) c.if-k-x.false
 
 pub names_spec : {M : Type 1} → statement M
 names_spec = tie.close (tie.spec carriers-named-requires returns returns-2 returns-3 returns-4)

@@ -7,28 +7,28 @@ use Rattle.rewrite.proofs.pair_at.Statement.{statement}
 use Rattle.rewrite.proofs.pair_at.Tie as tie
 
 start-requires : tie.Need-start-first-requires
-start-requires c κs = let k = c in omega (arith, k.requires.1, work_length k.args.program.now k.args.work.now k.requires.0)
+start-requires c κs = omega (arith, c.requires.1, work_length c.args.program.now c.args.work.now c.requires.0)
 
 add_start : tie.Need-overflow_add-i
-add_start c = let k = c in omega (arith, k.requires.1, records_short k.args.program.now k.requires.0.sound)
+add_start c = omega (arith, c.requires.1, records_short c.args.program.now c.requires.0.sound)
 
 start-requires-2 : tie.Need-start-second-requires
-start-requires-2 c κs = let k = c in omega (arith, k.requires.1, work_length k.args.program.now k.args.work.now k.requires.0)
+start-requires-2 c κs = omega (arith, c.requires.1, work_length c.args.program.now c.args.work.now c.requires.0)
 
 shared-slice-read-size-of : tie.Need-bounds-program-second
-shared-slice-read-size-of c = let k = c in let p = k.args.program.now in let s = two p k.requires.0.sound k.args.i k.requires.1 in
-    omega (arith, c.start-second.ensures p k.requires.0, s.ends, s.sized.least)
+shared-slice-read-size-of c = let p = c.args.program.now in let s = two p c.requires.0.sound c.args.i c.requires.1 in
+    omega (arith, c.start-second.ensures p c.requires.0, s.ends, s.sized.least)
 
 size-of-requires : tie.Need-size_of-requires
 size-of-requires c κs = search rules
 
 add-end : tie.Need-overflow_add-end
-add-end c = let k = c in let p = k.args.program.now in let g = k.requires.0 in
-    omega (arith, pair_ends p g.sound k.args.i k.requires.1 _ _ _ (c.start-first.ensures p g) (c.start-second.ensures p g) c.size_of.ensures, g.sound.short)
+add-end c = let p = c.args.program.now in let g = c.requires.0 in
+    omega (arith, pair_ends p g.sound c.args.i c.requires.1 _ _ _ (c.start-first.ensures p g) (c.start-second.ensures p g) c.size_of.ensures, g.sound.short)
 
 returns : tie.Need-returns
-returns c = let k = c in let p = k.args.program.now in let g = k.requires.0 in
-    pair_is p g.sound k.args.i k.requires.1 _ _ _ (c.start-first.ensures p g) (c.start-second.ensures p g) c.size_of.ensures
+returns c = let p = c.args.program.now in let g = c.requires.0 in
+    pair_is p g.sound c.args.i c.requires.1 _ _ _ (c.start-first.ensures p g) (c.start-second.ensures p g) c.size_of.ensures
 
 pub pair_at_spec : {M : Type 1} → statement M
 pair_at_spec = tie.close (tie.spec

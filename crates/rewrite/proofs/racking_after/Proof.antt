@@ -34,11 +34,11 @@ loop-holds : tie.Need-loop-j-init invariant-loop decreases-loop
 loop-holds c = (c.requires.1, omega arith, refl)
 
 start-requires : tie.Need-start-at-requires invariant-loop decreases-loop
-start-requires c κs = let k = c in omega (arith, c.loop-j-test.true, k.requires.2, work_length k.args.program.now k.args.work.now k.requires.0)
+start-requires c κs = omega (arith, c.loop-j-test.true, c.requires.2, work_length c.args.program.now c.args.work.now c.requires.0)
 
 -- record j stands where its start was read
 here : (c : tie.After-start-at invariant-loop decreases-loop) → Stands c.args.program.now c.loop-j.j
-here c = let k = c in stands k.args.program.now k.requires.0.sound c.loop-j.j (omega (arith, c.loop-j-test.true, k.requires.2))
+here c = stands c.args.program.now c.requires.0.sound c.loop-j.j (omega (arith, c.loop-j-test.true, c.requires.2))
 
 begins : (c : tie.After-start-at invariant-loop decreases-loop) → c.start-at.result ≡ start_at c.args.program.now c.loop-j.j
 begins c = c.start-at.ensures _ c.requires.0
@@ -59,8 +59,8 @@ loop-less : tie.Need-loop-j-smaller invariant-loop decreases-loop
 loop-less c = omega (arith, c.loop-j-test.true)
 
 loop-again : tie.Need-loop-j-preserved invariant-loop decreases-loop
-loop-again c = let k = c in let v = c.loop-j in
-    let p = k.args.program.now in let s = here c.before.before in let a = begins c.before.before in
+loop-again c = let v = c.loop-j in
+    let p = c.args.program.now in let s = here c.before.before in let a = begins c.before.before in
     let e : c.if-program-at-eq-RACK.b ≡ byte_after v.b (record_at p v.j) =
     elim c.if-program-at-eq-RACK.branch [
       | then-program-at-eq-RACK u ↦ at_rack p v.j s _ a v.b c.if-program-at-eq-RACK.b u.if-program-at-eq-RACK.true u.b-is
@@ -68,13 +68,13 @@ loop-again c = let k = c in let v = c.loop-j in
     ] in (
       omega (arith, c.loop-j-test.true),
       omega (arith, v.invariant.1),
-      v.invariant.2 ∙ rack_next v.b (records_of p) v.j k.args.n c.loop-j-test.true k.requires.2
-          ∙ ap (λ (b : ℕ). rack_byte b (take (k.args.n - (v.j + 1)) (drop (v.j + 1) (records_of p)))) (sym e),
+      v.invariant.2 ∙ rack_next v.b (records_of p) v.j c.args.n c.loop-j-test.true c.requires.2
+          ∙ ap (λ (b : ℕ). rack_byte b (take (c.args.n - (v.j + 1)) (drop (v.j + 1) (records_of p)))) (sym e),
     )
 
 returns : tie.Need-returns invariant-loop decreases-loop
-returns c = let k = c in let v = c.loop-j in
-    sym (v.invariant.2 ∙ rack_end v.b (records_of k.args.program.now) v.j k.args.n c.loop-j-test.false)
+returns c = let v = c.loop-j in
+    sym (v.invariant.2 ∙ rack_end v.b (records_of c.args.program.now) v.j c.args.n c.loop-j-test.false)
 
 pub racking_after_spec : {M : Type 1} → statement M
 racking_after_spec =

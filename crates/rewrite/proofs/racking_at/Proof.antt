@@ -16,8 +16,7 @@ mul-racking-after : tie.Need-overflow_mul-j
 mul-racking-after c = search rules
 
 shared-slice-read-racking-after : tie.Need-bounds-table-j
-shared-slice-read-racking-after c = let k = c in
-    omega (arith, k.requires.1.long, k.requires.2, records_short k.args.program.now k.requires.0.sound)
+shared-slice-read-racking-after c = omega (arith, c.requires.1.long, c.requires.2, records_short c.args.program.now c.requires.0.sound)
 
 racking-after-requires : tie.Need-racking_after-b-requires
 racking-after-requires c κs = search rules
@@ -26,9 +25,9 @@ signed-requires : tie.Need-signed-requires
 signed-requires c κs = search rules
 
 returns : tie.Need-returns
-returns c = let k = c in let p = k.args.program.now in let i = k.args.i in
+returns c = let p = c.args.program.now in let i = c.args.i in
     ap (λ (z : ℤ). record { 0 = z }) (back w8 c.signed.result c.signed.type_inv ∙ c.signed.ensures)
-    ∙ ap racked (rack_on (records_of p) (i / 64 * 64) i _ _ (omega arith) (k.requires.1.marks (i / 64) (omega (arith, k.requires.2))) c.racking_after-b.ensures)
+    ∙ ap racked (rack_on (records_of p) (i / 64 * 64) i _ _ (omega arith) (c.requires.1.marks (i / 64) (omega (arith, c.requires.2))) c.racking_after-b.ensures)
 
 pub racking_at_spec : {M : Type 1} → statement M
 racking_at_spec = tie.close (tie.spec

@@ -30,7 +30,7 @@ unfolding Left
 left_as r d n at l q v e f a b = rw (e, f) ((refl, refl), (a, b))
 
 loop-holds : tie.Need-loop-at-init invariant-loop decreases-loop
-loop-holds c = let k = c in (k.requires.0, k.requires.1, refl, refl, refl)
+loop-holds c = (c.requires.0, c.requires.1, refl, refl, refl)
 
 log-record-requires : tie.Need-log_record-requires invariant-loop decreases-loop
 log-record-requires c κs = c.loop-at-test.true
@@ -41,8 +41,8 @@ follow-requires c κs = let v = c.loop-at in (v.invariant.0, v.invariant.1, c.lo
 -- a turn that ends the log
 ends : (c : tie.After-follow-number invariant-loop decreases-loop) → (c.follow-number.result ≡ 0 → ⊥)
     → TurnEnds c.args.log.now c.loop-at.at c.loop-at.output c.loop-at.work c.follow-number.result c.follow-number.new.output c.follow-number.new.work
-ends c = let k = c in let v = c.loop-at in let r = c.log_record in let f = c.follow-number in
-    turn_ends k.args.log.now v.at c.loop-at-test.true v.output v.work k.args.table.now v.invariant.0 v.invariant.1 _ r.ensures.0 _ f.ensures.0 _ _ f.ensures.1.0 f.ensures.1.1
+ends c = let v = c.loop-at in let r = c.log_record in let f = c.follow-number in
+    turn_ends c.args.log.now v.at c.loop-at-test.true v.output v.work c.args.table.now v.invariant.0 v.invariant.1 _ r.ensures.0 _ f.ensures.0 _ _ f.ensures.1.0 f.ensures.1.1
 
 end-at-requires : tie.Need-end_at-requires invariant-loop decreases-loop
 end-at-requires c κs = search rules
@@ -65,8 +65,8 @@ loop-less : tie.Need-loop-at-smaller invariant-loop decreases-loop
 loop-less c = omega (arith, c.loop-at-test.true)
 
 loop-again : tie.Need-loop-at-preserved invariant-loop decreases-loop
-loop-again c = let k = c in let v = c.loop-at in let r = c.log_record in let f = c.follow-number in
-    let t = turn_goes k.args.log.now v.at c.loop-at-test.true v.output v.work k.args.table.now v.invariant.0 v.invariant.1 _ r.ensures.0 _ f.ensures.0 _ _ f.ensures.1.0 f.ensures.1.1 c.if-number-ne0.false in
+loop-again c = let v = c.loop-at in let r = c.log_record in let f = c.follow-number in
+    let t = turn_goes c.args.log.now v.at c.loop-at-test.true v.output v.work c.args.table.now v.invariant.0 v.invariant.1 _ r.ensures.0 _ f.ensures.0 _ _ f.ensures.1.0 f.ensures.1.1 c.if-number-ne0.false in
     (t.now.laid, t.now.marked, v.invariant.2 ∙ t.log_goes, t.now.bytes ∙ v.invariant.3, t.now.entries ∙ v.invariant.4)
 
 end-at-requires-2 : tie.Need-end_at-requires-2 invariant-loop decreases-loop
@@ -80,9 +80,9 @@ same-length-4 c = search rules
 
 returns-2 : tie.Need-returns invariant-loop decreases-loop
 unfolding Left
-returns-2 c = let k = c in let v = c.loop-at in
+returns-2 c = let v = c.loop-at in
     left_as _ _ 0 0 (records_of v.output) v.output v.work
-    (v.invariant.2 ∙ log_end k.args.log.now v.at (records_of v.output) c.loop-at-test.false) c.end_at-2.ensures (sym (records_flat v.output)) v.invariant.0.starts
+    (v.invariant.2 ∙ log_end c.args.log.now v.at (records_of v.output) c.loop-at-test.false) c.end_at-2.ensures (sym (records_flat v.output)) v.invariant.0.starts
 
 pub replay_spec : {M : Type 1} → statement M
 replay_spec =

@@ -41,10 +41,10 @@ front c = copy_front c.args.program.now c.args.output.now _ (lends c.before.befo
 
 -- and its starts at the front of the work area
 starts_are : (c : tie.After-starts-count) → take c.starts-count.result c.starts-count.new.work ≡ starts_of 0 (records_of c.args.program.now)
-starts_are c = let k = c in let s = c.starts-count in starts_front k.args.program.now k.args.work.now _ s.result s.ensures.0 s.ensures.1
+starts_are c = let s = c.starts-count in starts_front c.args.program.now c.args.work.now _ s.result s.ensures.0 s.ensures.1
 
 starts_fit : (c : tie.After-starts-count) → c.starts-count.result ≤ length c.starts-count.new.work
-starts_fit c = let k = c in let s = c.starts-count in starts_enough k.args.program.now k.args.work.now _ s.result s.ensures.0 s.ensures.1
+starts_fit c = let s = c.starts-count in starts_enough c.args.program.now c.args.work.now _ s.result s.ensures.0 s.ensures.1
 
 lent-requires : tie.Need-lent-number-requires
 lent-requires c κs = search rules
@@ -54,16 +54,14 @@ refused-requires c κs = search rules
 
 returns : tie.Need-returns-then-number-ne0
 unfolding Gives
-returns c = let k = c in
-    gives_lent k.args.limit k.args.program.now k.args.log.now k.args.output.now k.args.work.now c.lent-number.result c.refused.result c.lent-number.ensures c.if-number-ne0.true c.refused.ensures
+returns c = gives_lent c.args.limit c.args.program.now c.args.log.now c.args.output.now c.args.work.now c.lent-number.result c.refused.result c.lent-number.ensures c.if-number-ne0.true c.refused.ensures
 
 run-requires : tie.Need-run-a-requires
 run-requires c κs = search rules
 
 returns-2 : tie.Need-returns-then-a-ne0
 unfolding Gives
-returns-2 c = let k = c in
-    gives_refused k.args.limit k.args.program.now k.args.log.now k.args.output.now k.args.work.now (will_do c.before.before.before) c.run-a.result c.run-a.ensures c.if-a-ne0.true
+returns-2 c = gives_refused c.args.limit c.args.program.now c.args.log.now c.args.output.now c.args.work.now (will_do c.before.before.before) c.run-a.result c.run-a.ensures c.if-a-ne0.true
 
 starts-requires : tie.Need-starts-count-requires
 starts-requires c κs = (sound c.before.before.before.before.before, (lends c.before.before.before.before.before.before.before.before).entries)
@@ -81,10 +79,10 @@ marks-requires : tie.Need-marks-requires
 marks-requires c κs = (laid_parts _ _ _ (sound c.before.before.before.before.before.before.before.before.before) refl (starts_are c.before.before.before), refl)
 
 slice-relend-prefix-replay : tie.Need-slice_bounds-replay-end
-slice-relend-prefix-replay c = let k = c in copy_length k.args.program.now k.args.output.now _ (lends c.before.before.before.before.before.before.before.before.before.before.before.before.before.before).room (joined c.before.before.before.before.before.before.before.before.before)
+slice-relend-prefix-replay c = copy_length c.args.program.now c.args.output.now _ (lends c.before.before.before.before.before.before.before.before.before.before.before.before.before.before).room (joined c.before.before.before.before.before.before.before.before.before)
 
 slice-aggregate-replay : tie.Need-slice_bounds-replay-end-2
-slice-aggregate-replay c = let k = c in sym (length-take-le _ _ (copy_length k.args.program.now k.args.output.now _ (lends c.before.before.before.before.before.before.before.before.before.before.before.before.before.before.before).room (joined c.before.before.before.before.before.before.before.before.before.before)))
+slice-aggregate-replay c = sym (length-take-le _ _ (copy_length c.args.program.now c.args.output.now _ (lends c.before.before.before.before.before.before.before.before.before.before.before.before.before.before.before).room (joined c.before.before.before.before.before.before.before.before.before.before)))
 
 slice-relend-prefix-replay-2 : tie.Need-slice_bounds-replay-end-3
 slice-relend-prefix-replay-2 c = starts_fit c.before.before.before.before.before.before
@@ -106,10 +104,10 @@ same-length-2 c = search rules
 
 returns-3 : tie.Need-returns
 unfolding Gives
-returns-3 c = let k = c in let p = k.args.program.now in let out = k.args.output.now in let w = k.args.work.now in let log = k.args.log.now in
+returns-3 c = let p = c.args.program.now in let out = c.args.output.now in let w = c.args.work.now in let log = c.args.log.now in
     let s = c.starts-count in let d = c.replay-d in let e = c.before.before.before.before.before.before.before.before.before.before.before.before.before.before.before.before.before.before.before.before.before.before.before in
     let same : replay log 0 (records_of (take (length p) (copied c.before.before.before.before.before.before.before.before.before.before.before.before.before.before.before.before.before.before))) ≡ replay log 0 (records_of p) = ap (λ (q : List ℕ). replay log 0 (records_of q)) (front c.before.before.before.before.before.before.before.before.before.before.before.before.before.before.before.before.before.before) in
-    gives_written k.args.limit p log out w (will_do e) c.run-a.result c.run-a.ensures c.if-a-ne0.false
+    gives_written c.args.limit p log out w (will_do e) c.run-a.result c.run-a.ensures c.if-a-ne0.false
     d.result _ _ _ _ s.result s.ensures.0 (copy_past p out _ (lends e).room (joined c.before.before.before.before.before.before.before.before.before.before.before.before.before.before.before.before.before.before)) (starts_past p w _ s.result s.ensures.0 s.ensures.1)
     (d.ensures.0.0 ∙ ap (λ (r : Replay). r.number) same, d.ensures.0.1 ∙ ap (λ (r : Replay). r.place) same)
     (d.ensures.1.0 ∙ ap (λ (r : Replay). flat r.left) same) (d.ensures.1.1 ∙ ap (λ (r : Replay). starts_of 0 r.left) same)

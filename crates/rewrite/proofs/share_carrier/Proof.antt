@@ -41,19 +41,19 @@ names-requires-3 : tie.Need-names-requires-else-names
 names-requires-3 c κs = search rules
 
 returns : tie.Need-returns-in-0
-returns c = let n = c in let a = n.args in shares_none a.x a.y (sym n.carriers_named.ensures ∙ c.in-0.is)
+returns c = let a = c.args in shares_none a.x a.y (sym c.carriers_named.ensures ∙ c.in-0.is)
 
 returns-2 : tie.Need-returns-in-1
-returns-2 c = let m = c in let n = m in let a = n.args in
-    shares_one a.x a.y (sym n.carriers_named.ensures ∙ m.in-1.is) _ c.names.ensures
+returns-2 c = let a = c.args in
+    shares_one a.x a.y (sym c.carriers_named.ensures ∙ c.in-1.is) _ c.names.ensures
 
 returns-3 : tie.Need-returns-then-names
-returns-3 c = let m = c in let n = m in let a = n.args in
-    shares_first a.x a.y (two_of a.x n.carriers_named.ensures m.in_default.in_default-own.rest.0.1 m.in_default.in_default-own.rest.1) _ c.names-in_default.ensures c.if-names.true
+returns-3 c = let a = c.args in
+    shares_first a.x a.y (two_of a.x c.carriers_named.ensures c.in_default.in_default-own.rest.0.1 c.in_default.in_default-own.rest.1) _ c.names-in_default.ensures c.if-names.true
 
 returns-4 : tie.Need-returns-else-names
-returns-4 c = let m = c in let n = m in let a = n.args in
-    shares_second a.x a.y (two_of a.x n.carriers_named.ensures m.in_default.in_default-own.rest.0.1 m.in_default.in_default-own.rest.1) (sym c.names-in_default.ensures ∙ c.if-names.false) _ c.names-else-names.ensures
+returns-4 c = let a = c.args in
+    shares_second a.x a.y (two_of a.x c.carriers_named.ensures c.in_default.in_default-own.rest.0.1 c.in_default.in_default-own.rest.1) (sym c.names-in_default.ensures ∙ c.if-names.false) _ c.names-else-names.ensures
 
 pub share_carrier_spec : {M : Type 1} → statement M
 share_carrier_spec =

@@ -14,7 +14,7 @@ cast-result : tie.Need-overflow_cast-result
 cast-result c = search rules
 
 returns : tie.Need-returns
-returns c = let k = c in λ program laid. work_start program k.args.work.now laid k.args.i k.requires
+returns c = λ program laid. work_start program c.args.work.now laid c.args.i c.requires
 
 pub start_spec : {M : Type 1} → statement M
 start_spec = tie.close (tie.spec mul-result shared-slice-read-result cast-result returns)

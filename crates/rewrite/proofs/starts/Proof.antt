@@ -21,10 +21,10 @@ loop-holds c = (upto_none _, refl, refl, refl)
 
 -- an entry for the next start
 entry : (c : tie.In-loop-at invariant-loop decreases-loop) → c.loop-at.n < length c.args.program.now / 2
-entry c = let k = c in let v = c.loop-at in next_entry k.args.program.now k.requires.0 v.n v.at v.invariant.0 c.loop-at-test.true
+entry c = let v = c.loop-at in next_entry c.args.program.now c.requires.0 v.n v.at v.invariant.0 c.loop-at-test.true
 
 cast-work : tie.Need-overflow_cast-work invariant-loop decreases-loop
-cast-work c = let k = c in omega (arith, c.loop-at-test.true, k.requires.0.short)
+cast-work c = omega (arith, c.loop-at-test.true, c.requires.0.short)
 
 mul-work : tie.Need-offset_bounds-work-n invariant-loop decreases-loop
 mul-work c = omega (arith, entry c, c.requires.0.short)
@@ -42,28 +42,28 @@ size-of-requires : tie.Need-size_of-at-requires invariant-loop decreases-loop
 size-of-requires c κs = search rules
 
 add_at : tie.Need-overflow_add-at invariant-loop decreases-loop
-add_at c = let k = c in let v = c.loop-at in
-    omega (arith, c.size_of-at.ensures, (next_size k.args.program.now k.requires.0 v.n v.at v.invariant.0 c.loop-at-test.true).1, k.requires.0.short, c.loop-at-test.true)
+add_at c = let v = c.loop-at in
+    omega (arith, c.size_of-at.ensures, (next_size c.args.program.now c.requires.0 v.n v.at v.invariant.0 c.loop-at-test.true).1, c.requires.0.short, c.loop-at-test.true)
 
 loop-less : tie.Need-loop-at-smaller invariant-loop decreases-loop
-loop-less c = let k = c in let v = c.loop-at in
-    omega (arith, c.size_of-at.ensures, (next_size k.args.program.now k.requires.0 v.n v.at v.invariant.0 c.loop-at-test.true).0, c.loop-at-test.true)
+loop-less c = let v = c.loop-at in
+    omega (arith, c.size_of-at.ensures, (next_size c.args.program.now c.requires.0 v.n v.at v.invariant.0 c.loop-at-test.true).0, c.loop-at-test.true)
 
 loop-again : tie.Need-loop-at-preserved invariant-loop decreases-loop
-loop-again c = let k = c in let v = c.loop-at in let p = k.args.program.now in let i = c.loop-at-test.true in (
-  subst (λ (z : ℕ). Upto p (v.n + 1) (v.at + z)) (sym c.size_of-at.ensures) (upto_next p k.requires.0 v.n v.at v.invariant.0 i),
+loop-again c = let v = c.loop-at in let p = c.args.program.now in let i = c.loop-at-test.true in (
+  subst (λ (z : ℕ). Upto p (v.n + 1) (v.at + z)) (sym c.size_of-at.ensures) (upto_next p c.requires.0 v.n v.at v.invariant.0 i),
   length-set v.work v.n v.at ∙ v.invariant.1,
-  starts_next p k.requires.0 v.n v.at v.invariant.0 i v.work (omega (arith, next_entry p k.requires.0 v.n v.at v.invariant.0 i, k.requires.1, v.invariant.1)) v.invariant.2,
-  past_next v.work k.args.work.now v.n v.at v.invariant.3,
+  starts_next p c.requires.0 v.n v.at v.invariant.0 i v.work (omega (arith, next_entry p c.requires.0 v.n v.at v.invariant.0 i, c.requires.1, v.invariant.1)) v.invariant.2,
+  past_next v.work c.args.work.now v.n v.at v.invariant.3,
 )
 
 same_length : tie.Need-shape_of-work invariant-loop decreases-loop
 same_length c = search rules
 
 returns : tie.Need-returns invariant-loop decreases-loop
-returns c = let k = c in let v = c.loop-at in let p = k.args.program.now in
-    let e = all_written p k.requires.0 v.n v.at v.invariant.0 c.loop-at-test.false in
-    (e, starts_all p v.work k.args.work.now v.n e v.invariant.2 v.invariant.3)
+returns c = let v = c.loop-at in let p = c.args.program.now in
+    let e = all_written p c.requires.0 v.n v.at v.invariant.0 c.loop-at-test.false in
+    (e, starts_all p v.work c.args.work.now v.n e v.invariant.2 v.invariant.3)
 
 pub starts_spec : {M : Type 1} → statement M
 starts_spec =

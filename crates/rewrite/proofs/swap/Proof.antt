@@ -44,19 +44,19 @@ add-if1 c = search rules
 
 returns : tie.Need-returns-then-work-i
 unfolding Left
-returns c = let k = c in let p = k.args.output.now in let w = k.args.work.now in let g = k.requires.0 in let i = k.args.i in
+returns c = let p = c.args.output.now in let w = c.args.work.now in let g = c.requires.0 in let i = c.args.i in
     none_left p w g i (pair_none (records_of p) i (omega (arith, c.if-work-i.true, work_length p w g)))
 
 -- where the two stand
 there : (c : tie.After-pair_at-there) → Placed c.args.output.now c.pair_at-there.result
-there c = let k = c in let p = k.args.output.now in let g = k.requires.0 in
-    placed p g.sound k.args.i (pair_there p k.args.work.now g k.args.i c.if-work-i.false) _ c.pair_at-there.ensures
+there c = let p = c.args.output.now in let g = c.requires.0 in
+    placed p g.sound c.args.i (pair_there p c.args.work.now g c.args.i c.if-work-i.false) _ c.pair_at-there.ensures
 
 pair-at-requires : tie.Need-pair_at-there-requires
-pair-at-requires c κs = let k = c in (k.requires.0, pair_there k.args.output.now k.args.work.now k.requires.0 k.args.i c.if-work-i.false)
+pair-at-requires c κs = (c.requires.0, pair_there c.args.output.now c.args.work.now c.requires.0 c.args.i c.if-work-i.false)
 
 tied-requires : tie.Need-tied-requires
-tied-requires c κs = let k = c in (k.requires.0, k.requires.1, pair_there k.args.output.now k.args.work.now k.requires.0 k.args.i c.if-work-i.false, c.pair_at-there.ensures)
+tied-requires c κs = (c.requires.0, c.requires.1, pair_there c.args.output.now c.args.work.now c.requires.0 c.args.i c.if-work-i.false, c.pair_at-there.ensures)
 
 same_length : tie.Need-shape_of-output-then-tied
 same_length c = search rules
@@ -66,7 +66,7 @@ same-length-2 c = search rules
 
 returns-2 : tie.Need-returns-then-tied
 unfolding Left
-returns-2 c = let k = c in let p = k.args.output.now in let w = k.args.work.now in let g = k.requires.0 in let h = pair_there p w g k.args.i c.if-work-i.false in let i = k.args.i in
+returns-2 c = let p = c.args.output.now in let w = c.args.work.now in let g = c.requires.0 in let h = pair_there p w g c.args.i c.if-work-i.false in let i = c.args.i in
     tied_left p w g i (pair_tied p g.sound i h (sym c.tied.ensures ∙ c.if-tied.true))
 
 exchange-requires : tie.Need-exchange-requires
@@ -102,7 +102,7 @@ same-length-4 c = search rules
 
 returns-3 : tie.Need-returns
 unfolding Left
-returns-3 c = let k = c in let p = k.args.output.now in let w = k.args.work.now in let g = k.requires.0 in let h = pair_there p w g k.args.i c.if-work-i.false in let i = k.args.i in let at = c.pair_at-there.ensures in
+returns-3 c = let p = c.args.output.now in let w = c.args.work.now in let g = c.requires.0 in let h = pair_there p w g c.args.i c.if-work-i.false in let i = c.args.i in let at = c.pair_at-there.ensures in
     made_left p w g i (pair_made p g.sound i h (sym c.tied.ensures ∙ c.if-tied.false)) (c.exchange.ensures ∙ pair_bytes p g.sound i h _ at) (pair_starts p g.sound i h _ at w g)
 
 pub swap_spec : {M : Type 1} → statement M

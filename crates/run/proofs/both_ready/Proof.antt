@@ -99,15 +99,15 @@ ready-requires : tie.Need-ready-number-requires
 ready-requires c κs = search rules
 
 returns-3 : tie.Need-returns-then-number-ne0-2
-returns-3 c = let g = c in let b = g.before.before.before in let i = b in let a = i.args in
-    second_unready a.r a.c a.d (entry_of (column_of a.n a.r) a.right) (column_of a.n a.r) i.if-d-eq0.false (sym (parks b) ∙ g.if-number-ne0.false) _ g.ready-number.ensures c.if-number-ne0-2.true
+returns-3 c = let b = c.before.before.before in let i = b in let a = i.args in
+    second_unready a.r a.c a.d (entry_of (column_of a.n a.r) a.right) (column_of a.n a.r) i.if-d-eq0.false (sym (parks b) ∙ c.if-number-ne0.false) _ c.ready-number.ensures c.if-number-ne0-2.true
 
 float-requires : tie.Need-float-requires
 float-requires c κs = search rules
 
 returns-4 : tie.Need-returns
-returns-4 c = let g = c in let b = g.before.before.before.before in let i = b in let a = i.args in
-    first_last a.r a.c a.d (entry_of (column_of a.n a.r) a.right) (column_of a.n a.r) i.if-d-eq0.false (sym (parks b) ∙ g.if-number-ne0.false) _ _ c.float.ensures g.ready-number.ensures c.if-number-ne0-2.false
+returns-4 c = let b = c.before.before.before.before in let i = b in let a = i.args in
+    first_last a.r a.c a.d (entry_of (column_of a.n a.r) a.right) (column_of a.n a.r) i.if-d-eq0.false (sym (parks b) ∙ c.if-number-ne0.false) _ _ c.float.ensures c.ready-number.ensures c.if-number-ne0-2.false
 
 pub both_ready_spec : {M : Type 1} → statement M
 both_ready_spec =

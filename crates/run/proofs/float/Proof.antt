@@ -26,12 +26,12 @@ near-requires : tie.Need-near-requires
 near-requires c κs = search rules
 
 returns-2 : tie.Need-returns-then-near
-returns-2 c = let u = c in let a = u.args in
-    sym (float_is a.r a.c (column_of a.n a.r) ∙ simp (ne_eqb _ _ u.if-c-eq0.false, found c.before ∙ c.if-near.true))
+returns-2 c = let a = c.args in
+    sym (float_is a.r a.c (column_of a.n a.r) ∙ simp (ne_eqb _ _ c.if-c-eq0.false, found c.before ∙ c.if-near.true))
 
 returns-3 : tie.Need-returns-else-near
-returns-3 c = let u = c in let a = u.args in
-    sym (float_is a.r a.c (column_of a.n a.r) ∙ simp (ne_eqb _ _ u.if-c-eq0.false, found c.before ∙ c.if-near.false))
+returns-3 c = let a = c.args in
+    sym (float_is a.r a.c (column_of a.n a.r) ∙ simp (ne_eqb _ _ c.if-c-eq0.false, found c.before ∙ c.if-near.false))
 
 pub float_spec : {M : Type 1} → statement M
 float_spec = tie.close (tie.spec returns column-requires column-requires-2 near-requires returns-2 returns-3)

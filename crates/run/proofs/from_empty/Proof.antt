@@ -24,8 +24,7 @@ stop-requires : tie.Need-stop-requires
 stop-requires c κs = search rules
 
 returns : tie.Need-returns-then-number-ne0
-returns c = let d = c in
-    c.stop.ensures ∙ simp (← d.start-number.ensures, ne_eqb d.start-number.result 0 c.if-number-ne0.true, emptied d.before.before.before)
+returns c = c.stop.ensures ∙ simp (← c.start-number.ensures, ne_eqb c.start-number.result 0 c.if-number-ne0.true, emptied c.before.before.before)
 
 run-from-requires : tie.Need-run_from-h-requires
 run-from-requires c κs = search rules
@@ -34,8 +33,7 @@ stop-requires-2 : tie.Need-stop-requires-2
 stop-requires-2 c κs = search rules
 
 returns-2 : tie.Need-returns
-returns-2 c = let d = c in
-    c.stop-2.ensures ∙ c.run_from-h.ensures ∙ simp (← d.start-number.ensures, eq-eqb d.start-number.result 0 c.if-number-ne0.false, emptied d.before.before.before.before.before.before.before.before.before.before)
+returns-2 c = c.stop-2.ensures ∙ c.run_from-h.ensures ∙ simp (← c.start-number.ensures, eq-eqb c.start-number.result 0 c.if-number-ne0.false, emptied c.before.before.before.before.before.before.before.before.before.before)
 
 pub from_empty_spec : {M : Type 1} → statement M
 from_empty_spec = tie.close (tie.spec answer-limit-requires empty-requires start-requires stop-requires returns run-from-requires stop-requires-2 returns-2)

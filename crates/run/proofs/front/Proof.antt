@@ -18,12 +18,10 @@ returns-2 : tie.Need-returns-then-size-eq0
 returns-2 c = front_strange _ c.if-bytes-eq0.false (sym c.size_of-size.ensures ∙ c.if-size-eq0.true)
 
 returns-3 : tie.Need-returns-then-bytes-size
-returns-3 c = let z = c in
-    front_short _ z.if-bytes-eq0.false (λ e. c.if-size-eq0.false (z.size_of-size.ensures ∙ e)) (simp z.size_of-size.ensures at c.if-bytes-size.true)
+returns-3 c = front_short _ c.if-bytes-eq0.false (λ e. c.if-size-eq0.false (c.size_of-size.ensures ∙ e)) (simp c.size_of-size.ensures at c.if-bytes-size.true)
 
 returns-4 : tie.Need-returns
-returns-4 c = let z = c in
-    z.size_of-size.ensures ∙ front_whole _ z.if-bytes-eq0.false (λ e. c.if-size-eq0.false (z.size_of-size.ensures ∙ e)) (simp z.size_of-size.ensures at c.if-bytes-size.false)
+returns-4 c = c.size_of-size.ensures ∙ front_whole _ c.if-bytes-eq0.false (λ e. c.if-size-eq0.false (c.size_of-size.ensures ∙ e)) (simp c.size_of-size.ensures at c.if-bytes-size.false)
 
 pub front_spec : {M : Type 1} → statement M
 front_spec = tie.close (tie.spec returns shared-slice-read-size-of size-of-requires returns-2 returns-3 returns-4)

@@ -19,8 +19,7 @@ answered-requires : tie.Need-answered-requires
 answered-requires c κs = search rules
 
 returns : tie.Need-returns
-returns c = let d = c in
-    c.answered.ensures ∙ ap answer_of (c.stop.ensures ∙ ap (reached d.args.number 0) (d.empty-state.ensures ∙ ap empty_state d.answer_limit.ensures))
+returns c = c.answered.ensures ∙ ap answer_of (c.stop.ensures ∙ ap (reached c.args.number 0) (c.empty-state.ensures ∙ ap empty_state c.answer_limit.ensures))
 
 pub refused_spec : {M : Type 1} → statement M
 refused_spec = tie.close (tie.spec answer-limit-requires empty-requires stop-requires answered-requires returns)

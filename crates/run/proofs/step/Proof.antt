@@ -22,8 +22,8 @@ front-requires : tie.Need-front-size-requires
 front-requires c κs = search rules
 
 slice-aggregate-run-from : tie.Need-slice_bounds-run_from-end
-slice-aggregate-run-from c = let z = c in let l = z.args.bytes.now in
-    sym (length-take-le z.front-size.result l (subst (λ (n : ℕ). n ≤ length l) (sym z.front-size.ensures) (front_within l)))
+slice-aggregate-run-from c = let l = c.args.bytes.now in
+    sym (length-take-le c.front-size.result l (subst (λ (n : ℕ). n ≤ length l) (sym c.front-size.ensures) (front_within l)))
 
 run-from-requires : tie.Need-run_from-h-requires
 run-from-requires c κs = search rules

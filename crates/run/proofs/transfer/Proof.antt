@@ -74,9 +74,9 @@ add-if2 : tie.Need-overflow_add-wide
 add-if2 c = omega (arith, c.wide-2.ensures.1, c.wide-3.ensures.1)
 
 returns-2 : tie.Need-returns-then-wide
-returns-2 c = let d = c in let w = d in let b = w.before.before.before.before.before.before.before.before.before.before in let a = b.args in
-    full a.loops.now a.a a.b a.r a.v a.limit (same b ∙ w.if-not-equals.false)
-    (simp (d.wide.ensures.0, c.wide-2.ensures.0, c.wide-3.ensures.0, w.hook-i.ensures, d.hook-j.ensures) at c.if-wide.true)
+returns-2 c = let b = c.before.before.before.before.before.before.before.before.before.before in let a = b.args in
+    full a.loops.now a.a a.b a.r a.v a.limit (same b ∙ c.if-not-equals.false)
+    (simp (c.wide.ensures.0, c.wide-2.ensures.0, c.wide-3.ensures.0, c.hook-i.ensures, c.hook-j.ensures) at c.if-wide.true)
 
 element-write-loops : tie.Need-bounds-loops-i-2
 element-write-loops c = search rules
@@ -89,10 +89,10 @@ element-write-loops-2 : tie.Need-bounds-loops-j-2
 element-write-loops-2 c = search rules
 
 returns-3 : tie.Need-returns
-returns-3 c = let d = c in let w = d in let b = w.before.before.before.before.before.before.before.before.before.before in let a = b.args in
-    simp (w.hook-i.ensures, d.hook-j.ensures)
-    (room a.loops.now a.a a.b a.r a.v a.limit (same b ∙ w.if-not-equals.false)
-    (simp (d.wide.ensures.0, c.wide-2.ensures.0, c.wide-3.ensures.0, w.hook-i.ensures, d.hook-j.ensures) at c.if-wide.false))
+returns-3 c = let b = c.before.before.before.before.before.before.before.before.before.before in let a = b.args in
+    simp (c.hook-i.ensures, c.hook-j.ensures)
+    (room a.loops.now a.a a.b a.r a.v a.limit (same b ∙ c.if-not-equals.false)
+    (simp (c.wide.ensures.0, c.wide-2.ensures.0, c.wide-3.ensures.0, c.hook-i.ensures, c.hook-j.ensures) at c.if-wide.false))
 
 pub transfer_spec : {M : Type 1} → statement M
 transfer_spec =

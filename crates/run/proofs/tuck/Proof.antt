@@ -40,9 +40,9 @@ add-if1 : tie.Need-overflow_add-wide
 add-if1 c = omega (arith, c.wide-2.ensures.1, c.wide-3.ensures.1)
 
 returns : tie.Need-returns-then-wide
-returns c = let w = c in let a = w.args in
+returns c = let a = c.args in
     full a.loops.now a.n a.v a.limit
-    (simp (w.wide.ensures.0, c.wide-2.ensures.0, c.wide-3.ensures.0, w.hook-i.ensures) at c.if-wide.true)
+    (simp (c.wide.ensures.0, c.wide-2.ensures.0, c.wide-3.ensures.0, c.hook-i.ensures) at c.if-wide.true)
 
 add-loops : tie.Need-overflow_add-loops
 add-loops c = let w = c.wide.ensures in
@@ -52,10 +52,10 @@ element-write-loops : tie.Need-bounds-loops-i-2
 element-write-loops c = search rules
 
 returns-2 : tie.Need-returns
-returns-2 c = let w = c in let a = w.args in
-    simp w.hook-i.ensures
+returns-2 c = let a = c.args in
+    simp c.hook-i.ensures
     (room a.loops.now a.n a.v a.limit
-    (simp (w.wide.ensures.0, c.wide-2.ensures.0, c.wide-3.ensures.0, w.hook-i.ensures) at c.if-wide.false))
+    (simp (c.wide.ensures.0, c.wide-2.ensures.0, c.wide-3.ensures.0, c.hook-i.ensures) at c.if-wide.false))
 
 pub tuck_spec : {M : Type 1} → statement M
 tuck_spec =

@@ -22,12 +22,10 @@ smaller-requires c κs = search rules
 returns : tie.Need-returns
 unfolding common
 returns c =
-    let b = c in
-    let n = b.args in
-    let l = c in
+    let n = c.args in
     λ i. record {
-      left = (back w32 b.rightmost.result (search rules) ∙ b.rightmost.ensures ∙ (λ j. rightmost (back w32 n.e.left b.struct_told-1.given.0.1 j) (back w32 n.f.left b.struct_told-2-1.given.0.1 j))) i;
-      right = (back w32 l.leftmost.result (search rules) ∙ l.leftmost.ensures ∙ (λ j. leftmost (back w32 n.e.right l.struct_told-3-1.given.1.0.1 j) (back w32 n.f.right l.struct_told-4-1.given.1.0.1 j))) i;
+      left = (back w32 c.rightmost.result (search rules) ∙ c.rightmost.ensures ∙ (λ j. rightmost (back w32 n.e.left c.struct_told-1.given.0.1 j) (back w32 n.f.left c.struct_told-2-1.given.0.1 j))) i;
+      right = (back w32 c.leftmost.result (search rules) ∙ c.leftmost.ensures ∙ (λ j. leftmost (back w32 n.e.right c.struct_told-3-1.given.1.0.1 j) (back w32 n.f.right c.struct_told-4-1.given.1.0.1 j))) i;
       low = c.greater.ensures i;
       high = c.smaller.ensures i;
     }

@@ -5,10 +5,10 @@ use Rattle.tie.proofs.leftmost.Statement.{statement}
 use Rattle.tie.proofs.leftmost.Tie as tie
 
 returns : tie.Need-returns-then-a-b
-returns c = let n = c in first_left n.args.a n.args.b (search rules) (search rules) c.if-a-b.true
+returns c = first_left c.args.a c.args.b (search rules) (search rules) c.if-a-b.true
 
 returns-2 : tie.Need-returns
-returns-2 c = let n = c in second_left n.args.a n.args.b (search rules) (search rules) c.if-a-b.false
+returns-2 c = second_left c.args.a c.args.b (search rules) (search rules) c.if-a-b.false
 
 pub leftmost_spec : {M : Type 1} → statement M
 leftmost_spec = tie.close (tie.spec returns returns-2)

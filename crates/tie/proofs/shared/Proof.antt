@@ -44,15 +44,15 @@ lower-requires-3 : tie.Need-lower-requires-in_default-2
 lower-requires-3 c κs = search rules
 
 returns : tie.Need-returns-in-0
-returns c = let n = c in let a = n.args in shares_none a.x a.y (sym n.carriers_named.ensures ∙ c.in-0.is)
+returns c = let a = c.args in shares_none a.x a.y (sym c.carriers_named.ensures ∙ c.in-0.is)
 
 returns-2 : tie.Need-returns-in-1
-returns-2 c = let m = c in let n = m in let a = n.args in
-    shares_one a.x a.y (sym n.carriers_named.ensures ∙ m.in-1.is) _ _ c.called.ensures c.lower.ensures
+returns-2 c = let a = c.args in
+    shares_one a.x a.y (sym c.carriers_named.ensures ∙ c.in-1.is) _ _ c.called.ensures c.lower.ensures
 
 returns-3 : tie.Need-returns-in_default
-returns-3 c = let m = c in let n = m in let a = n.args in
-    shares_two a.x a.y (two_of a.x n.carriers_named.ensures m.in_default.in_default-own.rest.0.1 m.in_default.in_default-own.rest.1) _ _ _ c.called-k.ensures (c.lower-in_default.ensures ∙ (λ i. lower (c.called-in_default.ensures i) 0)) c.lower-in_default-2.ensures
+returns-3 c = let a = c.args in
+    shares_two a.x a.y (two_of a.x c.carriers_named.ensures c.in_default.in_default-own.rest.0.1 c.in_default.in_default-own.rest.1) _ _ _ c.called-k.ensures (c.lower-in_default.ensures ∙ (λ i. lower (c.called-in_default.ensures i) 0)) c.lower-in_default-2.ensures
 
 pub shared_spec : {M : Type 1} → statement M
 shared_spec =

@@ -122,8 +122,8 @@ bound-requires-2 : tie.Need-bound-requires-then-second-eq-RACK
 bound-requires-2 c κs = search rules
 
 returns-5 : tie.Need-returns-then-second-eq-RACK
-returns-5 c = let f = c in let e = f.before.before.before.before.before in
-    c.bound-then-second-eq-RACK.ensures ∙ sym (tells e ∙ second_rack _ _ _ (λ a. f.if-first-eq-RACK.false (sym (first_kind e) ∙ a)) (second_kind e ∙ c.if-second-eq-RACK.true))
+returns-5 c = let e = c.before.before.before.before.before in
+    c.bound-then-second-eq-RACK.ensures ∙ sym (tells e ∙ second_rack _ _ _ (λ a. c.if-first-eq-RACK.false (sym (first_kind e) ∙ a)) (second_kind e ∙ c.if-second-eq-RACK.true))
 
 -- neither is a rack
 module _ (c : tie.Else-second-eq-RACK) where

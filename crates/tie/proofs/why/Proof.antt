@@ -13,8 +13,8 @@ bound-requires : tie.Need-bound-requires
 bound-requires c κs = search rules
 
 returns : tie.Need-returns-then-k-ne0
-returns c = let b = c in let a = b.args in
-    c.bound.ensures ∙ ap by_carrier b.shared-k.ensures ∙ sym (shared_tells a.r a.x a.y (λ e. c.if-k-ne0.true (b.shared-k.ensures ∙ e)))
+returns c = let a = c.args in
+    c.bound.ensures ∙ ap by_carrier c.shared-k.ensures ∙ sym (shared_tells a.r a.x a.y (λ e. c.if-k-ne0.true (c.shared-k.ensures ∙ e)))
 
 extent-of-requires : tie.Need-extent_of-requires
 extent-of-requires c κs = search rules
@@ -26,9 +26,9 @@ crossing-requires : tie.Need-crossing-requires
 crossing-requires c κs = search rules
 
 returns-2 : tie.Need-returns
-returns-2 c = let n = c in let b = n in let a = b.args in
+returns-2 c = let a = c.args in
     c.crossing.ensures ∙ (λ i. tie_of_extents (c.extent_of.ensures i) (c.extent_of-2.ensures i))
-    ∙ sym (extents_tell a.r a.x a.y (sym b.shared-k.ensures ∙ n.if-k-ne0.false))
+    ∙ sym (extents_tell a.r a.x a.y (sym c.shared-k.ensures ∙ c.if-k-ne0.false))
 
 pub why_spec : {M : Type 1} → statement M
 why_spec = tie.close (tie.spec shared-requires bound-requires returns extent-of-requires extent-of-requires-2 crossing-requires returns-2)
