@@ -39,7 +39,7 @@ pub data Serves (s : State) (l : List ℕ) : Stepped → Type 0 where
   refused : StateInRange s → NoStep s l → (n : ℕ) → First n s l → (c : ℕ) → Tells s c → (k : ℕ) → Looks s k
       → Serves s l (record { number = n; complete = c; looked = k; length = 0; state = s })
 
--- (every state in memory has 500 hooks and ten carriers: `state-lengths` of crate banthewig; the definitions take lists of any length, and call shorter ones of
+-- (every state in memory has 500 hooks and ten carriers: `state_lengths` of crate banthewig; the definitions take lists of any length, and call shorter ones of
 -- nothing but 0 complete too)
 abbrev pub StepExactly : Type 0
 StepExactly = (s : State) (l : List ℕ) (a : Stepped) → length s.loops ≡ hook_count → length s.carriers ≡ carrier_count → (panel_step s l ≡ a) ↔ Serves s l a
