@@ -22,3 +22,4 @@ pub mod Logs
 pub mod Rewriting
 pub mod Exact
 pub mod Histories
+pub mod Judging

@@ -192,6 +192,7 @@ fn meet(x: Record, y: Record, r: Racking) -> bool
 // Whether records i and i + 1 of the output, which stand there, are tied: a rack, one carrier, or extents that meet. (The
 // racking in force is looked for before the records are read: with those at hand the walk to it would be longer by a
 // load for each record; a tie ends its log, so a walk for nothing is made once.)
+#[tactic(auto, using(crate::proofs::Judging::racks))]
 fn tied(output: &[u8], work: &[u16], table: &[u8], i: usize, there: Pair) -> bool
     requires { (Laid output.now work.now) × (Marked output.now table.now) × (i + 1 < length (records_of output.now)) × (there ≡ pair_at output.now i) }
     ensures { result ≡ tied_pair output.now i }
