@@ -18,7 +18,7 @@
    If one of the last four is not kept, no promise holds, not even that a call stays within what it was lent.
 
    Stack and worst time are a Cortex-M4's, as QEMU has it: stack that was painted beforehand; instructions counted on the dearest
-   input found, weighed as cycles at 120 MHz by a rule, without wait states (docs/PERFORMANCE.md). Neither is proved. */
+   input found, weighed as cycles at 120 MHz by a rule, without wait states (docs/PERFORMANCE.md). Neither is proved, and both were taken with the older kit. */
 #ifndef BANTHEWIG_H
 #define BANTHEWIG_H
 

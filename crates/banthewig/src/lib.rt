@@ -116,11 +116,11 @@ pub extern "C" fn knitout_tie(racking: i8, first: &[u8], second: &[u8]) -> tie::
 // limit (1 or 0; 0 after 15), the hooks that were looked at for it, and the record's length. A refused call stores nothing.
 #[unsafe(no_mangle)]
 pub extern "C" fn knitout_step(state: &mut machine::State, bytes: &[u8]) -> panel::Stepped
-    ensures { (result.number ≡ (panel_step state.old bytes.now).number)
-        × (result.complete ≡ (panel_step state.old bytes.now).complete)
-        × (result.looked ≡ (panel_step state.old bytes.now).looked)
-        × (result.length ≡ (panel_step state.old bytes.now).length)
-        × (state.new ≡ (panel_step state.old bytes.now).state) }
+    ensures number { result.number ≡ (panel_step state.old bytes.now).number }
+    ensures complete { result.complete ≡ (panel_step state.old bytes.now).complete }
+    ensures looked { result.looked ≡ (panel_step state.old bytes.now).looked }
+    ensures length { result.length ≡ (panel_step state.old bytes.now).length }
+    ensures state { state.new ≡ (panel_step state.old bytes.now).state }
 {
     let out = panel::step(*state, bytes);
     if out.number == 0 {

@@ -44,7 +44,7 @@ pub fn step(state: State, bytes: &[u8]) -> run::Stepped
 }
 
 // The answer for a list of so many entries.
-#[tactic(auto, using(crate::proofs::Services::foul_list, crate::proofs::Services::short_list, crate::proofs::Services::long_list))]
+#[tactic(auto, using(crate::proofs::Services::foul_list, crate::proofs::Services::short_list))]
 pub fn list_answer(state: State, count: usize) -> Served
     ensures { result ≡ list_answer state count }
 {

@@ -15,7 +15,7 @@ left = 0
 abbrev pub right : ℕ
 right = 1
 
--- the kinds; a racking is given by its byte, 255 for −1 and 248 for −8, a second needle, on the other bed, by its number; bring-in and take_out are 01's in and out
+-- the kinds; a racking is given by its byte, 255 for −1 and 248 for −8, a second needle, on the other bed, by its number; bring_in and take_out are 01's in and out
 abbrev pub rack : ℕ → List ℕ
 rack r = 1 ∷ r ∷ []
 

@@ -24,7 +24,7 @@ use Rattle.run.proofs.Demand.{final, complete}
 use Rattle.run.proofs.Exact.{run_flag, run_exactly}
 use Rattle.trace.specs.Records.{tied}
 use Rattle.trace.specs.Order.{in_force}
-use Rattle.trace.specs.Swaps.{is_Tied, made}
+use Rattle.trace.specs.Swaps.{is_tied, made}
 use Rattle.trace.proofs.Theorems.{made_iff_untied, refused_iff_tied, no_pair_iff_short}
 use Rattle.rewrite.specs.Programs.{flat, records_of, starts_of, knitting}
 use Rattle.rewrite.specs.Rewrite.{racking_zero, swap_of, Replay, ended, on_outcome, replay_from, replay, lent_no, Rewritten, refused, rewrite_of}
@@ -55,7 +55,7 @@ module _ {l : List (List ℕ)} {i : ℕ} {u v : List (List ℕ)} {x y : List ℕ
   there : swap_of i l ≡ swap_of (length u) (u ++ x ∷ y ∷ v)
   there = ap (λ (m : List (List ℕ)). swap_of i m) s.list ∙ ap (λ (j : ℕ). swap_of j (u ++ x ∷ y ∷ v)) (sym s.before)
 
-  when_tied : TiedBehind u x y → swap_of i l ≡ is_Tied
+  when_tied : TiedBehind u x y → swap_of i l ≡ is_tied
   when_tied t = there ∙ (refused_iff_tied knitting racking_zero u x y v).1 ((tied_exactly (in_force knitting racking_zero u) x y).1 t)
 
   when_free : (TiedBehind u x y → ⊥) → swap_of i l ≡ made (u ++ y ∷ x ∷ v)

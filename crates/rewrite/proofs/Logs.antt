@@ -12,7 +12,7 @@ use borrow.Author.Tests.{eq-eqb, ne_eqb}
 use Rattle.machine.specs.declared.Racking.{Racking}
 use Rattle.machine.specs.Machine.{Each}
 use Rattle.record.specs.Format.{byte}
-use Rattle.trace.specs.Swaps.{Outcome, no_pair, is_Tied, made}
+use Rattle.trace.specs.Swaps.{Outcome, no_pair, is_tied, made}
 use Rattle.trace.proofs.Swaps.{Made, made_is, untied}
 use Rattle.rewrite.specs.declared.LogRecord.{LogRecord}
 use Rattle.rewrite.specs.declared.LogRecord.TheVariants.{Torn, Swap}
@@ -78,7 +78,7 @@ follow_refused (Swap i) at n l more e d = go (swap_of i l) e
   where
     go : (out : Outcome (List ℕ)) → n ≡ swap_no out → (on_outcome out at l more ≡ ended n at l) × (left_by out l ≡ l)
     go no_pair e = (ap (λ (k : ℕ). ended k at l) (sym e), refl)
-    go is_Tied e = (ap (λ (k : ℕ). ended k at l) (sym e), refl)
+    go is_tied e = (ap (λ (k : ℕ). ended k at l) (sym e), refl)
     go (made m) e = absurd (d e)
 
 pub follow_made : (x : LogRecord) (at n : ℕ) (l : List (List ℕ)) (more : List (List ℕ) → Replay) → n ≡ follow_no x l → n ≡ 0
@@ -89,7 +89,7 @@ follow_made (Swap i) at n l more e z = let (a, b) = go (swap_of i l) e in (a, i,
   where
     go : (out : Outcome (List ℕ)) → n ≡ swap_no out → (on_outcome out at l more ≡ more (left_by out l)) × (out ≡ made (left_by out l))
     go no_pair e = absurd (omega arith)
-    go is_Tied e = absurd (omega arith)
+    go is_tied e = absurd (omega arith)
     go (made m) e = (refl, refl)
 
 -- ---- racks stay where they are

@@ -15,7 +15,7 @@ use Rattle.machine.proofs.Laws.{and_two}
 use Rattle.record.specs.Kinds.{size_of}
 use Rattle.record.specs.Format.{decode_of}
 use Rattle.trace.specs.Records.{tied}
-use Rattle.trace.specs.Swaps.{no_pair, is_Tied, made}
+use Rattle.trace.specs.Swaps.{no_pair, is_tied, made}
 use Rattle.trace.specs.Order.{in_force}
 use Rattle.trace.proofs.Theorems.{made_iff_untied, refused_iff_tied, no_pair_iff_short}
 use Rattle.rewrite.specs.declared.Pair.{Pair}
@@ -183,7 +183,7 @@ module _ (p : List ℕ) (sound : Sound p) (i : ℕ) (h : i + 1 < length (records
   tie_read : tied_pair p i ≡ tied knitting (in_force knitting racking_zero front) first second
   tie_read = ap (λ (r : Racking). tied knitting r first second) (sym (force_is front front_records))
 
-  pub pair_tied : tied_pair p i ≡ true → swap_of i (records_of p) ≡ is_Tied
+  pub pair_tied : tied_pair p i ≡ true → swap_of i (records_of p) ≡ is_tied
   pair_tied t = swap_read ∙ (refused_iff_tied knitting racking_zero front first second rest).1 (sym tie_read ∙ t)
 
   pub pair_made : tied_pair p i ≡ false → swap_of i (records_of p) ≡ made exchanged_pair

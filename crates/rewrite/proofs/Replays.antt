@@ -11,7 +11,7 @@ use lib.ListN.{length, length-append}
 use borrow.Author.Tests.{eqb-true}
 use Rattle.machine.specs.Machine.{Each}
 use Rattle.trace.specs.Records.{Records}
-use Rattle.trace.specs.Swaps.{Outcome, no_pair, is_Tied, made, swap_at, Swaps, no_swap, swap_first}
+use Rattle.trace.specs.Swaps.{Outcome, no_pair, is_tied, made, swap_at, Swaps, no_swap, swap_first}
 use Rattle.trace.proofs.Swaps.{Made, made_is, short_no_pair}
 use Rattle.rewrite.specs.Programs.{flat, knitting}
 use Rattle.rewrite.specs.Rewrite.{racking_zero, swap_of, Replay, ended, on_outcome, replay_from, replay, writes}
@@ -62,7 +62,7 @@ pub replay_made : (high low : ℕ) (log : List ℕ) (at : ℕ) (l m : List (List
 unfolding replay_from
 replay_made high low log at l m e = rw e
 
-pub replay_tied : (high low : ℕ) (log : List ℕ) (at : ℕ) (l : List (List ℕ)) → swap_of (high * 256 + low) l ≡ is_Tied → replay (64 ∷ high ∷ low ∷ log) at l ≡ ended 13 at l
+pub replay_tied : (high low : ℕ) (log : List ℕ) (at : ℕ) (l : List (List ℕ)) → swap_of (high * 256 + low) l ≡ is_tied → replay (64 ∷ high ∷ low ∷ log) at l ≡ ended 13 at l
 unfolding replay_from
 replay_tied high low log at l e = rw e
 
@@ -83,7 +83,7 @@ replayed (k ∷ high ∷ low ∷ log) at l =
     go : (o : Outcome (List ℕ)) → swap_of (high * 256 + low) l ≡ o → ((m : List (List ℕ)) → Replayed log (at + 3) m (replay log (at + 3) m))
         → Replayed (64 ∷ high ∷ low ∷ log) at l (on_outcome o at l (λ m. replay log (at + 3) m))
     go no_pair e more = Replayed.stopped 12 (omega arith) refl
-    go is_Tied e more = Replayed.stopped 13 (omega arith) refl
+    go is_tied e more = Replayed.stopped 13 (omega arith) refl
     go (made m) e more = Replayed.next e (more m)
 
 -- the records that it leaves are reached by swaps that are made

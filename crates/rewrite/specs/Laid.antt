@@ -7,7 +7,7 @@ use Rattle.machine.specs.Machine.{Each}
 use Rattle.record.specs.Kinds.{RACK}
 use Rattle.record.specs.Format.{byte, signed_of, decode_of}
 use Rattle.trace.specs.Records.{tied}
-use Rattle.trace.specs.Swaps.{Outcome, no_pair, is_Tied, made}
+use Rattle.trace.specs.Swaps.{Outcome, no_pair, is_tied, made}
 use Rattle.rewrite.specs.declared.Pair.{Pair}
 use Rattle.rewrite.specs.declared.LogRecord.{LogRecord}
 use Rattle.rewrite.specs.declared.LogRecord.TheVariants.{Torn, Swap}
@@ -64,12 +64,12 @@ tied_pair program i = tied knitting (in_force_at program i) (record_at program i
 -- what a swap answers and leaves
 unfoldable pub swap_no : Outcome (List ℕ) → ℕ
 swap_no no_pair = 12
-swap_no is_Tied = 13
+swap_no is_tied = 13
 swap_no (made m) = 0
 
 unfoldable pub left_by : Outcome (List ℕ) → List (List ℕ) → List (List ℕ)
 left_by no_pair l = l
-left_by is_Tied l = l
+left_by is_tied l = l
 left_by (made m) l = m
 
 -- what a log record answers and leaves; its position is one of two bytes

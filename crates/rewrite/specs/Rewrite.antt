@@ -6,7 +6,7 @@ use Rattle.machine.specs.Machine.{empty_state}
 use Rattle.machine.specs.Range.{limit_ok}
 use Rattle.run.specs.declared.Answer.{Answer}
 use Rattle.run.specs.Run.{reached, answer_limit, answer_of, run_of}
-use Rattle.trace.specs.Swaps.{Outcome, no_pair, is_Tied, made, swap_at}
+use Rattle.trace.specs.Swaps.{Outcome, no_pair, is_tied, made, swap_at}
 use Rattle.rewrite.specs.declared.LogRecord.{LogRecord}
 use Rattle.rewrite.specs.declared.LogRecord.TheVariants.{Torn, Swap}
 use Rattle.rewrite.specs.Programs.{flat, records_of, starts_of, log_record_size, swap_kind, position_of, knitting}
@@ -31,7 +31,7 @@ ended n at l = record { number = n; place = at; left = l }
 -- 12 (no pair), 13 (tied), or on with the swap made
 abbrev pub on_outcome : Outcome (List ℕ) → ℕ → List (List ℕ) → (List (List ℕ) → Replay) → Replay
 on_outcome no_pair at l more = ended 12 at l
-on_outcome is_Tied at l more = ended 13 at l
+on_outcome is_tied at l more = ended 13 at l
 on_outcome (made m) at l more = more m
 
 -- the log record that bytes begin with; another kind, or fewer than three bytes, is torn

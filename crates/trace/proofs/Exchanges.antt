@@ -26,15 +26,15 @@ module _ {A : Type 0} (tied : A → A → Bool) where
   -- one exchange after another, at the listed positions
   pub data Exchanges : List ℕ → List A → List A → Type 0 where
     none_left : {l : List A} → Exchanges [] l l
-    and_then : {i : ℕ} {is : List ℕ} {l m n : List A} → Exchange i l m → Exchanges is m n → Exchanges (i ∷ is) l n
+    then_next : {i : ℕ} {is : List ℕ} {l m n : List A} → Exchange i l m → Exchanges is m n → Exchanges (i ∷ is) l n
 
   exchanges_append : {is js : List ℕ} {l m n : List A} → Exchanges is l m → Exchanges js m n → Exchanges (is ++ js) l n
   exchanges_append none_left t = t
-  exchanges_append (and_then s r) t = and_then s (exchanges_append r t)
+  exchanges_append (then_next s r) t = then_next s (exchanges_append r t)
 
   exchanges_behind : {x : A} {is : List ℕ} {l m : List A} → Exchanges is l m → Exchanges (map suc is) (x ∷ l) (x ∷ m)
   exchanges_behind none_left = none_left
-  exchanges_behind (and_then s r) = and_then (behind s) (exchanges_behind r)
+  exchanges_behind (then_next s r) = then_next (behind s) (exchanges_behind r)
 
   -- what passes a test is kept in order, if any two that pass are tied
   module _ (p : A → Bool) (ok : (x y : A) → p x ≡ true → p y ≡ true → tied x y ≡ true) where
@@ -44,7 +44,7 @@ module _ {A : Type 0} (tied : A → A → Bool) where
 
     exchanges_keep : {is : List ℕ} {l m : List A} → Exchanges is l m → keep p l ≡ keep p m
     exchanges_keep none_left = refl
-    exchanges_keep (and_then s r) = exchange_keep s ∙ exchanges_keep r
+    exchanges_keep (then_next s r) = exchange_keep s ∙ exchanges_keep r
 
   -- every count is kept
   exchange_count : (p : A → Bool) {i : ℕ} {l m : List A} → Exchange i l m → count p l ≡ count p m
@@ -53,7 +53,7 @@ module _ {A : Type 0} (tied : A → A → Bool) where
 
   pub exchanges_count : (p : A → Bool) {is : List ℕ} {l m : List A} → Exchanges is l m → count p l ≡ count p m
   exchanges_count p none_left = refl
-  exchanges_count p (and_then s t) = exchange_count p s ∙ exchanges_count p t
+  exchanges_count p (then_next s t) = exchange_count p s ∙ exchanges_count p t
 
 module _ {A : Type 0} (T : Ties A) where
   open T use {same, tied, same_refl, same_eq, tied_refl, tied_sym}
@@ -101,7 +101,7 @@ module _ {A : Type 0} (T : Ties A) where
       go ih false true e f = absurd (true≢false (let g = h b f in cc (same_refl a, same_refl b)))
       go ih false false e f =
           let (is, s, w) = ih (λ y t. let g = h y t in cc (untied_other a b y f t)) in
-          (map suc is ++ (zero ∷ []), b ∷ s, exchanges_append tied (exchanges_behind tied w) (and_then (front (tied_sym b a ∙ f)) none_left))
+          (map suc is ++ (zero ∷ []), b ∷ s, exchanges_append tied (exchanges_behind tied w) (then_next (front (tied_sym b a ∙ f)) none_left))
 
   -- the head of the one list comes first in the other
   head_first : (a : A) (l m : List A) → SameViews l (a ∷ m) → First a l

@@ -23,7 +23,7 @@ module _ {A R : Type 0} (K : Records A R) (L : Lawful K) where
 
   pub swaps_exchanges : {r : R} {is : List ℕ} {l m : List A} → Swaps K r is l m → Exchanges (tied_marks K) is (marks K 0 r l) (marks K 0 r m)
   swaps_exchanges no_swap = Exchanges.none_left
-  swaps_exchanges {r} (swap_first {i} {l = l} {m = m} e t) = Exchanges.and_then (made_exchange 0 (made_is K l m r i e)) (swaps_exchanges t)
+  swaps_exchanges {r} (swap_first {i} {l = l} {m = m} e t) = Exchanges.then_next (made_exchange 0 (made_is K l m r i e)) (swaps_exchanges t)
 
   -- the marks M are those of a list that a swap makes
   abbrev MadeMarks : R → ℕ → List A → ℕ → List (Mark A R) → Type 0
@@ -60,6 +60,6 @@ module _ {A R : Type 0} (K : Records A R) (L : Lawful K) where
   pub exchanges_swaps : {is : List ℕ} {N M : List (Mark A R)} → Exchanges (tied_marks K) is N M
       → (r : R) (l m : List A) → N ≡ marks K 0 r l → M ≡ marks K 0 r m → Swaps K r is l m
   exchanges_swaps Exchanges.none_left r l m e f = rw (marks_eq K 0 r l m (sym e ∙ f)) no_swap
-  exchanges_swaps (Exchanges.and_then s t) r l m e f =
+  exchanges_swaps (Exchanges.then_next s t) r l m e f =
       let (n, g, h) = exchange_made s 0 r l e in
       swap_first g (exchanges_swaps t r n m h f)

@@ -9,7 +9,7 @@ use native.Mathlib.Omega.{arith}
 use lib.ListN.{length}
 use Rattle.trace.specs.Lists.{keep}
 use Rattle.trace.specs.Records.{Records, tied, Lawful}
-use Rattle.trace.specs.Swaps.{Outcome, no_pair, is_Tied, made, behind, swap_at, Swaps, no_swap, swap_first}
+use Rattle.trace.specs.Swaps.{Outcome, no_pair, is_tied, made, behind, swap_at, Swaps, no_swap, swap_first}
 use Rattle.trace.specs.Order.{in_force}
 use Rattle.trace.proofs.Tests.{tied_by_lem, tie_sym}
 use Rattle.trace.proofs.Lists.{keep_swap}
@@ -17,7 +17,7 @@ use Rattle.trace.proofs.Lists.{keep_swap}
 -- what a swap behind the head comes from
 behind_made : {A : Type 0} (x : A) (t : Outcome A) (m : List A) → behind x t ≡ made m → (n : List A) × (t ≡ made n) × (m ≡ x ∷ n)
 behind_made x no_pair m e = absurd (true≢false (cc))
-behind_made x is_Tied m e = absurd (true≢false (cc))
+behind_made x is_tied m e = absurd (true≢false (cc))
 behind_made x (made l) m e = (l, refl, cc)
 
 module _ {A R : Type 0} (K : Records A R) where
@@ -36,7 +36,7 @@ module _ {A R : Type 0} (K : Records A R) where
   untied_is_made r [] x y v t = rw t
   untied_is_made r (z ∷ u) x y v t = rw (untied_is_made (after r z) u x y v t)
 
-  tied_is_refused : (r : R) (u : List A) (x y : A) (v : List A) → tied K (in_force K r u) x y ≡ true → swap_at K r (length u) (u ++ x ∷ y ∷ v) ≡ is_Tied
+  tied_is_refused : (r : R) (u : List A) (x y : A) (v : List A) → tied K (in_force K r u) x y ≡ true → swap_at K r (length u) (u ++ x ∷ y ∷ v) ≡ is_tied
   tied_is_refused r [] x y v t = rw t
   tied_is_refused r (z ∷ u) x y v t = rw (tied_is_refused (after r z) u x y v t)
 
@@ -46,7 +46,7 @@ module _ {A R : Type 0} (K : Records A R) where
     untied_is_made r u x y v,
   )
 
-  pub refused_exactly : (r : R) (u : List A) (x y : A) (v : List A) → (swap_at K r (length u) (u ++ x ∷ y ∷ v) ≡ is_Tied) ↔ (tied K (in_force K r u) x y ≡ true)
+  pub refused_exactly : (r : R) (u : List A) (x y : A) (v : List A) → (swap_at K r (length u) (u ++ x ∷ y ∷ v) ≡ is_tied) ↔ (tied K (in_force K r u) x y ≡ true)
   refused_exactly r u x y v = (
     (λ e. cases (tied K (in_force K r u) x y) (λ t. t) (λ t. absurd (true≢false (cc (untied_is_made r u x y v t))))),
     tied_is_refused r u x y v,
@@ -67,7 +67,7 @@ module _ {A R : Type 0} (K : Records A R) where
     where
       go : (t : Outcome A) → swap_at K (after r x) i l ≡ t → (swap_at K (after r x) i l ≡ no_pair → length l ≤ suc i) → length (x ∷ l) ≤ suc (suc i)
       go no_pair f ih = omega (arith, ih f)
-      go is_Tied f ih = absurd (true≢false (cc))
+      go is_tied f ih = absurd (true≢false (cc))
       go (made m) f ih = absurd (true≢false (cc))
 
   pub swaps_append : {r : R} {is js : List ℕ} {l m n : List A} → Swaps K r is l m → Swaps K r js m n → Swaps K r (is ++ js) l n

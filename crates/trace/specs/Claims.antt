@@ -2,7 +2,7 @@
 use Rattle.std.specs.Prelude.{ℕ, suc, ◌≤◌, ◌<◌, ◌≡◌, Bool, true, false, List, [], ◌∷◌, ◌++◌, ◌↔◌, length, take, drop}
 use Rattle.trace.specs.Lists.{Nth}
 use Rattle.trace.specs.Records.{Records, tied, Lawful}
-use Rattle.trace.specs.Swaps.{no_pair, is_Tied, made, swap_at, Swaps}
+use Rattle.trace.specs.Swaps.{no_pair, is_tied, made, swap_at, Swaps}
 use Rattle.trace.specs.Order.{in_force, SameRecords, tied_in, SameOrder, KeepsOrder}
 use Rattle.trace.specs.Machine.{Machine, run, Ends, Orderly, Kept}
 use Rattle.trace.specs.House.{StrictOrder, InHouseOrder, NoEarlier, house_order, spot_of}
@@ -14,7 +14,7 @@ module _ {A R : Type 0} (K : Records A R) where
 
   -- 'otherwise it gets 13': it is refused exactly if they are tied
   abbrev pub RefusedExactly : Type 0
-  RefusedExactly = (r : R) (u : List A) (x y : A) (v : List A) → (swap_at K r (length u) (u ++ x ∷ y ∷ v) ≡ is_Tied) ↔ (tied K (in_force K r u) x y ≡ true)
+  RefusedExactly = (r : R) (u : List A) (x y : A) (v : List A) → (swap_at K r (length u) (u ++ x ∷ y ∷ v) ≡ is_tied) ↔ (tied K (in_force K r u) x y ≡ true)
 
   -- there is no pair exactly if no two records stand there
   abbrev pub NoPairExactly : Type 0

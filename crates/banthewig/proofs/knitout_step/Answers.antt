@@ -1,15 +1,9 @@
 -- A refused step keeps the state. Assumes nothing.
-use Rattle.std.proofs.Common.{ap, sym, ◌∙◌}
+use Rattle.std.proofs.Common.{◌≡◌, ap, sym, ◌∙◌}
 use Rattle.run.specs.declared.Stepped.{Stepped}
 use Rattle.panel.proofs.Demand.{refused_keeps}
 use Rattle.banthewig.proofs.knitout_step.Goals as goal
 
-pub returns-else-out-eq0 : goal.returns-else-out-eq0
-returns-else-out-eq0 c =
-    let e = c.step-out.ensures in (
-      ap (λ (s : Stepped). s.number) e,
-      ap (λ (s : Stepped). s.complete) e,
-      ap (λ (s : Stepped). s.looked) e,
-      ap (λ (s : Stepped). s.length) e,
-      sym (refused_keeps c.args.state.now c.args.bytes.now (λ z. c.if-out-eq0.false (ap (λ (s : Stepped). s.number) e ∙ z))),
-    )
+pub returns-else-out-eq0-clause-state : goal.returns-else-out-eq0-clause-state
+returns-else-out-eq0-clause-state c =
+    sym (refused_keeps c.args.state.now c.args.bytes.now (λ z. c.if-out-eq0.false (ap (λ (s : Stepped). s.number) c.step-out.ensures ∙ z)))

@@ -4,7 +4,7 @@ use native.Mathlib.Omega.{arith}
 use mathlib.Core.Path.{◌≡◌, refl, sym, ◌∙◌}
 use mathlib.Core.List.{List}
 use lib.ListN.{length}
-use Rattle.trace.specs.Swaps.{Outcome, no_pair, is_Tied, made}
+use Rattle.trace.specs.Swaps.{Outcome, no_pair, is_tied, made}
 use Rattle.rewrite.specs.Programs.{flat, records_of, starts_of}
 use Rattle.rewrite.specs.Rewrite.{swap_of}
 use Rattle.rewrite.specs.Laid.{Laid, swap_no, left_by}
@@ -31,7 +31,7 @@ module _ (p w : List ℕ) (laid : Laid p w) (i : ℕ) where
   unfolding Left swap_no left_by
   none_left e = rw e (refl, (sym (records_flat p), laid.starts))
 
-  tied_left : out ≡ is_Tied → Left 13 p w
+  tied_left : out ≡ is_tied → Left 13 p w
   unfolding Left swap_no left_by
   tied_left e = rw e (refl, (sym (records_flat p), laid.starts))
 
