@@ -24,7 +24,7 @@ fn word(number: u8, place: usize) -> u64
     requires { place < 65536 }
     ensures { result ≡ number * 65536 + place }
 {
-    (number as u64) * 65536 + (place as u64)
+    u64::from(number) * 65536 + (place as u64)
 }
 
 // Runs a program at a hook limit: number times 65,536 plus place. A limit out of 1 to 8 gets 15 before all else.
@@ -134,21 +134,6 @@ pub extern "C" fn knitout_step(state: &mut machine::State, bytes: &[u8]) -> pane
     }
 }
 
-// Fills a lent list with the carriers of a state.
-fn list_carriers(state: machine::State, list: &mut [machine::Carrier]) -> panel::Served
-    ensures { (result ≡ list_answer state (length list.old)) × (list.new ≡ carrier_list state list.old) }
-{
-    let out = panel::list_answer(state, list.len());
-    if out.number == 0 {
-        let mut i = 0;
-        while i < machine::State::CARRIERS {
-            list[i] = panel::carrier_at(state, i);
-            i += 1;
-        }
-    }
-    out
-}
-
 // Lists the carriers of a lent state: number, and the entries written. Entries past ten keep their contents; a refused call
 // writes nothing.
 #[unsafe(no_mangle)]
@@ -159,6 +144,9 @@ pub extern "C" fn knitout_carriers(
     ensures { (result ≡ list_answer state.now (length list.old))
         × (list.new ≡ carrier_list state.now list.old) }
 {
-    let copied = *state;
-    list_carriers(copied, list)
+    let out = panel::list_answer(*state, list.len());
+    if out.number == 0 {
+        list[..machine::State::CARRIERS].copy_from_slice(&state.carriers);
+    }
+    out
 }

@@ -2,16 +2,16 @@
 use Prim.Native.Nat.{ℕ, zero, suc, ◌+◌, ◌-◌, ◌≤◌, ◌<◌}
 use mathlib.Core.Path.{◌≡◌, refl, sym, ap, subst, ◌∙◌}
 use mathlib.Core.Bool.{true}
-use mathlib.Core.List.{List, [], ◌∷◌, ◌++◌, append_assoc, append-nil, map, map-append}
+use mathlib.Core.List.{List, [], ◌∷◌, ◌++◌, append_assoc, map, map-append}
 use native.Mathlib.Omega.{arith}
 use native.Mathlib.Numerals.{add-one}
 use lib.ListN.{length, take, drop, get_or, length-append, length-map, length-drop, take-append-drop}
-use lib.Seq.{length-take-le, take_all, take_at, drop_at, take-suc, drop-cons, take-take, take-add, drop-length}
+use lib.Seq.{length-take-le, take_at, drop_at, take-suc, drop-cons, take-take, take-add}
 use borrow.Author.Tests.{eq-eqb, ne_eqb}
 use Rattle.machine.specs.declared.Racking.{Racking}
 use Rattle.machine.specs.Machine.{Each}
 use Rattle.record.specs.Kinds.{RACK}
-use Rattle.record.specs.Format.{byte}
+use Rattle.record.specs.Format.{byte, signed_of}
 use Rattle.trace.specs.Order.{in_force}
 use Rattle.trace.specs.House.{taken, house_order, spot_of}
 use Rattle.trace.proofs.Theorems.{house_inserted, house_length, rack_last, spot_small}
@@ -85,18 +85,18 @@ module _ (p : List ℕ) where
 abbrev pub first_of_house : List ℕ → List ℕ → ℕ → List (List ℕ)
 first_of_house p w j = house_order knitting comes_first racking_zero (take j (records_at p w))
 
-pub record InOrder (p w₀ w : List ℕ) (b j : ℕ) : Type 0 where
+pub record InOrder (p w₀ w : List ℕ) (r : Racking) (j : ℕ) : Type 0 where
   pub starts : Starts p w
   pub long : length w ≡ length w₀
   pub upto : j ≤ length w
   pub are : records_at p w ≡ first_of_house p w₀ j ++ drop j (records_at p w₀)
-  pub racking : b ≡ rack_byte 0 (take j (records_at p w₀))
+  pub racking : r ≡ racked (rack_byte 0 (take j (records_at p w₀)))
 
-pub none_in_order : (p w : List ℕ) → Starts p w → InOrder p w w 0 0
-unfolding rack_byte taken
+pub none_in_order : (p w : List ℕ) → Starts p w → InOrder p w w racking_zero 0
+unfolding rack_byte taken signed_of
 none_in_order p w s = record { starts = s; long = refl; upto = omega arith; are = refl; racking = refl }
 
-module _ (p w₀ w : List ℕ) (b j : ℕ) (o : InOrder p w₀ w b j) (h : j < length w) where
+module _ (p w₀ w : List ℕ) (r : Racking) (j : ℕ) (o : InOrder p w₀ w r j) (h : j < length w) where
   abbrev all : List (List ℕ)
   all = records_at p w₀
 
@@ -106,8 +106,9 @@ module _ (p w₀ w : List ℕ) (b j : ℕ) (o : InOrder p w₀ w b j) (h : j < l
   abbrev x : List ℕ
   x = record_of p w j
 
-  abbrev r : Racking
-  r = racked b
+  -- the racking byte in force
+  abbrev b : ℕ
+  b = rack_byte 0 (take j all)
 
   all_length : length all ≡ length w
   all_length = length-map w₀ (record_in p) ∙ sym o.long
@@ -150,11 +151,11 @@ module _ (p w₀ w : List ℕ) (b j : ℕ) (o : InOrder p w₀ w b j) (h : j < l
       let v = take j w₀ in
       let e = (each_part (λ (a : ℕ). Begins p a) v (drop j w₀) (subst (Each (λ (a : ℕ). Begins p a)) (sym (take-append-drop j w₀)) s₀.begin)).0 in
       let f = subst (Each (λ (y : List ℕ). is_record y ≡ true)) (map_take (record_in p) j w₀) (are_records v e) in
-      ap racked o.racking ∙ sym (force_is (take j all) f)
+      o.racking ∙ sym (force_is (take j all) f)
 
   byte_next : byte_after b x ≡ rack_byte 0 (take (j + 1) all)
   byte_next =
-      rack_on all j (j + 1) b (byte_after b x) (omega arith) o.racking
+      rack_on all j (j + 1) b (byte_after b x) (omega arith) refl
       (sym (rack_next b all j (j + 1) (omega arith) (omega (arith, all_length)) ∙ rack_end (byte_after b (get_or all j [])) all (j + 1) (j + 1) (omega arith)
       ∙ ap (byte_after b) (sym own_is)))
 
@@ -195,33 +196,27 @@ module _ (p w₀ w : List ℕ) (b j : ℕ) (o : InOrder p w₀ w b j) (h : j < l
         sym (length-map (moved w k j) (record_in p)) ∙ ap length moved_are
         ∙ omega (arith, length-append (first_of_house p w₀ (j + 1)) (drop (j + 1) all), length-drop (j + 1) all, all_length, house_length knitting comes_first lawful comparison_strict racking_zero (take (j + 1) all), length-take-le (j + 1) all (omega (arith, all_length)))
 
-    with_byte : (w' : List ℕ) (b' : ℕ) → w' ≡ moved w k j → b' ≡ byte_after b x → InOrder p w₀ w' b' (j + 1)
-    with_byte w' b' e f =
+    with_racking : (w' : List ℕ) (r' : Racking) → w' ≡ moved w k j → r' ≡ racked (byte_after b x) → InOrder p w₀ w' r' (j + 1)
+    with_racking w' r' e f =
         record {
           starts = subst (Starts p) (sym e) (moved_starts p w k j k_small h o.starts);
           long = ap length e ∙ moved_length ∙ o.long;
           upto = omega (arith, ap length e, moved_length);
           are = ap (records_at p) e ∙ moved_are;
-          racking = f ∙ byte_next;
+          racking = f ∙ ap racked byte_next;
         }
 
     -- as the two branches leave it: a rack stays, and gives the racking
-    pub rack_done : (b' : ℕ) → byte p (get_or w j 0) ≡ RACK → b' ≡ byte p (get_or w j 0 + 1) → InOrder p w₀ w b' (j + 1)
-    rack_done b' e f =
+    pub rack_done : (r' : Racking) → byte p (get_or w j 0) ≡ RACK → r' ≡ racked (byte p (get_or w j 0 + 1)) → InOrder p w₀ w r' (j + 1)
+    rack_done r' e f =
         let a = get_or w j 0 in
         let z : byte x 0 ≡ RACK = sym (kind_in p a own_begins) ∙ e in
         let stays : k ≡ j = rack_last knitting comes_first lawful comparison_strict r x (records_at p (take j w)) (rack_in p a own_begins e) ∙ ap length front_is ∙ done_length in
-        with_byte w b' (sym (ap (λ (n : ℕ). moved w n j) stays ∙ moved_same w j h))
-        (f ∙ byte_in p a own_begins 1 (omega (arith, (sized p a own_begins).least)) ∙ sym (simp (eq-eqb (byte x 0) RACK z)))
+        with_racking w r' (sym (ap (λ (n : ℕ). moved w n j) stays ∙ moved_same w j h))
+        (f ∙ ap racked (byte_in p a own_begins 1 (omega (arith, (sized p a own_begins).least)) ∙ sym (simp (eq-eqb (byte x 0) RACK z))))
 
-    pub other_done : (w' : List ℕ) (b' : ℕ) → (byte p (get_or w j 0) ≡ RACK → ⊥) → w' ≡ moved w (spot_at p w j r) j → b' ≡ b → InOrder p w₀ w' b' (j + 1)
-    other_done w' b' d e f =
-        let a = get_or w j 0 in with_byte w' b' e (f ∙ sym (simp (ne_eqb (byte x 0) RACK (λ q. d (kind_in p a own_begins ∙ q)))))
-
--- all are
-pub all_in_order : (p w₀ w : List ℕ) (b j : ℕ) → InOrder p w₀ w b j → length w ≤ j → records_at p w ≡ house_order knitting comes_first racking_zero (records_at p w₀)
-all_in_order p w₀ w b j o h =
-    let all = records_at p w₀ in
-    let n : length all ≡ j = omega (arith, length-map w₀ (record_in p), o.long, o.upto) in
-    o.are ∙ (λ i. house_order knitting comes_first racking_zero (take_all j all (omega arith) i) ++ drop (sym n i) all)
-    ∙ ap (λ (l : List (List ℕ)). house_order knitting comes_first racking_zero all ++ l) (drop-length all) ∙ append-nil _
+    pub other_done : (w' : List ℕ) (r' : Racking) → (byte p (get_or w j 0) ≡ RACK → ⊥) → w' ≡ moved w (spot_at p w j r) j → r' ≡ r → InOrder p w₀ w' r' (j + 1)
+    other_done w' r' d e f =
+        let a = get_or w j 0 in
+        let z : byte_after b x ≡ b = simp (ne_eqb (byte x 0) RACK (λ q. d (kind_in p a own_begins ∙ q))) in
+        with_racking w' r' e (f ∙ o.racking ∙ ap racked (sym z))

@@ -1,6 +1,6 @@
 -- A look at a pair: carriers by their bytes, and needles out of reach. Assumes nothing.
 use borrow.Table.Steps.{cases}
-use Prim.Native.Nat.{ℕ, ◌+◌, ◌-◌, ◌≤◌, ◌<◌}
+use Prim.Native.Nat.{ℕ, ◌+◌, ◌≤◌, ◌<◌}
 use mathlib.Core.Path.{◌≡◌, refl, sym, ap, ◌∙◌}
 use mathlib.Core.Bool.{true, false, or-false}
 use mathlib.Core.List.{List, [], ◌∷◌}
@@ -9,7 +9,7 @@ use native.Mathlib.Omega.{arith}
 use lib.Dec.{eqb}
 use lib.IntN.{ℤ, pos, negsuc, ◌-ℤ◌, nat_abs}
 use lib.ListN.{length, get_or}
-use borrow.Author.Tests.{eq-eqb, ne_eqb, lt-ltb, le-ltb}
+use borrow.Author.Tests.{eq-eqb, ne_eqb, lt-ltb}
 use Rattle.machine.specs.declared.Needle.{Needle}
 use Rattle.machine.specs.declared.Racking.{Racking}
 use Rattle.machine.specs.Limits.{last_needle}
@@ -17,10 +17,10 @@ use Rattle.machine.specs.Geometry.{column_of}
 use Rattle.machine.proofs.Signed.{up, dn, sum, difference}
 use Rattle.record.specs.declared.Record.{Record}
 use Rattle.record.specs.Kinds.{RACK, by_kind, carriers_named}
-use Rattle.record.specs.Format.{Encodes, byte, needle, signed_of}
+use Rattle.record.specs.Format.{Encodes, byte, needle}
 use Rattle.record.specs.Names.{carriers_of, outline_at, outline_of}
 use Rattle.record.proofs.Shapes.{one_named as one_carrier, two_named as two_carriers}
-use Rattle.record.proofs.Outlines.{carried_outline}
+use Rattle.record.proofs.Outlines.{carried_long, carried_outline}
 use Rattle.rewrite.specs.Extents.{member, common, share_carrier}
 use Rattle.rewrite.specs.Programs.{what}
 use Rattle.rewrite.specs.Laid.{is_record, far_apart}
@@ -128,33 +128,27 @@ module _ (r : Racking) (n m : Needle) (h : n.1 + reach_of r.0 < m.1) where
   unfolding far_apart
   above_reach = lt-ltb 1 (nat_abs ((column_of m r).0 -ℤ (column_of n r).0)) far.1
 
--- the reach of a racking byte
-pub reach_right : (b : ℕ) → b < 128 → b + 1 ≡ reach_of (signed_of b)
-unfolding signed_of
-reach_right b h = simp (lt-ltb b 128 h)
-
-pub reach_left : (b : ℕ) → 128 ≤ b → b < 256 → 257 - b ≡ reach_of (signed_of b)
-unfolding signed_of
-reach_left b h i = simp (le-ltb b 128 h) (omega arith)
-
 -- ---- a record that names one carrier, by its bytes
 module _ (p : List ℕ) (a : ℕ) (b : Begins p a) (one : carriers_named (byte p a) ≡ 1) where
   abbrev y : Record
   y = what (record_in p a)
 
-  carried : (5 ≤ length (record_in p a)) × (outline_at (byte (record_in p a) 0) (needle (byte (record_in p a) 2) (byte (record_in p a) 3)) (byte (record_in p a) 4) 0 ≡ outline_of y)
-  carried = carried_outline (record_in p a) (reads p a b) (ap carriers_named (sym (kind_in p a b)) ∙ one)
+  own_kind : carriers_named (byte (record_in p a) 0) ≡ 1
+  own_kind = ap carriers_named (sym (kind_in p a b)) ∙ one
+
+  carried : outline_at (byte (record_in p a) 0) (needle (byte (record_in p a) 2) (byte (record_in p a) 3)) (byte (record_in p a) 4) 0 ≡ outline_of y
+  carried = carried_outline (record_in p a) (reads p a b) own_kind
 
   pub not_rack : byte p a ≡ RACK → ⊥
   unfolding by_kind
   not_rack e = let q : ◌≡◌ {A = ℕ} 0 1 = sym (ap carriers_named e) ∙ one in omega (arith, q)
 
   pub five : 5 ≤ length (record_in p a)
-  five = carried.0
+  five = carried_long (record_in p a) (reads p a b) own_kind
 
   fields : (y.kind ≡ byte (record_in p a) 0) × (y.at.1 ≡ byte (record_in p a) 3) × (y.carrier ≡ byte (record_in p a) 4)
   unfolding outline_of
-  fields = let e = carried.1 in (sym (ap (λ (x : Record). x.kind) e), sym (ap (λ (x : Record). x.at.1) e), sym (ap (λ (x : Record). x.carrier) e))
+  fields = let e = carried in (sym (ap (λ (x : Record). x.kind) e), sym (ap (λ (x : Record). x.at.1) e), sym (ap (λ (x : Record). x.carrier) e))
 
   pub carrier_is : get_or p (a + 4) 0 ≡ y.carrier
   carrier_is = byte_in p a b 4 (omega (arith, five)) ∙ sym fields.2

@@ -1,18 +1,18 @@
 -- The call, put together: refused as by the rewriter, or the house order written. Assumes nothing.
-use Prim.Native.Nat.{ℕ, ◌≤◌}
-use mathlib.Core.Path.{◌≡◌, sym, ap, subst, ◌∙◌}
+use Prim.Native.Nat.{ℕ, ◌≤◌, ◌/◌}
+use mathlib.Core.Path.{◌≡◌, refl, sym, ap, subst, ◌∙◌}
 use mathlib.Core.List.{List, [], ◌++◌}
 use native.Mathlib.Omega.{arith}
 use lib.ListN.{length, take, drop, length-append, length-map}
 use lib.Seq.{take_at, drop_at, length-take-le}
 use borrow.Author.Tests.{eq-eqb, ne_eqb}
 use Rattle.machine.specs.Machine.{empty_state}
-use Rattle.run.specs.declared.Answer.{Answer}
-use Rattle.run.specs.declared.Ended.{Ended}
+use Rattle.machine.specs.declared.State.{State}
 use Rattle.run.specs.Run.{reached, answer_limit, answer_of, run_of}
 use Rattle.run.proofs.Demand.{accepts, final}
 use Rattle.trace.specs.House.{house_order}
 use Rattle.trace.proofs.Theorems.{house_reached, house_length}
+use Rattle.machine.proofs.Refused.{number_some}
 use Rattle.rewrite.specs.Programs.{flat, records_of, starts_of, knitting}
 use Rattle.rewrite.specs.Rewrite.{racking_zero, ended, replay_from, lent_no, Rewritten, refused, written, rewrite_of}
 use Rattle.rewrite.specs.Laid.{Sound}
@@ -20,7 +20,7 @@ use Rattle.rewrite.proofs.Lawful.{lawful}
 use Rattle.rewrite.proofs.Replays.{swaps_moved}
 use Rattle.rewrite.proofs.Handed.{moved_length}
 use Rattle.rewrite.proofs.Laying.{starts_length}
-use Rattle.rewrite.proofs.Rewriting.{lent_call, refused_call, written_call}
+use Rattle.rewrite.proofs.Rewriting.{enough, sound_run, lent_call, refused_call, written_call}
 use Rattle.house.specs.Order.{comes_first, house_records, house_of, order_of}
 use Rattle.house.specs.Arranged.{record_in, Starts, records_at}
 use Rattle.house.proofs.Comparison.{comparison_strict}
@@ -65,43 +65,38 @@ module _ (limit : ℕ) (p output work : List ℕ) where
   unfolding replay_from
   plain_done z y = ap (λ (w : Rewritten). w.answer.number) (written_call limit p [] output work z y)
 
-  -- what is answered and left
-  unfoldable pub Gives : Answer → List ℕ → List ℕ → Type 0
-  Gives a q v = (a ≡ call.answer) × ((q ≡ call.output) × (v ≡ call.work))
-
-  gives : (w : Rewritten) → call ≡ w → Gives w.answer w.output w.work
-  unfolding Gives
-  gives w f = (sym (ap (λ (c : Rewritten). c.answer) f), (sym (ap (λ (c : Rewritten). c.output) f), sym (ap (λ (c : Rewritten). c.work) f)))
-
-  pub gives_lent : (n : ℕ) (a : Answer) → n ≡ number → (n ≡ 0 → ⊥) → a ≡ answer_of (reached n 0 (empty_state (answer_limit limit))) → Gives a output work
-  gives_lent n a f d g =
-      let none : number ≡ 0 → ⊥ = λ q. d (f ∙ q) in
-      subst (λ (b : Answer). Gives b output work) (sym (g ∙ ap (λ (k : ℕ). answer_of (reached k 0 (empty_state (answer_limit limit)))) f))
-      (gives (refused (answer_of (reached number 0 (empty_state (answer_limit limit)))) output work) (as_plain (λ q. none (sym (plain_lent none) ∙ q)) ∙ lent_call limit p [] output work none))
+  -- refused before the program is looked at, by its run, or ordered
+  pub call_lent : (number ≡ 0 → ⊥) → call ≡ refused (answer_of (reached number 0 (empty_state (answer_limit limit)))) output work
+  call_lent d = as_plain (λ q. d (sym (plain_lent d) ∙ q)) ∙ lent_call limit p [] output work d
 
   module _ (lent : number ≡ 0) where
-    pub gives_refused : ((run_of limit p).number ≡ 0 → ⊥) → Gives (run_of limit p) output work
-    gives_refused none = gives (refused (run_of limit p) output work) (as_plain (λ q. none (sym (plain_run lent none) ∙ q)) ∙ refused_call limit p [] output work lent none)
+    pub call_refused : ((run_of limit p).number ≡ 0 → ⊥) → call ≡ refused (run_of limit p) output work
+    call_refused d = as_plain (λ q. d (sym (plain_run lent d) ∙ q)) ∙ refused_call limit p [] output work lent d
 
-    pub gives_ordered : (run_of limit p).number ≡ 0 → (q v : List ℕ) → q ≡ house_of p ++ drop (length p) output → v ≡ starts_of 0 (house_records p) ++ drop (length (house_records p)) work → Gives (run_of limit p) q v
-    unfolding Gives
-    gives_ordered y q v bytes starts =
-        let g = gives (written limit p (ended 0 0 (house_records p)) output work) (as_ordered (plain_done lent y)) in
+    pub call_ordered : (run_of limit p).number ≡ 0 → call ≡ record { answer = run_of limit p; output = house_of p ++ drop (length p) output; work = starts_of 0 (house_records p) ++ drop (length (house_records p)) work }
+    call_ordered y =
         let (t, u) = (accepts limit p).0 y in
-        let a : run_of limit p ≡ record { number = 0; place = 0; complete = (run_of limit p).complete; state = (run_of limit p).state } =
-        (λ i. record { number = y i; place = (final limit p t u).place i; complete = (run_of limit p).complete; state = (run_of limit p).state }) in
-        (a ∙ g.0, (bytes ∙ g.1.0, starts ∙ g.1.1))
+        as_ordered (plain_done lent y)
+        ∙ sym (λ i. record {
+          answer = record { number = y i; place = (final limit p t u).place i; complete = (run_of limit p).complete; state = (run_of limit p).state };
+          output = house_of p ++ drop (length p) output;
+          work = starts_of 0 (house_records p) ++ drop (length (house_records p)) work;
+        })
 
-  pub as_run : (q v : List ℕ) (a : Answer) → a ≡ run_of limit p → Gives (run_of limit p) q v → Gives a q v
-  as_run q v a e g = subst (λ (b : Answer). Gives b q v) (sym e) g
+-- an answer before the run
+pub answer_number : (n : ℕ) (s : State) → (answer_of (reached n 0 s)).number ≡ n
+unfolding answer_of
+answer_number n s = refl
 
-  -- number and place of it
-  unfoldable pub Tells : Ended → List ℕ → List ℕ → Type 0
-  Tells e q v = ((e.number ≡ call.answer.number) × (e.place ≡ call.answer.place)) × ((q ≡ call.output) × (v ≡ call.work))
+pub answer_place : (n : ℕ) (s : State) → (answer_of (reached n 0 s)).place ≡ 0
+unfolding answer_of
+answer_place n s = refl
 
-  pub tells : (q v : List ℕ) (a : Answer) → Gives a q v → (e : Ended) → e.number ≡ a.number → e.place ≡ a.place → Tells e q v
-  unfolding Gives Tells
-  tells q v a (f, g) e n z = ((n ∙ ap (λ (b : Answer). b.number) f, z ∙ ap (λ (b : Answer). b.place) f), g)
+-- what writing asks
+pub ready : (limit : ℕ) (p output work : List ℕ) → lent_no limit (length p) 0 (length output) (length work) ≡ 0 → (run_of limit p).number ≡ 0 → Sound p × (length p ≤ length output) × (length p / 2 ≤ length work)
+ready limit p output work e f = let l = enough limit (length p) 0 (length output) (length work) e in (sound_run limit p l.short f, l.room, l.entries)
+
+pub ruleset calls = (ready, call_lent, call_refused, call_ordered, answer_number, answer_place, number_some)
 
 -- ---- the parts that are lent on
 module _ (p work w : List ℕ) (n : ℕ) (sound : Sound p) (count : n ≡ length (records_of p)) (written : w ≡ starts_of 0 (records_of p) ++ drop n work) where

@@ -8,8 +8,8 @@ use lib.Dec.{eqb}
 use lib.ListN.{length, take, drop, get_or, length-append, length-take, get_or-append}
 use lib.Seq.{take_at, drop_at, get_or-take, get_or-drop}
 use borrow.Author.Tests.{eqb-true, eq-eqb, ne_eqb}
+use Rattle.std.proofs.lemmas.Bool.{and_parts}
 use Rattle.machine.specs.Machine.{Each}
-use Rattle.machine.proofs.Laws.{and_two}
 use Rattle.record.specs.Kinds.{RACK, size_of}
 use Rattle.record.specs.Format.{byte, decode_of}
 use Rattle.record.specs.Names.{is_rack}
@@ -46,7 +46,7 @@ module _ (p : List ℕ) (a : ℕ) (b : Begins p a) where
   part_in e h = let n : e - a ≡ size_of (byte p a) = omega (arith, h, size_in) in ap (λ (m : ℕ). take m (drop a p)) n
 
   pub reads : (decode_of x).number ≡ 0
-  reads = eqb-true (decode_of x).number 0 (and_two (eqb (decode_of x).number 0) (eqb (decode_of x).size (length x)) b.is_one_record).0
+  reads = eqb-true (decode_of x).number 0 (and_parts (eqb (decode_of x).number 0) (eqb (decode_of x).size (length x)) b.is_one_record).0
 
   -- its kind tells a rack
   pub rack_in : byte p a ≡ RACK → is_rack (what x) ≡ true

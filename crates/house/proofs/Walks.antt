@@ -1,5 +1,5 @@
 -- The walks over the records before one: back to the last that it is tied to, and on to the first that it comes before. Assumes nothing.
-use Prim.Native.Nat.{ℕ, suc, ◌+◌, ◌-◌, ◌≤◌, ◌<◌}
+use Prim.Native.Nat.{ℕ, suc, ◌+◌, ◌≤◌, ◌<◌}
 use mathlib.Core.Path.{◌≡◌, sym, ap, ◌∙◌}
 use mathlib.Core.Bool.{true, false, ◌||◌}
 use mathlib.Core.List.{List, [], ◌∷◌, ◌++◌}
@@ -45,26 +45,22 @@ module _ (p w : List ℕ) (j : ℕ) (r : Racking) (h : j < length w) where
   pub back_first : untied j
   back_first = ap (tied_to_one knitting comes_first r own) none_left ∙ nothing_tied knitting lawful comes_first comparison_strict r own
 
-  pub back_on : (i : ℕ) → 0 < i → i ≤ j → untied i → tied knitting r (record_of p w (i - 1)) own ≡ false → untied (i - 1)
+  pub back_on : (i : ℕ) → i < j → untied (i + 1) → tied knitting r (record_of p w i) own ≡ false → untied i
   unfolding tied_to_one
-  back_on i s k u t =
-      let e : i - 1 + 1 ≡ i = omega arith in
-      ap (tied_to_one knitting comes_first r own) (earlier_from (i - 1) (omega arith)) ∙ (λ n. t n || tied_to_one knitting comes_first r own (drop (e n) earlier)) ∙ u
+  back_on i k u t =
+      ap (tied_to_one knitting comes_first r own) (earlier_from i k) ∙ (λ n. t n || tied_to_one knitting comes_first r own (drop (i + 1) earlier)) ∙ u
 
-  pub back_tied : (i : ℕ) → 0 < i → i ≤ j → untied i → tied knitting r (record_of p w (i - 1)) own ≡ true → i ≡ tied_up_to p w j r
-  back_tied i s k u t =
-      let d = record_in p 0 in let m = i - 1 in
-      let e : suc m ≡ i = omega arith in
-      let cut : earlier ≡ take m earlier ++ record_of p w m ∷ drop i earlier =
-      split_at earlier m d (omega (arith, earlier_length)) ∙ (λ n. take m earlier ++ earlier_at m (omega arith) n ∷ drop (e n) earlier) in
-      let z : length (take m earlier) ≡ m = length-take-le m earlier (omega (arith, earlier_length)) in
-      let q = last_tied knitting lawful comes_first comparison_strict r own (take m earlier) (record_of p w m) (drop i earlier) u t in
-      let f : up_to_tied knitting comes_first r own earlier ≡ length (take m earlier) + 1 = ap (up_to_tied knitting comes_first r own) cut ∙ q in
-      omega (arith, f, z)
+  pub back_tied : (i : ℕ) → i < j → untied (i + 1) → tied knitting r (record_of p w i) own ≡ true → tied_up_to p w j r ≡ i + 1
+  back_tied i k u t =
+      let d = record_in p 0 in
+      let cut : earlier ≡ take i earlier ++ record_of p w i ∷ drop (i + 1) earlier =
+      split_at earlier i d (omega (arith, earlier_length)) ∙ (λ n. take i earlier ++ earlier_at i k n ∷ drop (sym (add-one i) n) earlier) in
+      let z : length (take i earlier) ≡ i = length-take-le i earlier (omega (arith, earlier_length)) in
+      let q = last_tied knitting lawful comes_first comparison_strict r own (take i earlier) (record_of p w i) (drop (i + 1) earlier) u t in
+      ap (up_to_tied knitting comes_first r own) cut ∙ q ∙ ap (λ (n : ℕ). n + 1) z
 
-  pub back_none : (i : ℕ) → i ≤ 0 → untied i → 0 ≡ tied_up_to p w j r
-  back_none i s u = let e : i ≡ 0 = omega arith in
-      sym (none_tied knitting lawful comes_first comparison_strict r own earlier (ap (λ (n : ℕ). tied_to_one knitting comes_first r own (drop n earlier)) (sym e) ∙ u))
+  pub back_none : untied 0 → tied_up_to p w j r ≡ 0
+  back_none u = none_tied knitting lawful comes_first comparison_strict r own earlier u
 
   -- ---- on to the first that it comes before
   abbrev on_from : ℕ → ℕ
@@ -92,3 +88,7 @@ module _ (p w : List ℕ) (j : ℕ) (r : Racking) (h : j < length w) where
 
   pub tied_small : tied_up_to p w j r ≤ j
   tied_small = omega (arith, tied_bound knitting lawful comes_first comparison_strict r own earlier, earlier_length)
+
+pub ruleset backward = (back_first, back_on, back_tied, back_none)
+
+pub ruleset forward = (on_next, on_stop, on_end)

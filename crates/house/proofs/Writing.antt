@@ -1,6 +1,6 @@
 -- The records at the starts written end to end, one after another, and their new starts. Assumes nothing.
 use Prim.Native.Nat.{ℕ, suc, ◌+◌, ◌≤◌, ◌<◌}
-use mathlib.Core.Path.{◌≡◌, refl, sym, ap, ◌∙◌}
+use mathlib.Core.Path.{◌≡◌, sym, ap, ◌∙◌}
 use mathlib.Core.List.{List, [], ◌∷◌, ◌++◌, append_assoc, append-nil}
 use native.Mathlib.Omega.{arith}
 use native.Mathlib.Numerals.{add-one}
@@ -20,9 +20,6 @@ pub record Written (p o₀ w₀ output work : List ℕ) (at i : ℕ) : Type 0 wh
   pub front : take i work ≡ take i (starts_of 0 (records_at p w₀))
   pub past : drop i work ≡ drop i w₀
 
-pub none_written : (p o₀ w₀ : List ℕ) → Written p o₀ w₀ o₀ w₀ 0 0
-none_written p o₀ w₀ = record { upto = omega arith; place = refl; bytes = refl; long = refl; front = refl; past = refl }
-
 module _ (p o₀ w₀ : List ℕ) (s : Starts p w₀) (room : length p ≤ length o₀) where
   abbrev all : List (List ℕ)
   all = records_at p w₀
@@ -37,9 +34,6 @@ module _ (p o₀ w₀ : List ℕ) (s : Starts p w₀) (room : length p ≤ lengt
   module _ (output work : List ℕ) (at i : ℕ) (o : Written p o₀ w₀ output work at i) where
     pub output_long : length output ≡ length o₀
     output_long = omega (arith, ap length o.bytes, length-append (flat (take i all)) (drop at o₀), o.place, length-drop at o₀, upto_total i, room)
-
-    pub at_small : at ≤ length p
-    at_small = omega (arith, o.place, upto_total i)
 
     module _ (h : i < length work) where
       -- the entry is not overwritten yet
@@ -107,10 +101,5 @@ module _ (p o₀ w₀ : List ℕ) (s : Starts p w₀) (room : length p ≤ lengt
 
     -- all are written
     module _ (h : length work ≤ i) where
-      pub all_bytes : output ≡ flat all ++ drop (length (flat all)) o₀
-      all_bytes =
-          let e : take i all ≡ all = take_all i all (omega (arith, all_length, o.long)) in
-          o.bytes ∙ (λ k. flat (e k) ++ drop ((o.place ∙ ap (λ (l : List (List ℕ)). length (flat l)) e) k) o₀)
-
       pub all_starts : work ≡ starts_of 0 all
       all_starts = sym (take_all i work h) ∙ o.front ∙ take_all i (starts_of 0 all) (omega (arith, starts_length 0 all, all_length, o.long))

@@ -3,12 +3,14 @@ use Rattle.std.specs.Prelude.{ℕ, ◌+◌, ◌-◌, ◌≤◌, ◌≡◌, true,
 use Rattle.machine.specs.declared.Racking.{Racking}
 use Rattle.machine.specs.Limits.{program_most}
 use Rattle.machine.specs.Machine.{Each}
-use Rattle.record.specs.Kinds.{size_of}
+use Rattle.record.specs.Kinds.{RACK, size_of}
+use Rattle.record.specs.Names.{outline_of}
 use Rattle.record.specs.Format.{byte}
 use Rattle.trace.specs.House.{up_to_tied, before_greater, spot_of}
-use Rattle.rewrite.specs.Programs.{flat, knitting}
+use Rattle.rewrite.specs.Programs.{flat, what, knitting}
 use Rattle.rewrite.specs.Laid.{is_record}
 use Rattle.house.specs.declared.Near.{Near}
+use Rattle.house.specs.declared.Mover.{Mover}
 use Rattle.house.specs.Order.{comes_first}
 
 -- the record that begins at a place
@@ -54,6 +56,9 @@ spot_at p w j r = spot_of knitting comes_first r (record_of p w j) (records_at p
 unfoldable pub moved : List ℕ → ℕ → ℕ → List ℕ
 moved w k j = take k w ++ get_or w j 0 ∷ (take (j - k) (drop k w) ++ drop (j + 1) w)
 
--- the last moved to the front
-unfoldable pub last_first : List ℕ → List ℕ
-last_first w = get_or w (length w - 1) 0 ∷ take (length w - 1) w
+-- a record that is put in order and is no rack, with its outline and the needles within its reach
+pub record Moves (p : List ℕ) (m : Mover) : Type 0 where
+  pub begins : Begins p m.at
+  pub no_rack : byte p m.at ≡ RACK → ⊥
+  pub outline : m.outline ≡ outline_of (what (record_in p m.at))
+  pub near : m.near ≡ near_to m.outline.at.1 (reach_of m.racking.0)

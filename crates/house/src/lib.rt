@@ -1,9 +1,9 @@
 // The house order: between racks, always next the least of the records that are tied to no earlier remaining one.
 #![tactic(auto)]
 
-ghost use Rattle.std.specs.Prelude.{◌≡◌, ◌++◌, ◌⊎◌, ◌+◌, ◌/◌, ◌≤◌, ◌<◌, length, drop, get_or};
+ghost use Rattle.std.specs.Prelude.{◌≡◌, ◌++◌, ◌+◌, ◌/◌, ◌≤◌, ◌<◌, length, drop, get_or};
 ghost use Rattle.record.specs.Kinds.{RACK};
-ghost use Rattle.record.specs.Format.{byte, signed_of};
+ghost use Rattle.record.specs.Format.{byte};
 ghost use Rattle.record.specs.Names.{outline_of};
 ghost use Rattle.trace.specs.Records.{tied};
 ghost use Rattle.trace.specs.House.{house_order};
@@ -12,7 +12,7 @@ ghost use Rattle.rewrite.specs.Programs.{flat, starts_of, what, knitting};
 ghost use Rattle.rewrite.specs.Rewrite.{racking_zero};
 ghost use Rattle.rewrite.specs.Laid.{Sound};
 ghost use Rattle.house.specs.Order.{comes_first, house_records, house_of, order_of};
-ghost use Rattle.house.specs.Arranged.{record_in, Begins, Starts, records_at, reach_of, near_to, tied_up_to, greater_from, spot_at, moved, last_first};
+ghost use Rattle.house.specs.Arranged.{record_in, Begins, Starts, Moves, records_at, reach_of, near_to, tied_up_to, greater_from, spot_at, moved};
 
 use machine::Racking;
 use record::{RACK, Record};
@@ -25,27 +25,23 @@ struct Near {
     high: u16,
 }
 
-// The smaller of two lengths.
-fn shorter(a: usize, b: usize) -> usize
-    ensures { (result ≤ a) × (result ≤ b) × ((result ≡ a) ⊎ (result ≡ b)) }
-{
-    if a < b { a } else { b }
+// A record that is put in order and is no rack: where it begins, its outline, the racking at it, and the needles that are
+// within reach of its own.
+#[derive(Clone, Copy)]
+struct Mover {
+    at: usize,
+    outline: Record,
+    racking: Racking,
+    near: Near,
 }
 
 // Whether the record x comes before the record y at the racking in force: the first byte in which they differ decides,
-// and if there is none, the shorter comes first. The racking is not looked at.
+// and if there is none, the shorter comes first. The racking is not looked at: the definition has it, for other orders.
+#[tactic(auto, using(crate::proofs::Comparison::compared))]
 fn comes_first(r: Racking, x: &[u8], y: &[u8]) -> bool
     ensures { result ≡ comes_first r x.now y.now }
 {
-    let n = shorter(x.len(), y.len());
-    let mut i: usize = 0;
-    while i < n {
-        if x[i] != y[i] {
-            return x[i] < y[i];
-        }
-        i += 1;
-    }
-    x.len() < y.len()
+    x < y
 }
 
 // The place in the program that entry i holds. All entries are read here.
@@ -53,15 +49,15 @@ fn place(work: &[u16], i: usize) -> usize
     requires { i < length work.now }
     ensures { result ≡ get_or work.now i 0 }
 {
-    work[i] as usize
+    usize::from(work[i])
 }
 
-// Where the record ends that begins at a place.
-fn end(program: &[u8], a: usize) -> usize
+// The bytes of the record that begins at a place.
+fn bytes_at(program: &[u8], a: usize) -> &[u8]
     requires { Begins program.now a }
-    ensures { result ≡ a + length (record_in program.now a) }
+    ensures { result.now ≡ record_in program.now a }
 {
-    a + record::size_of(program[a])
+    &program[a..a + record::size_of(program[a])]
 }
 
 // The outline of the record that begins at a place and is no rack.
@@ -69,11 +65,11 @@ fn outline_at(program: &[u8], a: usize) -> Record
     requires { (Begins program.now a) × (byte program.now a ≡ RACK → ⊥) }
     ensures { result ≡ outline_of (what (record_in program.now a)) }
 {
-    let e = end(program, a);
-    record::outline(&program[a..e])
+    record::outline(bytes_at(program, a))
 }
 
 // Whether the extents of the records at two places, which are no racks, meet.
+#[tactic(auto, using(rewrite::proofs::Extents::outline_extent))]
 fn meet_at(program: &[u8], a: usize, b: usize, r: Racking) -> bool
     requires { (Begins program.now a) × (byte program.now a ≡ RACK → ⊥) × (Begins program.now b) × (byte program.now b ≡ RACK → ⊥) }
     ensures { result ≡ meets (extent_of r (what (record_in program.now a))) (extent_of r (what (record_in program.now b))) }
@@ -82,46 +78,53 @@ fn meet_at(program: &[u8], a: usize, b: usize, r: Racking) -> bool
     e.meets(rewrite::extent_of(outline_at(program, b), r))
 }
 
-// How far the numbers of needles in neighbouring columns can be apart at a racking byte.
-fn reach(b: u8) -> u16
-    ensures { (result ≡ reach_of (signed_of b)) × (result ≤ 129) }
+// The needles that are within reach of a number: in neighbouring columns numbers can be so far apart at a racking.
+fn within(n: u16, r: Racking) -> Near
+    requires { n ≤ 249 }
+    ensures { result ≡ near_to n (reach_of r.0) }
 {
-    let n = b as u16;
-    if n < 128 { n + 1 } else { 257 - n }
+    let reach = u16::from(r.0.unsigned_abs()) + 1;
+    Near {
+        low: n.saturating_sub(reach),
+        high: n + reach,
+    }
 }
 
-// The needles that are within reach of a number.
-fn within(n: u16, reach: u16) -> Near
-    requires { (n ≤ 249) × (reach ≤ 129) }
-    ensures { result ≡ near_to n reach }
-{
-    let low = if n < reach { 0 } else { n - reach };
-    let high = n + reach;
-    Near { low, high }
+impl Mover {
+    // The record at a place, which is no rack.
+    fn new(program: &[u8], at: usize, racking: Racking) -> Mover
+        requires { (Begins program.now at) × (byte program.now at ≡ RACK → ⊥) }
+        ensures { (Moves program.now result) × (result.at ≡ at) × (result.racking ≡ racking) }
+    {
+        let outline = outline_at(program, at);
+        let n = outline.at;
+        Mover {
+            at,
+            outline,
+            racking,
+            near: within(n.1, racking),
+        }
+    }
 }
 
-// Whether the record at a is tied to the one at b, which is no rack and whose outline is x. (Most name one carrier, which
-// is another, and lie out of reach: that is seen by two of their bytes. `meet_at` is called once: the compiler then puts it
-// into the loop of `behind`.)
-fn tied_to(program: &[u8], a: usize, b: usize, x: Record, near: Near, r: Racking) -> bool
-    requires { (Begins program.now a) × (Begins program.now b) × (byte program.now b ≡ RACK → ⊥)
-        × (x ≡ outline_of (what (record_in program.now b))) × (near ≡ near_to x.at.1 (reach_of r.0)) }
-    ensures { result ≡ tied knitting r (record_in program.now a) (record_in program.now b) }
+// Whether the record at a is tied to the one that is put in order. (Most name one carrier, which is another, and lie out of
+// reach: that is seen by two of their bytes. `meet_at` is called once: the compiler then puts it into the loop of `behind`.)
+#[tactic(auto, using(crate::proofs::Ties::looks))]
+fn tied_to(program: &[u8], a: usize, own: Mover) -> bool
+    requires { (Begins program.now a) × (Moves program.now own) }
+    ensures { result ≡ tied knitting own.racking (record_in program.now a) (record_in program.now own.at) }
 {
+    let x = own.outline;
+    let r = own.racking;
+    let near = own.near;
     let kind = program[a];
     if record::carriers_named(kind) == 1 {
         let k = program[a + 4];
-        if k == x.carrier {
+        if k == x.carrier || k == x.second {
             return true;
         }
-        if k == x.second {
-            return true;
-        }
-        let m = program[a + 3] as u16;
-        if m < near.low {
-            return false;
-        }
-        if near.high < m {
+        let m = u16::from(program[a + 3]);
+        if m < near.low || near.high < m {
             return false;
         }
     } else {
@@ -138,75 +141,51 @@ fn tied_to(program: &[u8], a: usize, b: usize, x: Record, near: Near, r: Racking
             return false;
         }
     }
-    meet_at(program, a, b, r)
+    meet_at(program, a, own.at, r)
 }
 
-// How many of the records before j there are up to the last one that record j, which is no rack, is tied to.
-fn behind(program: &[u8], work: &[u16], j: usize, r: Racking, reach: u16) -> usize
-    requires { (Starts program.now work.now) × (j < length work.now) × (byte program.now (get_or work.now j 0) ≡ RACK → ⊥)
-        × (reach ≡ reach_of r.0) × (reach ≤ 129) }
-    ensures { result ≡ tied_up_to program.now work.now j r }
+// How many of the records before j there are up to the last one that record j is tied to.
+#[tactic(auto, using(crate::proofs::Walks::backward))]
+fn behind(program: &[u8], work: &[u16], j: usize, own: Mover) -> usize
+    requires { (Starts program.now work.now) × (j < length work.now) × (Moves program.now own) × (own.at ≡ get_or work.now j 0) }
+    ensures { result ≡ tied_up_to program.now work.now j own.racking }
 {
-    let b = place(work, j);
-    let x = outline_at(program, b);
-    let n = x.at;
-    let near = within(n.1, reach);
-    let mut i = j;
-    while 0 < i {
-        if tied_to(program, place(work, i - 1), b, x, near, r) {
-            return i;
+    for i in (0..j).rev() {
+        if tied_to(program, place(work, i), own) {
+            return i + 1;
         }
-        i -= 1;
     }
     0
 }
 
 // The first from i on, of the records before j, that record j comes before; j if there is none.
+#[tactic(auto, using(crate::proofs::Walks::forward))]
 fn before(program: &[u8], work: &[u16], i: usize, j: usize, r: Racking) -> usize
     requires { (Starts program.now work.now) × (i ≤ j) × (j < length work.now) }
     ensures { (result ≡ greater_from program.now work.now i j r) × (result ≤ j) }
 {
-    let a = place(work, j);
-    let e = end(program, a);
-    let mut k = i;
-    while k < j {
-        let b = place(work, k);
-        let f = end(program, b);
-        if comes_first(r, &program[a..e], &program[b..f]) {
+    let own = bytes_at(program, place(work, j));
+    for k in i..j {
+        if comes_first(r, own, bytes_at(program, place(work, k))) {
             return k;
         }
-        k += 1;
     }
     j
 }
 
-// Moves the last entry of a part to its front.
-fn last_first(part: &mut [u16])
-    requires { 0 < length part.old }
-    ensures { part.new ≡ last_first part.old }
-{
-    let mut i = part.len() - 1;
-    let a = part[i];
-    while 0 < i {
-        part[i] = part[i - 1];
-        i -= 1;
-    }
-    part[0] = a;
-}
-
 // Puts record j, which is no rack, behind the last one that it is tied to, before the first there that it comes before.
-fn settle(program: &[u8], work: &mut [u16], j: usize, r: Racking, reach: u16)
-    requires { (Starts program.now work.old) × (j < length work.old) × (byte program.now (get_or work.old j 0) ≡ RACK → ⊥)
-        × (reach ≡ reach_of r.0) × (reach ≤ 129) }
+#[tactic(auto, using(crate::proofs::Settling::settling))]
+fn settle(program: &[u8], work: &mut [u16], j: usize, r: Racking)
+    requires { (Starts program.now work.old) × (j < length work.old) × (byte program.now (get_or work.old j 0) ≡ RACK → ⊥) }
     ensures { work.new ≡ moved work.old (spot_at program.now work.old j r) j }
 {
-    let i = behind(program, work, j, r, reach);
+    let own = Mover::new(program, place(work, j), r);
+    let i = behind(program, work, j, own);
     if i == j {
         return;
     }
     let k = before(program, work, i, j, r);
-    let n = j + 1;
-    last_first(&mut work[k..n]);
+    work[k..j + 1].rotate_right(1);
 }
 
 // Puts the starts in house order.
@@ -215,16 +194,14 @@ fn arrange(program: &[u8], work: &mut [u16])
     ensures { (Starts program.now work.new)
         × (records_at program.now work.new ≡ house_order knitting comes_first racking_zero (records_at program.now work.old)) }
 {
-    let mut b: u8 = 0;
-    let mut j: usize = 0;
-    while j < work.len() {
+    let mut r = Racking(0);
+    for j in 0..work.len() {
         let a = place(work, j);
         if program[a] == RACK {
-            b = program[a + 1];
+            r = Racking(record::signed(program[a + 1]));
         } else {
-            settle(program, work, j, Racking(record::signed(b)), reach(b));
+            settle(program, work, j, r);
         }
-        j += 1;
     }
 }
 
@@ -235,15 +212,13 @@ fn lay(program: &[u8], output: &mut [u8], work: &mut [u16])
     ensures starts { work.new ≡ starts_of 0 (records_at program.now work.old) }
 {
     let mut at: usize = 0;
-    let mut i: usize = 0;
-    while i < work.len() {
+    for i in 0..work.len() {
         let a = place(work, i);
-        let e = end(program, a);
-        let next = at + (e - a);
-        output[at..next].copy_from_slice(&program[a..e]);
+        let bytes = bytes_at(program, a);
+        let next = at + bytes.len();
+        output[at..next].copy_from_slice(bytes);
         work[i] = at as u16;
         at = next;
-        i += 1;
     }
 }
 
@@ -259,15 +234,16 @@ fn write_order(program: &[u8], output: &mut [u8], work: &mut [u16])
     lay(program, output, &mut work[..count]);
 }
 
-// Runs the program and writes its house order. A refused call writes nothing.
+// Runs the program and writes its house order. A refused call writes nothing. (`outcome` is this without a state: one function for
+// both would take three closures.)
+#[tactic(auto, using(crate::proofs::Ordering::calls))]
 pub fn order(limit: u8, program: &[u8], output: &mut [u8], work: &mut [u16]) -> Answer
     ensures answer { result ≡ (order_of limit program.now output.old work.old).answer }
     ensures bytes { output.new ≡ (order_of limit program.now output.old work.old).output }
     ensures starts { work.new ≡ (order_of limit program.now output.old work.old).work }
 {
-    let number = rewrite::lent(limit, program.len(), 0, output.len(), work.len());
-    if number != 0 {
-        return run::refused(number, limit);
+    if let Err(why) = rewrite::lent(limit, program.len(), 0, output.len(), work.len()) {
+        return run::refused(why.number(), limit);
     }
     let a = run::run(limit, program);
     if a.number != 0 {
@@ -278,15 +254,15 @@ pub fn order(limit: u8, program: &[u8], output: &mut [u8], work: &mut [u16]) -> 
 }
 
 // The same with number and place alone, as the C entries want it: the state is not looked at.
+#[tactic(auto, using(crate::proofs::Ordering::calls))]
 pub fn outcome(limit: u8, program: &[u8], output: &mut [u8], work: &mut [u16]) -> Ended
     ensures answer { (result.number ≡ (order_of limit program.now output.old work.old).answer.number)
         × (result.place ≡ (order_of limit program.now output.old work.old).answer.place) }
     ensures bytes { output.new ≡ (order_of limit program.now output.old work.old).output }
     ensures starts { work.new ≡ (order_of limit program.now output.old work.old).work }
 {
-    let number = rewrite::lent(limit, program.len(), 0, output.len(), work.len());
-    if number != 0 {
-        return run::end_at(number, 0);
+    if let Err(why) = rewrite::lent(limit, program.len(), 0, output.len(), work.len()) {
+        return run::end_at(why.number(), 0);
     }
     let e = run::outcome(limit, program);
     if e.number != 0 {

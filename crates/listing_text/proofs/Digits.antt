@@ -1,22 +1,32 @@
--- The digits of a number: none, one, or those of a tenth and one more. Assumes nothing.
-use Prim.Native.Nat.{ℕ, zero, suc, ◌+◌, ◌-◌, ◌/◌, ◌%◌, ◌≤◌, ◌<◌}
-use mathlib.Core.Path.{◌≡◌, refl}
-use mathlib.Core.List.{[], ◌∷◌, ◌++◌}
+-- The digits that std and this crate speak of are the same. Assumes nothing.
+use Prim.Native.Nat.{ℕ, suc, ◌^◌, ◌<◌}
+use mathlib.Core.Path.{◌≡◌, sym, ap, ◌∙◌}
+use mathlib.Core.List.{List, ◌∷◌}
 use native.Mathlib.Omega.{arith}
+use lib.IntN.{ℤ, pos, negsuc}
+use lib.Signed.{mag}
 use borrow.Author.Tests.{lt-ltb, le-ltb}
-use Rattle.listing_text.specs.Text.{digits_of}
+use Rattle.std.specs.Fmt.{decimal, signed_decimal}
+use Rattle.std.proofs.lemmas.Fmt.{decimal_from_appends, AppendsLastDigit, length-decimal-le}
+use Rattle.listing_text.specs.declared.text.Text.{Text}
+use Rattle.listing_text.specs.Adds.{Adds}
+use Rattle.listing_text.specs.Text.{digits_of, figures, signed}
+use Rattle.listing_text.proofs.Adds.{like}
 
-pub none : (k n : ℕ) → k ≡ 0 → [] ≡ digits_of k n
+appends : AppendsLastDigit digits_of
 unfolding digits_of
-none zero n e = refl
-none (suc k) n e = absurd (omega arith)
+appends = record { one = λ k n h. simp (lt-ltb n 10 h); more = λ k n h. simp (le-ltb n 10 h) }
 
-pub low : (k n : ℕ) → (k ≡ 0 → ⊥) → n < 10 → (48 + n) ∷ [] ≡ digits_of k n
-unfolding digits_of
-low zero n e h = absurd (e refl)
-low (suc k) n e h = simp (lt-ltb n 10 h)
+same_figures : (n : ℕ) → n < 2 ^ 64 → decimal n ≡ figures n
+same_figures n h = sym (decimal_from_appends digits_of appends 20 n h (length-decimal-le 20 n (omega arith) (omega arith) h))
 
-pub high : (k n : ℕ) → (k ≡ 0 → ⊥) → 10 ≤ n → digits_of (k - 1) (n / 10) ++ ((48 + n % 10) ∷ []) ≡ digits_of k n
-unfolding digits_of
-high zero n e h = absurd (e refl)
-high (suc k) n e h = let p : suc k - 1 ≡ k = omega arith in simp (le-ltb n 10 h, p)
+same_signed : (z : ℤ) → mag z < 2 ^ 63 → signed_decimal z ≡ signed z
+same_signed (pos n) h = same_figures n (omega arith)
+same_signed (negsuc n) h = ap (λ (l : List ℕ). 45 ∷ l) (same_figures (suc n) (omega arith))
+
+module _ {old new : Text} where
+  pub number : {n : ℕ} → n < 2 ^ 64 → Adds old (decimal n) new → Adds old (figures n) new
+  number {n} h a = like (same_figures n h) a
+
+  pub whole : (z : ℤ) {y : ℤ} → y ≡ z → mag z < 2 ^ 63 → Adds old (signed_decimal y) new → Adds old (signed z) new
+  whole z e h a = like (ap signed_decimal e ∙ same_signed z h) a

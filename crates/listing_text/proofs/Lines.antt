@@ -1,15 +1,15 @@
 -- A text that grows by lines, one thing after another. Assumes nothing.
-use Prim.Native.Nat.{ℕ, zero, suc, ◌+◌, ◌≤◌, ◌<◌}
+use Prim.Native.Nat.{ℕ, zero, suc, ◌+◌, ◌<◌}
 use mathlib.Core.Path.{◌≡◌, sym, ap, ◌∙◌}
 use mathlib.Core.List.{List, [], ◌∷◌, ◌++◌, append_assoc, append-nil}
 use native.Mathlib.Omega.{arith}
 use native.Mathlib.Nat.{not-suc-le-zero, le_of_suc-le-suc}
 use native.Mathlib.Numerals.{add-one}
 use lib.ListN.{length, take, get_or}
-use lib.Seq.{take_all}
-use Rattle.listing_text.specs.Grown.{Grown}
+use Rattle.listing_text.specs.declared.text.Text.{Text}
+use Rattle.listing_text.specs.Adds.{Adds}
 use Rattle.listing_text.specs.Text.{lines}
-use Rattle.listing_text.proofs.Grow.{then, like}
+use Rattle.listing_text.proofs.Adds.{then, like}
 
 module _ {A : Type 0} (f : ℕ → A → List ℕ) (d : A) where
   after : (k : ℕ) (l : List A) (i : ℕ) → i < length l → lines f k (take i l) ++ f (k + i) (get_or l i d) ≡ lines f k (take (suc i) l)
@@ -22,12 +22,8 @@ module _ {A : Type 0} (f : ℕ → A → List ℕ) (d : A) where
       ∙ ap (λ (n : ℕ). f k x ++ (lines f (suc k) (take i l) ++ f n (get_or l i d))) e
       ∙ ap (λ (z : List ℕ). f k x ++ z) (after (suc k) l i (le_of_suc-le-suc h))
 
-  module _ (k : ℕ) (l : List A) {old new : List ℕ} {at r : ℕ} where
-    -- the line of thing i, which is counted as n
-    pub one_more : {mid : List ℕ} {m : ℕ} (i n : ℕ) → n ≡ k + i → i < length l → Grown old at (lines f k (take i l)) mid m → Grown mid m (f n (get_or l i d)) new r
-        → Grown old at (lines f k (take (i + 1) l)) new r
-    one_more i n e h g s =
-        like (ap (λ (j : ℕ). lines f k (take i l) ++ f j (get_or l i d)) e ∙ after k l i h ∙ ap (λ (j : ℕ). lines f k (take j l)) (sym (add-one i))) (then g s)
-
-    pub all_lines : (i : ℕ) → length l ≤ i → Grown old at (lines f k (take i l)) new r → Grown old at (lines f k l) new r
-    all_lines i h g = like (ap (lines f k) (take_all i l h)) g
+  -- the line of thing i, which is counted as n
+  pub one_more : (k : ℕ) (l : List A) {old mid new : Text} (i n : ℕ) → n ≡ k + i → i < length l → Adds old (lines f k (take i l)) mid → Adds mid (f n (get_or l i d)) new
+      → Adds old (lines f k (take (i + 1) l)) new
+  one_more k l i n e h g s =
+      like (ap (λ (j : ℕ). lines f k (take i l) ++ f j (get_or l i d)) e ∙ after k l i h ∙ ap (λ (j : ℕ). lines f k (take j l)) (sym (add-one i))) (then g s)

@@ -11,7 +11,7 @@ use borrow.Table.Steps.{cases}
 use Rattle.machine.specs.Machine.{empty_state, complete_of, all, inactive_carrier, moved_to, attached_at, same_needle, Each}
 use Rattle.machine.specs.Limits.{limit_most}
 use Rattle.machine.specs.Range.{LimitInRange}
-use Rattle.machine.proofs.Laws.{and_two}
+use Rattle.std.proofs.lemmas.Bool.{and_parts}
 use Rattle.machine.specs.Geometry.{eq_z, column_of, entry_of, exit_of, same_column, within_float}
 use Rattle.machine.specs.Stretch.{slot_beside, distance_of, stretches}
 use Rattle.record.specs.Kinds.{by_kind}
@@ -55,8 +55,8 @@ every output work (r ∷ l) = test output work r && every output work l
 each : (l : List Listing) → ((output work : List ℕ) → every output work l ≡ true) → Each Printed l
 each [] e = tt
 each (r ∷ l) e = (
-  test_says r (λ output work. (and_two (test output work r) (every output work l) (e output work)).0),
-  each l (λ output work. (and_two (test output work r) (every output work l) (e output work)).1),
+  test_says r (λ output work. (and_parts (test output work r) (every output work l) (e output work)).0),
+  each l (λ output work. (and_parts (test output work r) (every output work l) (e output work)).1),
 )
 
 computed : (output work : List ℕ) → every output work listings ≡ true

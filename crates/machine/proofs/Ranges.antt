@@ -9,6 +9,7 @@ use lib.IntN.{ℤ, pos, negsuc, ◌+ℤ◌, nat_abs}
 use lib.Dec.{eqb, leb}
 use lib.ListN.{get_or, set, replicate}
 use borrow.Author.Tests.{ne_eqb, eqb-true, eqb-false, leb-true, le-leb, not-true}
+use Rattle.std.proofs.lemmas.Bool.{and_parts}
 use Rattle.machine.specs.declared.Needle.{Needle}
 use Rattle.machine.specs.declared.Racking.{Racking}
 use Rattle.machine.specs.declared.Slot.{Slot}
@@ -17,7 +18,7 @@ use Rattle.machine.specs.Geometry.{eq_z, column_of, entry_of, exit_of}
 use Rattle.machine.specs.Machine.{OnBed, all, attached_at, moved_to, same_needle, inactive, inactive_carrier, empty_state}
 use Rattle.machine.specs.Range.{SlotInRange, CarrierInRange, LimitInRange, StateInRange, slot_ok, racking_ok, limit_ok, number_ok, on_bed, attachment_ok, carrier_ok, state_ok, LimitExactly, RangeExactly}
 use Rattle.machine.proofs.Signed.{up, dn, sum}
-use Rattle.machine.proofs.Laws.{and_two, inactive_is}
+use Rattle.machine.proofs.Laws.{inactive_is}
 
 -- ---- what holds of every element of a list, and past its end
 module _ {A : Type 0} (P : A → Type 0) (d : A) where
@@ -47,8 +48,8 @@ module _ {A : Type 0} (P : A → Type 0) (d : A) where
     all_every : ((x : A) → p x ≡ true → P x) → P d → (l : List A) → all p l ≡ true → Every l
     unfolding all
     all_every k h [] e i = h
-    all_every k h (x ∷ l) e zero = k x (and_two (p x) (all p l) e).0
-    all_every k h (x ∷ l) e (suc i) = all_every k h l (and_two (p x) (all p l) e).1 i
+    all_every k h (x ∷ l) e zero = k x (and_parts (p x) (all p l) e).0
+    all_every k h (x ∷ l) e (suc i) = all_every k h l (and_parts (p x) (all p l) e).1 i
 
     every_all : ((x : A) → P x → p x ≡ true) → (l : List A) → Every l → all p l ≡ true
     unfolding all
@@ -112,24 +113,24 @@ module _ (n : Needle) (r : Racking) (b : OnBed n) (k : nat_abs r.0 ≤ 8) where
 -- ---- needles and carriers
 pub bed_is : (n : Needle) → on_bed n ≡ true → OnBed n
 bed_is n e =
-    let (a, b) = and_two (leb n.0 1) (number_ok n.1) e in
+    let (a, b) = and_parts (leb n.0 1) (number_ok n.1) e in
     record { bed = omega (arith, leb-true n.0 1 a); number = omega (arith, leb-true n.1 249 b) }
 
 pub bed_ok : (n : Needle) → OnBed n → on_bed n ≡ true
 bed_ok n b = simp (le-leb n.0 1 (omega (arith, b.bed)), le-leb n.1 249 (omega (arith, b.number)))
 
 no_needle_lem : (a b : ℕ) → (eqb a 0 && eqb b 0) ≡ true → ◌≡◌ {A = Needle} (record { 0 = a; 1 = b }) (record { 0 = 0; 1 = 0 })
-no_needle_lem a b e = let (p, q) = and_two (eqb a 0) (eqb b 0) e in simp (eqb-true a 0 p, eqb-true b 0 q)
+no_needle_lem a b e = let (p, q) = and_parts (eqb a 0) (eqb b 0) e in simp (eqb-true a 0 p, eqb-true b 0 q)
 
 carrier_is : (c : Carrier) → carrier_ok c ≡ true → CarrierInRange c
 unfolding carrier_ok attachment_ok
 carrier_is c e =
     cases (eqb c.active 0) (λ t. CarrierInRange.idle (inactive_is c (simp t at e)))
-    (λ t. let (a, f) = and_two (eqb c.active 1) _ (simp t at e) in
-    let (z, g) = and_two (slot_ok c.slot.0) _ f in
+    (λ t. let (a, f) = and_parts (eqb c.active 1) _ (simp t at e) in
+    let (z, g) = and_parts (slot_ok c.slot.0) _ f in
     cases (eqb c.side 0)
     (λ u. CarrierInRange.unattached (eqb-true c.active 1 a) (slot_is c.slot.0 z) (eqb-true c.side 0 u) (no_needle_lem c.needle.0 c.needle.1 (simp u at g)))
-    (λ u. let (m, n) = and_two (leb c.side 2) _ (simp u at g) in
+    (λ u. let (m, n) = and_parts (leb c.side 2) _ (simp u at g) in
     CarrierInRange.attached (eqb-true c.active 1 a) (slot_is c.slot.0 z) (omega (arith, eqb-false c.side 0 u)) (leb-true c.side 2 m) (bed_is c.needle n)))
 
 carrier_ok_lem : (c : Carrier) → CarrierInRange c → carrier_ok c ≡ true
@@ -152,13 +153,13 @@ pub moved_in : (from to : Needle) → OnBed to → (c : Carrier) → CarrierInRa
 unfolding moved_to attached_at
 moved_in from to b c k =
     cases (attached_at from c)
-    (λ t. simp t (moved to c b (eqb-false c.side 0 (not-true (eqb c.side 0) (and_two (not (eqb c.side 0)) (same_needle c.needle from) t).0)) k))
+    (λ t. simp t (moved to c b (eqb-false c.side 0 (not-true (eqb c.side 0) (and_parts (not (eqb c.side 0)) (same_needle c.needle from) t).0)) k))
     (λ t. simp t k)
 
 -- ---- limits and states
 pub limit_exactly : LimitExactly
 limit_exactly n =
-    (λ e. let (a, b) = and_two (leb 1 n) (leb n 8) e in record { least = leb-true 1 n a; most = leb-true n 8 b }, λ h. simp (le-leb 1 n h.least, le-leb n 8 h.most))
+    (λ e. let (a, b) = and_parts (leb 1 n) (leb n 8) e in record { least = leb-true 1 n a; most = leb-true n 8 b }, λ h. simp (le-leb 1 n h.least, le-leb n 8 h.most))
 
 -- a limit is in range or it is not, and the test says which
 pub limit_cases : (n : ℕ) {G : Type 0} → (LimitInRange n → G) → ((LimitInRange n → ⊥) → G) → G
@@ -173,9 +174,9 @@ range_exactly s = (is, ok)
   where
     is : state_ok s ≡ true → StateInRange s
     is e =
-        let (r, f) = and_two (racking_ok s.racking.0) _ e in
-        let (m, g) = and_two (limit_ok s.limit) _ f in
-        let (l, k) = and_two (all (λ (n : ℕ). leb n s.limit) s.loops) (all carrier_ok s.carriers) g in
+        let (r, f) = and_parts (racking_ok s.racking.0) _ e in
+        let (m, g) = and_parts (limit_ok s.limit) _ f in
+        let (l, k) = and_parts (all (λ (n : ℕ). leb n s.limit) s.loops) (all carrier_ok s.carriers) g in
         record {
           racking = leb-true (nat_abs s.racking.0) 8 r;
           limit = (limit_exactly s.limit).0 m;

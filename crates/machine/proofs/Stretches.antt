@@ -5,14 +5,14 @@ use mathlib.Core.Path.{◌≡◌, refl, sym, ap, subst, ◌∙◌}
 use mathlib.Core.Bool.{true, false, not, and-false, true≢false, false≢true}
 use mathlib.Core.List.{List, [], ◌∷◌}
 use native.Mathlib.Omega.{arith}
-use lib.IntN.{ℤ, pos, negsuc, ◌-ℤ◌, nat_abs}
-use lib.Signed.{lt_z, mag, non_neg}
-use lib.Dec.{T, eqb, ltb}
+use lib.IntN.{ℤ, ◌-ℤ◌, nat_abs}
+use lib.Signed.{mag}
+use lib.Dec.{eqb, ltb}
 use lib.ListN.{get_or}
-use borrow.Author.Tests.{eq-eqb, eqb-true, not-false, lt-ltb, le-ltb, ltb-true, ltb-false}
-use mir.Syntax.{w8, w16, w32}
-use mir.Val.{Fits, SFits, to_z, of_z}
-use mir.Facts.{to_z-of_z}
+use borrow.Author.Tests.{eq-eqb, eqb-true, not-false, le-ltb}
+use mir.Syntax.{w8}
+use mir.Val.{of_z}
+use Rattle.std.proofs.lemmas.Bool.{and_parts}
 use Rattle.machine.specs.declared.FarSlot.{FarSlot}
 use Rattle.machine.specs.declared.Racking.{Racking}
 use Rattle.machine.specs.declared.Carrier.{Carrier}
@@ -21,69 +21,7 @@ use Rattle.machine.specs.Geometry.{column_of}
 use Rattle.machine.specs.Machine.{inactive, all}
 use Rattle.machine.specs.Stretch.{slot_beside, attachment_slot, SlotsExactly, DistanceExactly, distance_of, stretches, any_stretched}
 use Rattle.machine.specs.Looks.{any_back, carried_off}
-use Rattle.machine.proofs.Signed.{eq_z_true, mag_difference, is_bits, back, fits_difference, cast_back, below, not_below, abs_mag, apart_by}
-use Rattle.machine.proofs.Laws.{and_two}
-
--- over 20 without the sign is below −20 or above 20
-below_left : (y : ℤ) → lt_z y (negsuc 19) ≡ true → ltb stretch_most (nat_abs y) ≡ true
-below_left (pos n) t = absurd (false≢true t)
-below_left (negsuc n) t = lt-ltb 20 (suc n) (omega (arith, ltb-true 19 n t))
-
-not_left : (y : ℤ) → lt_z y (negsuc 19) ≡ false → lt_z (pos 20) y ≡ ltb stretch_most (nat_abs y)
-not_left (pos n) t = refl
-not_left (negsuc n) t = sym (le-ltb 20 (suc n) (omega (arith, ltb-false 19 n t)))
-
--- the difference of a slot in 32 bits and one in 16, as code reads it back, and that number without its sign
-module _ (a b : ℤ) (h : mag a < 66000) (k : mag b < 32768) where
-  abbrev parked : ℤ
-  parked = to_z w32 (of_z w32 (to_z w16 (of_z w16 b)))
-
-  abbrev pub span : ℤ
-  span = to_z w32 (of_z w32 (to_z w32 (of_z w32 a) -ℤ parked))
-
-  parked_is : parked ≡ b
-  parked_is = cast_back w16 w32 b k (omega arith)
-
-  pub span_fits : SFits w32 (to_z w32 (of_z w32 a) -ℤ parked)
-  span_fits = simp (back w32 a (omega arith), parked_is) (fits_difference w32 a b (omega arith))
-
-  span_is : span ≡ a -ℤ b
-  span_is = to_z-of_z span_fits ∙ simp (back w32 a (omega arith), parked_is)
-
-  abbrev pub turned : ℤ
-  turned = to_z w32 (of_z w32 (pos 0 -ℤ span))
-
-  reach : mag span < 100000
-  reach = subst (λ (y : ℤ). mag y < 100000) (sym span_is) (omega (arith, mag_difference a b))
-
-  pub turned_fits : SFits w32 (pos 0 -ℤ span)
-  turned_fits = fits_difference w32 (pos 0) span (omega (arith, reach))
-
-  turned_is : turned ≡ pos 0 -ℤ span
-  turned_is = to_z-of_z turned_fits
-
-  abbrev Unsigned : ℤ → Type 0
-  Unsigned y = T (non_neg y) × Fits w32 (nat_abs y)
-
-  pub turned_unsigned : lt_z span (pos 0) ≡ true → Unsigned turned
-  turned_unsigned t =
-      let (p, q) = below span t in subst Unsigned (sym turned_is) (p, record { fits = omega (arith, q, abs_mag span, reach) })
-
-  pub turned_distance : lt_z span (pos 0) ≡ true → nat_abs turned ≡ nat_abs (a -ℤ b)
-  turned_distance t = ap nat_abs turned_is ∙ (below span t).1 ∙ ap nat_abs span_is
-
-  pub span_unsigned : lt_z span (pos 0) ≡ false → Unsigned span
-  span_unsigned t = (not_below span t, record { fits = omega (arith, abs_mag span, reach) })
-
-  -- over 20 to the left; not so, to the right
-  pub far_left : lt_z span (negsuc 19) ≡ true → ltb stretch_most (nat_abs (a -ℤ b)) ≡ true
-  far_left t = subst (λ (y : ℤ). ltb stretch_most (nat_abs y) ≡ true) span_is (below_left span t)
-
-  pub far_right : lt_z span (negsuc 19) ≡ false → lt_z (pos 20) span ≡ ltb stretch_most (nat_abs (a -ℤ b))
-  far_right t = subst (λ (y : ℤ). lt_z (pos 20) span ≡ ltb stretch_most (nat_abs y)) span_is (not_left span t)
-
-  pub span_distance : nat_abs span ≡ nat_abs (a -ℤ b)
-  span_distance = ap nat_abs span_is
+use Rattle.machine.proofs.Signed.{eq_z_true, is_bits, apart_by}
 
 -- the slots are 02's
 pub slots_exactly : SlotsExactly
@@ -123,6 +61,14 @@ module _ (r z : Racking) (c : Carrier) where
   unfolding stretches
   far_stretched e = simp e
 
+  -- the same from the slot that code got
+  module _ (y : FarSlot) where
+    pub looked_near : y.0 ≡ (attachment_slot z c).0 → ltb stretch_most (nat_abs (y.0 -ℤ c.slot.0)) ≡ false → stretches r z c ≡ false
+    looked_near e t = near_unstretched (ap (ltb stretch_most) (sym (distance_is z c y e)) ∙ t)
+
+    pub looked_far : y.0 ≡ (attachment_slot z c).0 → ltb stretch_most (nat_abs (y.0 -ℤ c.slot.0)) ≡ true → stretches r z c ≡ carried_off r z c
+    looked_far e t = far_stretched (ap (ltb stretch_most) (sym (distance_is z c y e)) ∙ t)
+
 -- ---- a list of them
 -- to the same racking, and where no carrier names a back needle, none is stretched
 none_at_all : (r : Racking) (l : List Carrier) → any_stretched r r l ≡ false
@@ -139,7 +85,7 @@ pub no_back_unstretched : (r z : Racking) (l : List Carrier) → any_back l ≡ 
 unfolding all
 no_back_unstretched r z [] e = refl
 no_back_unstretched r z (c ∷ l) e =
-    let (a, t) = and_two (eqb c.needle.0 0) _ (not-false _ e) in
+    let (a, t) = and_parts (eqb c.needle.0 0) _ (not-false _ e) in
     simp (front_unstretched r z c (eqb-true c.needle.0 0 a), no_back_unstretched r z l (ap not t))
 
 -- whether one of a list is stretched, by the places in it; past the last there is an inactive carrier

@@ -1,12 +1,11 @@
 -- The walk over the hooks: what it knows on its way, and that it answers as 02 says and in no other way. Assumes nothing.
-use Prim.Native.Nat.{ℕ, suc, ◌+◌, ◌≤◌, ◌<◌}
+use Prim.Native.Nat.{ℕ, zero, suc, ◌+◌, ◌≤◌, ◌<◌}
 use mathlib.Core.Path.{◌≡◌, refl, sym, ap, subst, ◌∙◌}
 use mathlib.Core.Bool.{Bool, true, false, cond}
 use mathlib.Core.List.{List, [], ◌∷◌, ◌++◌}
 use native.Mathlib.Omega.{arith}
 use lib.IntN.{pos}
-use lib.ListN.{length, drop, get_or}
-use lib.Seq.{drop-cons, drop-length}
+use lib.ListN.{length, get_or}
 use lib.Dec.{eqb}
 use borrow.Author.Tests.{eq-eqb, ne_eqb, eqb-true, eqb-false}
 use borrow.Table.Steps.{cases}
@@ -16,6 +15,8 @@ use Rattle.machine.specs.Geometry.{eq_z}
 use Rattle.machine.specs.Machine.{all, Each, no_loops}
 use Rattle.machine.specs.Walk.{Walks, looked_at, walk_of, hooks_looked, WalkExactly}
 use Rattle.machine.specs.Looks.{beds_walk}
+use Rattle.std.specs.Ordering.{int_eq}
+use Rattle.machine.proofs.Signed.{int_eq_is}
 
 walked_as : {a b : Bool} {n m : ℕ} → a ≡ b → n ≡ m → ◌≡◌ {A = Walked} (record { none = a; looked = n }) (record { none = b; looked = m })
 walked_as e f = λ i. record { none = e i; looked = f i }
@@ -46,45 +47,50 @@ found_behind (m ∷ l) n after h d =
     let p = passed m (l ++ n ∷ after) h.0 in let q = found_behind l n after h.1 d in
     (p.0 ∙ q.0, p.1 ∙ ap suc q.1)
 
--- ---- on the way: what is ahead tells what there is
-pub record Ahead (l : List ℕ) (i : ℕ) : Type 0 where
-  pub loops : no_loops (drop i l) ≡ no_loops l
-  pub looks : i + looked_at (drop i l) ≡ looked_at l
+-- ---- from the place of the first loop, if there is one
+at_place : (l : List ℕ) (i : ℕ) → i < length l → (get_or l i 0 ≡ 0 → ⊥) → ((k : ℕ) → k < i → get_or l k 0 ≡ 0) → (no_loops l ≡ false) × (looked_at l ≡ i + 1)
+at_place [] i h d b = absurd (omega arith)
+at_place (n ∷ l) zero h d b = stopped n l d
+at_place (n ∷ l) (suc i) h d b =
+    let p = passed n l (b 0 (omega arith)) in let q = at_place l i (omega arith) d (λ k j. b (suc k) (omega arith)) in
+    (p.0 ∙ q.0, omega (arith, p.1, q.1))
 
-module _ (l : List ℕ) where
-  pub ahead_first : Ahead l 0
-  ahead_first = record { loops = refl; looks = omega arith }
+no_place : (l : List ℕ) → ((k : ℕ) → k < length l → get_or l k 0 ≡ 0) → (no_loops l ≡ true) × (looked_at l ≡ length l)
+no_place [] b = ran_out
+no_place (n ∷ l) b =
+    let p = passed n l (b 0 (omega arith)) in let q = no_place l (λ k j. b (suc k) (omega arith)) in
+    (p.0 ∙ q.0, p.1 ∙ ap suc q.1)
 
-  module _ (i : ℕ) (a : Ahead l i) where
-    pub ahead_next : i < length l → get_or l i 0 ≡ 0 → Ahead l (i + 1)
-    ahead_next h e =
-        let p = passed (get_or l i 0) (drop (suc i) l) e in let f = drop-cons l i 0 h in let g : i + 1 ≡ suc i = omega arith in
-        record {
-          loops = ap (λ (k : ℕ). no_loops (drop k l)) g ∙ sym p.0 ∙ ap no_loops (sym f) ∙ a.loops;
-          looks = omega (arith, ap (λ (k : ℕ). looked_at (drop k l)) g, p.1, ap looked_at f, a.looks);
-        }
+pub none_found : (l : List ℕ) → ((k : ℕ) → k < length l → get_or l k 0 ≡ 0) → ◌≡◌ {A = Walked} (record { none = true; looked = length l }) (walk_of l)
+unfolding walk_of
+none_found l h = let q = no_place l h in walked_as (sym q.0) (sym q.1)
 
-    pub ahead_found : i < length l → (get_or l i 0 ≡ 0 → ⊥) → ◌≡◌ {A = Walked} (record { none = false; looked = i + 1 }) (walk_of l)
-    unfolding walk_of
-    ahead_found h d =
-        let p = stopped (get_or l i 0) (drop (suc i) l) d in let f = drop-cons l i 0 h in
-        walked_as (sym p.0 ∙ ap no_loops (sym f) ∙ a.loops) (omega (arith, p.1, ap looked_at f, a.looks))
+pub found_on : (l : List ℕ) (i : ℕ) → i < length l → (get_or l i 0 ≡ 0 → ⊥) → ((k : ℕ) → k < i → get_or l k 0 ≡ 0) → ◌≡◌ {A = Walked} (record { none = false; looked = i + 1 }) (walk_of l)
+unfolding walk_of
+found_on l i h d b = let q = at_place l i h d b in walked_as (sym q.0) (sym q.1)
 
-    pub ahead_none : i ≡ length l → ◌≡◌ {A = Walked} (record { none = true; looked = i }) (walk_of l)
-    unfolding walk_of
-    ahead_none h =
-        let f : drop i l ≡ [] = ap (λ (k : ℕ). drop k l) h ∙ drop-length l in
-        walked_as (sym ran_out.0 ∙ ap no_loops (sym f) ∙ a.loops) (omega (arith, ran_out.1, ap looked_at f, a.looks))
+first_loop : (l : List ℕ) → 0 < length l → (get_or l 0 0 ≡ 0 → ⊥) → ◌≡◌ {A = Walked} (record { none = false; looked = 1 }) (walk_of l)
+unfolding walk_of
+first_loop [] h d = absurd (omega arith)
+first_loop (n ∷ l) h d = let p = stopped n l d in walked_as (sym p.0) (sym p.1)
 
--- a look at the beds: the racking settles it, or the walk does
+-- a look at the beds: the racking settles it, or the first hook, or the walk
 module _ (r : Racking) (l : List ℕ) where
-  pub beds_racked : eq_z r.0 (pos 0) ≡ false → ◌≡◌ {A = Walked} (record { none = false; looked = 0 }) (beds_walk r l)
-  unfolding hooks_looked
-  beds_racked e = walked_as (sym (simp e)) (sym (simp e))
-
-  pub beds_walked : eq_z r.0 (pos 0) ≡ true → walk_of l ≡ beds_walk r l
+  beds_walked : int_eq r.0 (pos 0) ≡ true → walk_of l ≡ beds_walk r l
   unfolding hooks_looked walk_of
-  beds_walked e = walked_as (sym (simp e)) (sym (simp e))
+  beds_walked e = let f = sym (int_eq_is r.0 (pos 0)) ∙ e in walked_as (sym (simp f)) (sym (simp f))
+
+  pub beds_racked : int_eq r.0 (pos 0) ≡ false → ◌≡◌ {A = Walked} (record { none = false; looked = 0 }) (beds_walk r l)
+  unfolding hooks_looked
+  beds_racked e = let f = sym (int_eq_is r.0 (pos 0)) ∙ e in walked_as (sym (simp f)) (sym (simp f))
+
+  pub beds_first : int_eq r.0 (pos 0) ≡ true → 0 < length l → (get_or l 0 0 ≡ 0 → ⊥) → ◌≡◌ {A = Walked} (record { none = false; looked = 1 }) (beds_walk r l)
+  beds_first e h d = first_loop l h d ∙ beds_walked e
+
+  pub beds_ahead : (w : Walked) → int_eq r.0 (pos 0) ≡ true → w ≡ walk_of l → w ≡ beds_walk r l
+  beds_ahead w e h = h ∙ beds_walked e
+
+pub ruleset beds = (beds_racked, beds_first, beds_ahead)
 
 -- no more hooks than there are
 looked_most : (l : List ℕ) → looked_at l ≤ length l

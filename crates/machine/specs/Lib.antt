@@ -1,4 +1,5 @@
 -- The machine, in reading order.
+pub mod Refusals
 pub mod Limits
 pub mod Machine
 pub mod Geometry

@@ -1,12 +1,12 @@
 -- What the code's small looks at a state promise. Theorems need them, a reader of document 01 does not.
-use Rattle.std.specs.Prelude.{ℕ, ◌≡◌, Bool, ◌&&◌, not, cond, List, pos, eqb, leb, ltb}
+use Rattle.std.specs.Prelude.{ℕ, ◌≡◌, Bool, ◌&&◌, not, List, pos, eqb, leb, ltb}
 use Rattle.machine.specs.declared.Needle.{Needle}
 use Rattle.machine.specs.declared.Racking.{Racking}
 use Rattle.machine.specs.declared.Carrier.{Carrier}
 use Rattle.machine.specs.declared.Walked.{Walked}
 use Rattle.machine.specs.Geometry.{eq_z}
-use Rattle.machine.specs.Machine.{all, no_loops, inactive_carrier}
-use Rattle.machine.specs.Range.{slot_ok, attachment_ok, carrier_ok}
+use Rattle.machine.specs.Machine.{all, no_loops}
+use Rattle.machine.specs.Range.{slot_ok, attachment_ok}
 use Rattle.machine.specs.Walk.{hooks_looked}
 use Rattle.machine.specs.Stretch.{distance_of}
 
@@ -24,10 +24,6 @@ beds_walk r l = record { none = beds_empty r l; looked = hooks_looked r l }
 -- a parked carrier's slot and attachment in range
 abbrev pub parked_ok : Carrier → Bool
 parked_ok c = slot_ok c.slot.0 && attachment_ok c
-
--- whether a carrier is the inactive one, or else, whether it is in range
-abbrev pub carrier_passes : Bool → Carrier → Bool
-carrier_passes idle c = cond idle (inactive_carrier c) (carrier_ok c)
 
 -- whether a carrier names a needle of this number, on either bed, attached or not: where none does, code need not move attachments
 abbrev pub any_beside : Needle → List Carrier → Bool

@@ -1,32 +1,32 @@
 // The knitting machine: needles, columns, slots, racking, carriers, and the machine state by value.
 #![tactic(auto)]
 
-ghost use Rattle.std.specs.Prelude.{◌≡◌, ℕ, ◌<◌, cond, map, ◌-ℤ◌, nat_abs, leb, ltb};
+ghost use Rattle.std.specs.Prelude.{◌≡◌, ℕ, ◌<◌, map, ◌-ℤ◌, nat_abs, leb, ltb};
 ghost use Rattle.std.specs.Int.Signed.{mag};
-ghost use Rattle.machine.specs.Machine.{OnBed, inactive, empty_state, hook_of, same_needle, attached_at, moved_to, all, inactive_carrier, complete_of};
+ghost use Rattle.machine.specs.Machine.{OnBed, inactive, empty_state, hook_of, attached_at, moved_to, all, all_inactive, inactive_carrier, complete_of};
 ghost use Rattle.machine.specs.Walk.{walk_of};
-ghost use Rattle.machine.specs.Geometry.{column_of, entry_of, exit_of, same_column, within_float};
+ghost use Rattle.machine.specs.Geometry.{column_of, entry_of, exit_of, within_float};
 ghost use Rattle.machine.specs.Limits.{stretch_most};
-ghost use Rattle.machine.specs.Stretch.{slot_beside, distance_of, any_stretched};
-ghost use Rattle.machine.specs.Looks.{Most, beds_walk, parked_ok, carrier_passes, any_beside, any_back, carried_off};
-ghost use Rattle.machine.specs.Range.{racking_ok, limit_ok, slot_ok, on_bed, attachment_ok, state_ok};
+ghost use Rattle.machine.specs.Stretch.{slot_beside, distance_of, stretches, any_stretched};
+ghost use Rattle.machine.specs.Looks.{Most, beds_walk, parked_ok, any_beside, any_back, carried_off};
+ghost use Rattle.machine.specs.Range.{racking_ok, limit_ok, slot_ok, on_bed, attachment_ok, carrier_ok, state_ok};
 
-// The numbers of refusals.
-pub mod numbers;
+// Why a call, a record or a log record is refused.
+pub mod refusals;
 
 // A needle by its bed (0 front, 1 back) and its number there: where a program says it is.
 #[repr(C)]
-#[derive(Clone, Copy)]
+#[derive(Clone, Copy, PartialEq, Eq)]
 pub struct Needle(pub u16, pub u16);
 
 // A physical column, which only a racking gives to a needle.
 #[repr(C)]
-#[derive(Clone, Copy)]
+#[derive(Clone, Copy, PartialEq, Eq)]
 pub struct Column(pub i32);
 
 // A place between columns where a carrier parks: slot z lies just left of column z.
 #[repr(C)]
-#[derive(Clone, Copy)]
+#[derive(Clone, Copy, PartialEq, Eq)]
 pub struct Slot(pub i16);
 
 // A slot beside a needle, which may lie where no carrier parks: in a state with any values a needle has any number.
@@ -35,12 +35,21 @@ struct FarSlot(i32);
 
 // How far the back bed is shifted to the right.
 #[repr(C)]
-#[derive(Clone, Copy)]
+#[derive(Clone, Copy, PartialEq, Eq)]
 pub struct Racking(pub i8);
+
+// A carrier's move over a needle of the machine, at a racking, to the right or to the left.
+#[derive(Clone, Copy)]
+pub struct Motion {
+    pub needle: Needle,
+    pub racking: Racking,
+    pub right: bool,
+    ghost on_bed: { OnBed needle },
+}
 
 // A yarn carrier. Fields without meaning are 0: all of an inactive carrier's, the needle of an unattached one.
 #[repr(C)]
-#[derive(Clone, Copy)]
+#[derive(Clone, Copy, PartialEq, Eq)]
 pub struct Carrier {
     // 1 parked, 0 inactive
     pub active: u8,
@@ -60,7 +69,8 @@ pub struct State {
     pub carriers: [Carrier; State::CARRIERS],
 }
 
-// What a walk over the hooks found: whether none holds a loop, and how many hooks were looked at.
+// What a walk over the hooks found: whether none holds a loop, and how many hooks were looked at. (No `Option`: `looked` has a
+// meaning whichever `none` is.)
 #[derive(Clone, Copy)]
 pub struct Walked {
     pub none: bool,
@@ -104,15 +114,15 @@ impl State {
     pub const LOG_MOST: usize = 32768;
 
     // The empty state at a hook limit, where a run starts.
+    #[tactic(auto, unfolding(crate::specs::Machine::empty_state))]
     pub fn empty(limit: u8) -> State
         ensures { result ≡ empty_state limit }
     {
-        let c = Carrier::inactive();
         State {
             racking: Racking(0),
             loops: [0u8; State::HOOKS],
             limit,
-            carriers: [c; State::CARRIERS],
+            carriers: [Carrier::inactive(); State::CARRIERS],
         }
     }
 
@@ -120,41 +130,28 @@ impl State {
     pub fn has_limit(limit: u8) -> bool
         ensures { result ≡ limit_ok limit }
     {
-        if limit < State::LIMIT_LEAST {
-            return false;
-        }
-        limit <= State::LIMIT_MOST
+        State::LIMIT_LEAST <= limit && limit <= State::LIMIT_MOST
     }
 
     // Whether the state is the empty one at its own limit.
-    pub fn complete(self) -> bool
-        ensures { result ≡ complete_of self }
+    #[tactic(auto, unfolding(crate::specs::Machine::complete_of))]
+    pub fn complete(&self) -> bool
+        ensures { result ≡ complete_of self.now }
     {
-        let r = self.racking;
-        let beds = look_at_beds(r, &self.loops);
-        if !beds.none {
-            return false;
-        }
-        let cs = self.carriers;
-        carriers_pass(cs, true)
+        let beds = look_at_beds(self.racking, &self.loops);
+        beds.none && all_inactive(&self.carriers)
     }
 
     // Whether every value is in its range (01: the state is not foul).
-    pub fn in_range(self) -> bool
-        ensures { result ≡ state_ok self }
+    #[inline(always)]
+    #[tactic(auto, unfolding(crate::specs::Range::state_ok))]
+    pub fn in_range(&self) -> bool
+        ensures { result ≡ state_ok self.now }
     {
-        let r = self.racking;
-        if !r.in_range() {
-            return false;
-        }
-        if !State::has_limit(self.limit) {
-            return false;
-        }
-        if !loops_in_range(&self.loops, self.limit) {
-            return false;
-        }
-        let cs = self.carriers;
-        carriers_pass(cs, false)
+        self.racking.in_range()
+            && State::has_limit(self.limit)
+            && loops_in_range(&self.loops, self.limit)
+            && all_in_range(&self.carriers)
     }
 }
 
@@ -164,35 +161,37 @@ impl Needle {
         requires { OnBed self }
         ensures { result ≡ hook_of self }
     {
-        (self.0 as usize) * State::NEEDLES + (self.1 as usize)
+        usize::from(self.0) * State::NEEDLES + usize::from(self.1)
     }
 
     // The one conversion of a needle to a column.
-    #[tactic(auto, using(crate::proofs::Conversion::conversion))]
+    #[tactic(auto, unfolding(crate::specs::Geometry::column_of))]
     pub fn column(self, r: Racking) -> Column
         ensures { result ≡ column_of self r }
     {
-        let n = self.1 as i32;
+        let n = i32::from(self.1);
         if self.0 == 0 {
             Column(n)
         } else {
-            Column(n + (r.0 as i32))
+            Column(n + i32::from(r.0))
         }
     }
 
     // The slot beside it on its right side (2) or its left (1).
-    #[tactic(auto, using(crate::proofs::Beside::beside))]
+    #[tactic(auto, using(crate::proofs::Laws::column_reach), unfolding(crate::specs::Stretch::slot_beside))]
     fn beside(self, r: Racking, side: u8) -> FarSlot
         ensures { (result.0 ≡ (slot_beside (column_of self r) side).0) × (mag result.0 < 66000) }
     {
         let z = self.column(r);
         if 1 < side {
-            return FarSlot(z.0 + 1);
+            FarSlot(z.0 + 1)
+        } else {
+            FarSlot(z.0)
         }
-        FarSlot(z.0)
     }
 
     // Where a carrier stands before it moves over the needle.
+    #[tactic(auto, using(crate::proofs::Laws::column_reach), unfolding(crate::specs::Geometry::entry_of))]
     pub fn entry(self, r: Racking, right: bool) -> Slot
         requires { OnBed self }
         ensures { result ≡ entry_of (column_of self r) right }
@@ -206,47 +205,51 @@ impl Needle {
     }
 
     // Where it stands after.
+    #[tactic(auto, unfolding(crate::specs::Geometry::entry_of, crate::specs::Geometry::exit_of))]
     pub fn exit(self, r: Racking, right: bool) -> Slot
         requires { OnBed self }
         ensures { result ≡ exit_of (column_of self r) right }
     {
-        let z = self.column(r);
-        if right {
-            Slot((z.0 + 1) as i16)
-        } else {
-            Slot(z.0 as i16)
-        }
+        self.entry(r, !right)
     }
 
     // Whether the machine has the needle.
     pub fn on_bed(self) -> bool
         ensures { result ≡ on_bed self }
     {
-        if 1 < self.0 {
-            return false;
-        }
-        self.1 <= (State::NEEDLE_MOST as u16)
+        self.0 <= 1 && self.1 <= u16::from(State::NEEDLE_MOST)
+    }
+}
+
+impl Motion {
+    // The column of its needle.
+    pub fn column(self) -> Column
+        ensures { result ≡ column_of self.needle self.racking }
+    {
+        self.needle.column(self.racking)
     }
 
-    pub fn equals(self, other: Needle) -> bool
-        ensures { result ≡ same_needle self other }
+    // Where the carrier stands before it.
+    pub fn entry(self) -> Slot
+        ensures { result ≡ entry_of (column_of self.needle self.racking) self.right }
     {
-        self.0 == other.0 && self.1 == other.1
+        self.needle.entry(self.racking, self.right)
+    }
+
+    // Where it stands after.
+    pub fn exit(self) -> Slot
+        ensures { result ≡ exit_of (column_of self.needle self.racking) self.right }
+    {
+        self.needle.exit(self.racking, self.right)
     }
 }
 
 impl Column {
-    pub fn equals(self, other: Column) -> bool
-        ensures { result ≡ same_column self other }
-    {
-        self.0 == other.0
-    }
-
     // Whether a float between the two columns is short enough.
     pub fn near(self, other: Column) -> bool
         ensures { result ≡ within_float self other }
     {
-        let d = (self.0 as i64) - (other.0 as i64);
+        let d = i64::from(self.0) - i64::from(other.0);
         State::FLOAT_LEAST <= d && d <= State::FLOAT_MOST
     }
 }
@@ -256,22 +259,17 @@ impl Racking {
     pub fn in_range(self) -> bool
         ensures { result ≡ racking_ok self.0 }
     {
-        if self.0 < State::RACKING_LEAST {
-            return false;
-        }
-        self.0 <= State::RACKING_MOST
+        State::RACKING_LEAST <= self.0 && self.0 <= State::RACKING_MOST
     }
 }
 
 impl Slot {
     // Whether a carrier can be parked there.
+    #[tactic(auto, unfolding(crate::specs::Range::slot_ok))]
     fn in_range(self) -> bool
         ensures { result ≡ slot_ok self.0 }
     {
-        if self.0 < State::SLOT_LEAST {
-            return false;
-        }
-        self.0 <= State::SLOT_MOST
+        State::SLOT_LEAST <= self.0 && self.0 <= State::SLOT_MOST
     }
 }
 
@@ -288,168 +286,126 @@ impl Carrier {
     }
 
     // Whether every field is an inactive carrier's.
+    #[tactic(auto, using(crate::proofs::Signed::int_eq_is), unfolding(crate::specs::Machine::inactive_carrier))]
     fn is_inactive(self) -> bool
         ensures { result ≡ inactive_carrier self }
     {
-        let z = self.slot;
-        let n = self.needle;
-        if self.active != 0 {
-            return false;
-        }
-        if self.side != 0 {
-            return false;
-        }
-        if z.0 != 0 {
-            return false;
-        }
-        if n.0 != 0 {
-            return false;
-        }
-        n.1 == 0
+        self == Carrier::inactive()
     }
 
     // Whether a parked carrier's attachment is in range, or 0 where there is none.
+    #[tactic(auto, unfolding(crate::specs::Range::attachment_ok))]
     fn attachment_in_range(self) -> bool
         ensures { result ≡ attachment_ok self }
     {
-        let n = self.needle;
         if self.side == 0 {
-            if n.0 != 0 {
-                return false;
-            }
-            return n.1 == 0;
+            self.needle == Needle(0, 0)
+        } else {
+            self.side <= 2 && self.needle.on_bed()
         }
-        if 2 < self.side {
-            return false;
-        }
-        n.on_bed()
     }
 
     // Whether a parked carrier's slot and attachment are in range.
     fn parked_in_range(self) -> bool
         ensures { result ≡ parked_ok self }
     {
-        let z = self.slot;
-        if !z.in_range() {
-            return false;
-        }
-        self.attachment_in_range()
+        self.slot.in_range() && self.attachment_in_range()
     }
 
-    // Whether it is the inactive one, or else, whether it is in range. (Its `active` is handed in as the walk reads it in the
-    // array: the compiler then tests an inactive carrier's fields as one word.)
-    fn passes(self, active: u8, idle: bool) -> bool
-        requires { active ≡ self.active }
-        ensures { result ≡ carrier_passes idle self }
+    // Whether it is the inactive one, or parked with every value in range.
+    #[tactic(auto, unfolding(crate::specs::Range::carrier_ok))]
+    fn in_range(self) -> bool
+        ensures { result ≡ carrier_ok self }
     {
-        if active == 1 {
-            if idle {
-                return false;
-            }
-            return self.parked_in_range();
+        if self.active == 0 {
+            self.is_inactive()
+        } else {
+            self.active == 1 && self.parked_in_range()
         }
-        self.is_inactive()
     }
 
     // Whether a slot is too far from the one where the carrier is parked.
-    fn far_from(self, y: FarSlot) -> bool
+    fn far_from(&self, y: FarSlot) -> bool
         requires { mag y.0 < 66000 }
-        ensures { result ≡ ltb stretch_most (nat_abs (y.0 -ℤ self.slot.0)) }
+        ensures { result ≡ ltb stretch_most (nat_abs (y.0 -ℤ self.now.slot.0)) }
     {
-        let here = self.slot;
-        let d = y.0 - (here.0 as i32);
+        let d = y.0 - i32::from(self.slot.0);
         d < State::STRETCH_LEAST || State::STRETCH_MOST < d
     }
 
     // How far its attachment's slot is from the slot where it is parked.
-    fn distance(self, r: Racking) -> u32
-        ensures { result ≡ distance_of r self }
+    #[tactic(auto, unfolding(crate::specs::Stretch::distance_of))]
+    fn distance(&self, r: Racking) -> u32
+        ensures { result ≡ distance_of r self.now }
     {
-        let n = self.needle;
-        let y = n.beside(r, self.side);
-        let here = self.slot;
-        let d = y.0 - (here.0 as i32);
-        if d < 0 { (0 - d) as u32 } else { d as u32 }
+        let y = self.needle.beside(r, self.side);
+        y.0.abs_diff(i32::from(self.slot.0))
     }
 
     // Whether it is parked and attached, and a rack from one racking to another takes its attachment further off.
-    fn carried_off(self, before: Racking, after: Racking) -> bool
-        ensures { result ≡ carried_off before after self }
+    fn carried_off(&self, before: Racking, after: Racking) -> bool
+        ensures { result ≡ carried_off before after self.now }
     {
-        if self.active == 0 {
+        self.active != 0 && self.side != 0 && self.distance(before) < self.distance(after)
+    }
+
+    // Whether a rack from one racking to another stretches its yarn. (A front needle stays where it is, and only a carrier that is
+    // too far off afterwards is looked at in full.)
+    #[tactic(auto, using(crate::proofs::Stretches::front_unstretched, crate::proofs::Stretches::looked_near, crate::proofs::Stretches::looked_far))]
+    fn stretched(&self, before: Racking, after: Racking) -> bool
+        ensures { result ≡ stretches before after self.now }
+    {
+        if self.needle.0 == 0 {
             return false;
         }
-        if self.side == 0 {
-            return false;
-        }
-        self.distance(before) < self.distance(after)
+        let y = self.needle.beside(after, self.side);
+        self.far_from(y) && self.carried_off(before, after)
     }
 
     // Whether the carrier is attached at the needle.
+    #[tactic(auto, unfolding(crate::specs::Machine::attached_at, crate::specs::Machine::same_needle))]
     fn attached_at(self, n: Needle) -> bool
         ensures { result ≡ attached_at n self }
     {
-        if self.side == 0 {
-            return false;
-        }
-        let here = self.needle;
-        here.equals(n)
+        self.side != 0 && self.needle == n
     }
 
     // The carrier after the loops at `from` went to `to`: an attachment there goes with them, its side kept.
+    #[tactic(auto, unfolding(crate::specs::Machine::moved_to))]
     fn moved(self, from: Needle, to: Needle) -> Carrier
         ensures { result ≡ moved_to from to self }
     {
         if self.attached_at(from) {
-            let z = self.slot;
-            return Carrier {
-                active: self.active,
-                side: self.side,
-                slot: z,
-                needle: to,
-            };
+            Carrier { needle: to, ..self }
+        } else {
+            self
         }
-        self
     }
-}
-
-// The larger of two.
-fn larger(a: u8, b: u8) -> u8
-    ensures { result ≡ cond (ltb a b) b a }
-{
-    if a < b { b } else { a }
 }
 
 // The most loops on a hook. (It does not end early: the compiler then looks at many hooks at once.)
 fn most_loops(loops: &[u8]) -> u8
     ensures { Most loops.now result }
 {
-    let mut most = 0;
-    let mut i = 0;
-    while i < loops.len() {
-        most = larger(most, loops[i]);
-        i += 1;
-    }
-    most
+    loops.iter().fold(0, |most, n| most.max(*n))
 }
 
 // The walk over the hooks, front first, upward: it ends at the first loop.
+#[tactic(auto, using(crate::proofs::Walks::none_found, crate::proofs::Walks::found_on))]
 pub fn walk(loops: &[u8]) -> Walked
     ensures { result ≡ walk_of loops.now }
 {
-    let mut i = 0;
-    while i < loops.len() {
-        if loops[i] != 0 {
+    for (i, n) in loops.iter().enumerate() {
+        if *n != 0 {
             return Walked {
                 none: false,
                 looked: i + 1,
             };
         }
-        i += 1;
     }
     Walked {
         none: true,
-        looked: i,
+        looked: loops.len(),
     }
 }
 
@@ -461,110 +417,69 @@ fn loops_in_range(loops: &[u8], limit: u8) -> bool
 }
 
 // Whether the beds are an empty state's, racking 0 and no loop, and the hooks that were looked at for it: none if the racking
-// settles it. (Whoever has a state in parts need not copy its loops. The first hook is looked at by itself: mostly it settles
+// settles it. (The first hook is looked at by itself: mostly it settles
 // it, and the compiler looks at sixteen at a time in a walk.)
+#[tactic(auto, using(crate::proofs::Walks::beds))]
 pub fn look_at_beds(racking: Racking, loops: &[u8]) -> Walked
     ensures { result ≡ beds_walk racking loops.now }
 {
-    if racking.0 != 0 {
+    if racking != Racking(0) {
         return Walked {
             none: false,
             looked: 0,
         };
     }
-    if 0 < loops.len() {
-        if loops[0] != 0 {
-            return Walked {
-                none: false,
-                looked: 1,
-            };
-        }
+    if 0 < loops.len() && loops[0] != 0 {
+        return Walked {
+            none: false,
+            looked: 1,
+        };
     }
     walk(loops)
 }
 
-// Whether every carrier passes the one test or the other: one walk for both.
-pub fn carriers_pass(carriers: [Carrier; State::CARRIERS], idle: bool) -> bool
-    ensures { result ≡ all (carrier_passes idle) carriers }
+// Whether every carrier is the inactive one.
+pub fn all_inactive(carriers: &[Carrier]) -> bool
+    ensures { result ≡ all_inactive carriers.now }
 {
-    let mut k = 0;
-    while k < State::CARRIERS {
-        let c = carriers[k];
-        if !c.passes(carriers[k].active, idle) {
-            return false;
-        }
-        k += 1;
-    }
-    true
+    carriers.iter().all(|c| c.is_inactive())
+}
+
+// Whether every carrier is in range.
+#[inline(always)]
+pub fn all_in_range(carriers: &[Carrier]) -> bool
+    ensures { result ≡ all carrier_ok carriers.now }
+{
+    carriers.iter().all(|c| c.in_range())
 }
 
 // Whether a carrier names a needle of this number, on either bed: else none is attached at the needle, and none moves with
 // its loops. (One comparison a carrier; most transfers have none.)
-pub fn any_beside(carriers: [Carrier; State::CARRIERS], n: Needle) -> bool
-    ensures { result ≡ any_beside n carriers }
+pub fn any_beside(carriers: &[Carrier], n: Needle) -> bool
+    ensures { result ≡ any_beside n carriers.now }
 {
-    let mut k = 0;
-    while k < State::CARRIERS {
-        if carriers[k].needle.1 == n.1 {
-            return true;
-        }
-        k += 1;
-    }
-    false
+    carriers.iter().any(|c| c.needle.1 == n.1)
 }
 
 // Whether a carrier names a needle of the back bed: else a rack carries no attachment off. (One comparison a carrier.)
-pub fn any_back(carriers: [Carrier; State::CARRIERS]) -> bool
-    ensures { result ≡ any_back carriers }
+pub fn any_back(carriers: &[Carrier]) -> bool
+    ensures { result ≡ any_back carriers.now }
 {
-    let mut k = 0;
-    while k < State::CARRIERS {
-        if carriers[k].needle.0 != 0 {
-            return true;
-        }
-        k += 1;
-    }
-    false
+    carriers.iter().any(|c| c.needle.0 != 0)
 }
 
-// Whether a rack from one racking to another stretches some carrier's yarn. (Only a carrier that is too far off afterwards is
-// looked at in full; its fields are read in the array before it is copied, and the walk goes down to carrier 1: both are
-// fewer instructions a carrier.)
-pub fn any_stretched(carriers: [Carrier; State::CARRIERS], before: Racking, after: Racking) -> bool
-    ensures { result ≡ any_stretched before after carriers }
+// Whether a rack from one racking to another stretches some carrier's yarn.
+pub fn any_stretched(carriers: &[Carrier], before: Racking, after: Racking) -> bool
+    ensures { result ≡ any_stretched before after carriers.now }
 {
-    let mut k = State::CARRIERS;
-    while 0 < k {
-        k -= 1;
-        if carriers[k].needle.0 != 0 {
-            let n = Needle(carriers[k].needle.0, carriers[k].needle.1);
-            let y = n.beside(after, carriers[k].side);
-            let c = carriers[k];
-            if c.far_from(y) {
-                if c.carried_off(before, after) {
-                    return true;
-                }
-            }
-        }
-    }
-    false
+    carriers.iter().any(|c| c.stretched(before, after))
 }
 
 // The carriers after the loops at `from` went to `to`.
-pub fn attachments_moved(
-    carriers: [Carrier; State::CARRIERS],
-    from: Needle,
-    to: Needle,
-) -> [Carrier; State::CARRIERS]
-    ensures { result ≡ map (moved_to from to) carriers }
+pub fn attachments_moved(carriers: &mut [Carrier], from: Needle, to: Needle)
+    ensures { carriers.new ≡ map (moved_to from to) carriers.old }
 {
-    let mut cs = carriers;
-    let mut k = 0;
-    while k < State::CARRIERS {
-        let c = cs[k];
-        let d = c.moved(from, to);
-        cs[k] = d;
-        k += 1;
+    for c in carriers.iter_mut() {
+        *c = c.moved(from, to);
     }
-    cs
 }

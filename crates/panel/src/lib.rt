@@ -3,9 +3,10 @@
 
 ghost use Rattle.std.specs.Prelude.{◌≡◌, ◌<◌, get_or};
 ghost use Rattle.machine.specs.Machine.{inactive};
+ghost use Rattle.machine.specs.Refusals.{number_of};
 ghost use Rattle.panel.specs.Panel.{panel_step, list_answer};
 
-use machine::numbers::{BAD_STATE, NO_ROOM};
+use machine::refusals::Refusal;
 use machine::{Carrier, State};
 
 // What the carrier list gives besides the loan: a number, and the entries written (0 if refused).
@@ -14,6 +15,18 @@ use machine::{Carrier, State};
 pub struct Served {
     pub number: u8,
     pub length: usize,
+}
+
+impl Served {
+    // The answer where the list is not written.
+    fn refused(why: Refusal) -> Served
+        ensures { result ≡ record { number = number_of why; length = 0 } }
+    {
+        Served {
+            number: why.number(),
+            length: 0,
+        }
+    }
 }
 
 // What the step gives besides the loan: a number, whether the state that it leaves is the empty one (1 or 0; 0 after 15),
@@ -28,12 +41,13 @@ pub struct Stepped {
 }
 
 // The step of the first record of a slice of any length, from a state with any values.
+#[tactic(auto, unfolding(crate::specs::Panel::panel_step))]
 pub fn step(state: State, bytes: &[u8]) -> run::Stepped
     ensures { result ≡ panel_step state bytes.now }
 {
     if !state.in_range() {
         return run::Stepped {
-            number: BAD_STATE,
+            number: Refusal::BadState.number(),
             complete: 0,
             looked: 0,
             length: 0,
@@ -44,21 +58,15 @@ pub fn step(state: State, bytes: &[u8]) -> run::Stepped
 }
 
 // The answer for a list of so many entries.
-#[tactic(auto, using(crate::proofs::Services::foul_list, crate::proofs::Services::short_list))]
+#[tactic(auto, unfolding(crate::specs::Panel::list_answer))]
 pub fn list_answer(state: State, count: usize) -> Served
     ensures { result ≡ list_answer state count }
 {
     if !state.in_range() {
-        return Served {
-            number: BAD_STATE,
-            length: 0,
-        };
+        return Served::refused(Refusal::BadState);
     }
     if count < State::CARRIERS {
-        return Served {
-            number: NO_ROOM,
-            length: 0,
-        };
+        return Served::refused(Refusal::NoRoom);
     }
     Served {
         number: 0,

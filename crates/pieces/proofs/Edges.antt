@@ -7,7 +7,7 @@ use lib.IntN.{ℤ}
 use lib.Dec.{eqb, leb}
 use borrow.Author.Tests.{eqb-true}
 use Rattle.machine.proofs.Signed.{eq_z_true}
-use Rattle.machine.proofs.Laws.{and_two}
+use Rattle.std.proofs.lemmas.Bool.{and_parts}
 use Rattle.machine.specs.declared.Needle.{Needle}
 use Rattle.machine.specs.declared.Racking.{Racking}
 use Rattle.machine.specs.Machine.{Each}
@@ -47,7 +47,7 @@ tie_test x y t =
 tie_says : (r : Pair) → tie_test (read (in_force r) r.first) (read (in_force r) r.second) r.tied ≡ true → Ties r
 unfolding tie_test
 tie_says r e =
-    let (p, q) = and_two (same_bool (tied knitting (in_force r) r.first r.second) r.tied) _ e in
+    let (p, q) = and_parts (same_bool (tied knitting (in_force r) r.first r.second) r.tied) _ e in
     record { forth = same_bool_lem _ _ p; back = same_bool_lem _ _ q }
 
 pair_test : Pair → Bool
@@ -97,7 +97,7 @@ cover_says : (s : Spot) (n : Needle) (c : Cover)
 unfolding cover_test
 cover_says s n c e =
     let r : Racking = racking_at s.racking in
-    let (p, q) = and_two (every (probe_test (read r (c.made n)) c.left c.right) (probes_of r (half_columns s))) _ e in
+    let (p, q) = and_parts (every (probe_test (read r (c.made n)) c.left c.right) (probes_of r (half_columns s))) _ e in
     each_both Ties (probed s.racking (c.made n) c.left c.right (half_columns s)) (probed s.racking (c.made n) c.low c.high (layers s n))
     (probe_says s.racking (c.made n) c.left c.right (half_columns s) p) (probe_says s.racking (c.made n) c.low c.high (layers s n) q)
 
@@ -119,9 +119,9 @@ bounds p q p' q' a b a' b' t u v w = cc
 same_extent_lem : (d e : Extent) → same_extent d e ≡ true → d ≡ e
 unfolding same_extent
 same_extent_lem d e t =
-    let (p, t1) = and_two (eq_z d.left e.left) _ t in
-    let (q, t2) = and_two (eq_z d.right e.right) _ t1 in
-    let (a, b) = and_two (eqb d.low e.low) (eqb d.high e.high) t2 in
+    let (p, t1) = and_parts (eq_z d.left e.left) _ t in
+    let (q, t2) = and_parts (eq_z d.right e.right) _ t1 in
+    let (a, b) = and_parts (eqb d.low e.low) (eqb d.high e.high) t2 in
     bounds d.left d.right e.left e.right d.low d.high e.low e.high (eq_z_true _ _ p) (eq_z_true _ _ q) (eqb-true _ _ a) (eqb-true _ _ b)
 
 span_test : Span → Bool

@@ -11,7 +11,7 @@ use Rattle.record.specs.Format.{decode_of}
 use Rattle.run.specs.Step.{number_at, apply_of}
 use Rattle.run.specs.declared.Answer.{Answer}
 use Rattle.run.specs.declared.Stepped.{Stepped}
-use Rattle.run.specs.declared.Reached.{Reached}
+use Rattle.run.specs.Run.{Reached}
 use Rattle.run.specs.Run.{reached, told, stay, step_of, turn, run_from, start_no, answer_limit, answer_of, run_of}
 use Rattle.rewrite.specs.Programs.{flat, records_of, starts_of}
 use Rattle.rewrite.specs.Rewrite.{Replay, ended, replay, lent_no, Rewritten, refused, rewrite_of}

@@ -7,7 +7,7 @@ use lib.IntN.{ℤ, pos}
 use lib.Dec.{eqb}
 use borrow.Author.Tests.{eqb-true}
 use Rattle.machine.proofs.Signed.{eq_z_true}
-use Rattle.machine.proofs.Laws.{and_two}
+use Rattle.std.proofs.lemmas.Bool.{and_parts}
 use Rattle.machine.specs.declared.Needle.{Needle}
 use Rattle.machine.specs.declared.Carrier.{Carrier}
 use Rattle.machine.specs.declared.State.{State}
@@ -30,10 +30,10 @@ fields a b x y a' b' x' y' z z' p q r t u = cc
 same_carrier_lem : (c d : Carrier) → same_carrier c d ≡ true → c ≡ d
 unfolding same_carrier
 same_carrier_lem c d e =
-    let (p, e1) = and_two (eqb c.active d.active) _ e in
-    let (q, e2) = and_two (eqb c.side d.side) _ e1 in
-    let (r, e3) = and_two (eq_z c.slot.0 d.slot.0) _ e2 in
-    let (t, u) = and_two (eqb c.needle.0 d.needle.0) (eqb c.needle.1 d.needle.1) e3 in
+    let (p, e1) = and_parts (eqb c.active d.active) _ e in
+    let (q, e2) = and_parts (eqb c.side d.side) _ e1 in
+    let (r, e3) = and_parts (eq_z c.slot.0 d.slot.0) _ e2 in
+    let (t, u) = and_parts (eqb c.needle.0 d.needle.0) (eqb c.needle.1 d.needle.1) e3 in
     fields c.active c.side c.needle.0 c.needle.1 d.active d.side d.needle.0 d.needle.1 c.slot.0 d.slot.0
     (eqb-true _ _ p) (eqb-true _ _ q) (eq_z_true _ _ r) (eqb-true _ _ t) (eqb-true _ _ u)
 
@@ -60,12 +60,12 @@ says_test a e = eqb a.number e.number && (eqb a.place e.place && (same_bool (who
 pub test_says : (a : Answer) (e : Expected) → a.complete ≡ complete_of a.state → says_test a e ≡ true → Says a e
 unfolding says_test state_test hooks_test carriers_test
 test_says a e w t =
-    let (n, t1) = and_two (eqb a.number e.number) _ t in
-    let (p, t2) = and_two (eqb a.place e.place) _ t1 in
-    let (c, t3) = and_two (same_bool (whole_test a.state) e.complete) _ t2 in
-    let (r, t4) = and_two (eq_z a.state.racking.0 e.racking) _ t3 in
-    let (l, t5) = and_two (eqb a.state.limit e.limit) _ t4 in
-    let (h, k) = and_two (hooks_test a.state e.hooks) (carriers_test a.state e.carriers) t5 in
+    let (n, t1) = and_parts (eqb a.number e.number) _ t in
+    let (p, t2) = and_parts (eqb a.place e.place) _ t1 in
+    let (c, t3) = and_parts (same_bool (whole_test a.state) e.complete) _ t2 in
+    let (r, t4) = and_parts (eq_z a.state.racking.0 e.racking) _ t3 in
+    let (l, t5) = and_parts (eqb a.state.limit e.limit) _ t4 in
+    let (h, k) = and_parts (hooks_test a.state e.hooks) (carriers_test a.state e.carriers) t5 in
     record {
       number = eqb-true _ _ n;
       place = eqb-true _ _ p;

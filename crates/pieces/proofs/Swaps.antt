@@ -1,7 +1,7 @@
 -- The rows of the rewriter and of the house order hold: each is tested, and the tests computed. Assumes nothing.
 use mathlib.Core.Path.{◌≡◌, refl, sym, subst}
 use mathlib.Core.Bool.{Bool, true, ◌&&◌}
-use Rattle.machine.proofs.Laws.{and_two}
+use Rattle.std.proofs.lemmas.Bool.{and_parts}
 use Rattle.machine.specs.Machine.{Each}
 use Rattle.machine.specs.Machine.{empty_state, all, inactive_carrier, moved_to, attached_at, same_needle}
 use Rattle.machine.specs.Geometry.{eq_z, column_of, entry_of, exit_of, same_column, within_float}
@@ -32,8 +32,8 @@ leaves_test w r =
 test_leaves : (w : Rewritten) (r : Swap) → Whole w → leaves_test w r ≡ true → Leaves w r
 unfolding leaves_test
 test_leaves w r whole e =
-    let (p, e1) = and_two (says_test w.answer r.answer) _ e in
-    let (t, u) = and_two (same_bytes w.output (front r.wrote r.output)) _ e1 in
+    let (p, e1) = and_parts (says_test w.answer r.answer) _ e in
+    let (t, u) = and_parts (same_bytes w.output (front r.wrote r.output)) _ e1 in
     record { answer = test_says _ _ whole.asked p; output = lawful.same_eq _ _ t; work = lawful.same_eq _ _ u }
 
 swap_test : Swap → Bool

@@ -9,18 +9,18 @@ use Rattle.pieces.specs.Spelled.{f, b, rack}
 use Rattle.pieces.specs.Rows.{parked}
 
 -- ---- racks from a state: its limit, its racking, its carriers, the racking asked for (negsuc n is −1 − n), and the number
-abbrev Rack : Type 0
+abbrev pub Rack : Type 0
 Rack = ℕ × ℤ × List (ℕ × Carrier) × ℤ × ℕ
 
 -- carriers by their numbers, the others inactive
-abbrev carriers : List (ℕ × Carrier) → List Carrier
+abbrev pub carriers : List (ℕ × Carrier) → List Carrier
 carriers [] = (empty_state 8).carriers
 carriers ((k, c) ∷ l) = set (carriers l) (k - 1) c
 
-abbrev standing : ℕ → ℤ → List (ℕ × Carrier) → State
+abbrev pub standing : ℕ → ℤ → List (ℕ × Carrier) → State
 standing limit r l = state_with (record { 0 = r }) (empty_state limit).loops limit (carriers l)
 
-abbrev byte_of : ℤ → ℕ
+abbrev pub byte_of : ℤ → ℕ
 byte_of (pos n) = n
 byte_of (negsuc n) = 255 - n
 

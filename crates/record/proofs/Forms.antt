@@ -9,15 +9,14 @@ use lib.ListN.{length, take, drop, length-append}
 use lib.Seq.{drop-cons, get_or-take, length-take-le}
 use lib.Dec.{eqb, leb, ltb}
 use borrow.Author.Tests.{ne_eqb, eqb-true, eqb-false, leb-true, le-leb, ltb-true, ltb-false, le-ltb, lt-ltb}
+use Rattle.std.proofs.lemmas.Bool.{and_parts}
 use Rattle.machine.specs.Limits.{last_needle, carrier_count, racking_most}
 use Rattle.machine.specs.Machine.{OnBed, hook_of}
 use Rattle.machine.specs.Range.{number_ok}
-use Rattle.machine.proofs.Laws.{and_two}
 use Rattle.machine.proofs.Ranges.{bed_ok}
 use Rattle.record.specs.declared.Record.{Record}
-use Rattle.record.specs.declared.Decoded.{Decoded}
 use Rattle.record.specs.Kinds.{IN, KNIT, SPLIT, PLATED_TUCK, PLATED_KNIT, by_kind, size_of, hooks_worked, carriers_named, is_plated}
-use Rattle.record.specs.Format.{Encodes, signed_of, rack_ok, needle_ok, work_ok, needle, no_needle, work_record, plated_record, carrier_number_ok, byte, work_fields_ok, fields_ok, record_from, refused_as, read_of, decode_of}
+use Rattle.record.specs.Format.{Reading, Encodes, signed_of, rack_ok, needle_ok, work_ok, needle, no_needle, work_record, plated_record, carrier_number_ok, byte, work_fields_ok, fields_ok, record_from, refused_as, read_of, decode_of}
 use Rattle.record.proofs.Shapes.{Known, cond_cases, in_work, in_plated, known_size, sized_known, work_size, plated_size, one_named, two_named}
 use Rattle.record.proofs.Ranges.{InRange, needle_bed, needle_number, work_right, work_bed, work_number, work_low, work_high}
 
@@ -124,7 +123,7 @@ form_decode {bytes} {x} form rest =
     ∙ (λ i. record { number = 0; size = f.size i; what = f.reads i })
 
 -- ---- every list of bytes is one of five
-pub data Reads (l : List ℕ) : Decoded → Type 0 where
+pub data Reads (l : List ℕ) : Reading → Type 0 where
   none : length l ≡ 0 → Reads l (refused_as 4)
   strange : 0 < length l → size_of (byte l 0) ≡ 0 → Reads l (refused_as 3)
   short : (size_of (byte l 0) ≡ 0 → ⊥) → 0 < length l → length l < size_of (byte l 0) → Reads l (refused_as 4)
@@ -263,7 +262,7 @@ module _ (l : List ℕ) (t : fields_ok l ≡ true) where
   xfer_form : byte l 0 ≡ 3 → Form 4
   unfolding fields_ok record_from bytes_from
   xfer_form e =
-      let (p, q) = and_two (needle_ok (byte l 1) (byte l 2)) (number_ok (byte l 3)) (simp e at t) in
+      let (p, q) = and_parts (needle_ok (byte l 1) (byte l 2)) (number_ok (byte l 3)) (simp e at t) in
       simp e (Encodes.xfer (needle_bed (byte l 1) (byte l 2) p) (needle_number (byte l 1) (byte l 2) p) (leb-true (byte l 3) last_needle q))
 
   work_form : IN ≤ byte l 0 → byte l 0 ≤ KNIT → Form 5
@@ -276,7 +275,7 @@ module _ (l : List ℕ) (t : fields_ok l ≡ true) where
   split_form : byte l 0 ≡ 9 → Form 6
   unfolding fields_ok record_from bytes_from
   split_form e =
-      let (p, q) = and_two (work_fields_ok l) (number_ok (byte l 5)) (simp e at t) in
+      let (p, q) = and_parts (work_fields_ok l) (number_ok (byte l 5)) (simp e at t) in
       simp e (Encodes.split (work_right (byte l 1) (byte l 2) (byte l 3) (byte l 4) p) (work_bed (byte l 1) (byte l 2) (byte l 3) (byte l 4) p)
       (work_number (byte l 1) (byte l 2) (byte l 3) (byte l 4) p) (work_low (byte l 1) (byte l 2) (byte l 3) (byte l 4) p) (work_high (byte l 1) (byte l 2) (byte l 3) (byte l 4) p)
       (leb-true (byte l 5) last_needle q))
@@ -284,8 +283,8 @@ module _ (l : List ℕ) (t : fields_ok l ≡ true) where
   plated_form : PLATED_TUCK ≤ byte l 0 → byte l 0 ≤ PLATED_KNIT → Form 6
   unfolding bytes_from
   plated_form a b =
-      let (p, q) = and_two (work_fields_ok l) (carrier_number_ok (byte l 5)) (sym (plated_fields l a b) ∙ t) in
-      let (low, high) = and_two (leb 1 (byte l 5)) (leb (byte l 5) carrier_count) q in
+      let (p, q) = and_parts (work_fields_ok l) (carrier_number_ok (byte l 5)) (sym (plated_fields l a b) ∙ t) in
+      let (low, high) = and_parts (leb 1 (byte l 5)) (leb (byte l 5) carrier_count) q in
       rw (plated_record_lem l a b) (Encodes.plated a b (work_right (byte l 1) (byte l 2) (byte l 3) (byte l 4) p) (work_bed (byte l 1) (byte l 2) (byte l 3) (byte l 4) p)
       (work_number (byte l 1) (byte l 2) (byte l 3) (byte l 4) p) (work_low (byte l 1) (byte l 2) (byte l 3) (byte l 4) p) (work_high (byte l 1) (byte l 2) (byte l 3) (byte l 4) p)
       (leb-true 1 (byte l 5) low) (leb-true (byte l 5) carrier_count high))
@@ -312,7 +311,7 @@ unfolding refused_as
 refused_number n e = omega arith
 
 -- what was decoded: its length and its form
-pub record Decodes (l : List ℕ) (d : Decoded) : Type 0 where
+pub record Decodes (l : List ℕ) (d : Reading) : Type 0 where
   pub some : 0 < d.size
   pub long : d.size ≤ length l
   pub kind : d.size ≡ size_of (byte l 0)
@@ -320,7 +319,7 @@ pub record Decodes (l : List ℕ) (d : Decoded) : Type 0 where
   pub what : d.what ≡ record_from l
   pub form : Encodes (take d.size l) d.what
 
-read_done : {l : List ℕ} {d : Decoded} → Reads l d → d.number ≡ 0 → Decodes l d
+read_done : {l : List ℕ} {d : Reading} → Reads l d → d.number ≡ 0 → Decodes l d
 read_done (Reads.none a) e = absurd (refused_number 3 e)
 read_done (Reads.strange a b) e = absurd (refused_number 2 e)
 read_done (Reads.short f a b) e = absurd (refused_number 3 e)

@@ -5,10 +5,12 @@ use mathlib.Core.List.{List}
 use native.Mathlib.Omega.{arith}
 use lib.ListN.{length}
 use Rattle.record.specs.declared.Record.{Record}
-use Rattle.record.specs.Kinds.{RACK, IN, KNIT, PLATED_TUCK, PLATED_KNIT, by_kind, size_of, carriers_named}
+use Rattle.record.specs.Kinds.{RACK, DROP, XFER, SPLIT, IN, KNIT, PLATED_TUCK, PLATED_KNIT, by_kind, size_of, carriers_named}
 use Rattle.record.specs.Format.{byte, needle, record_from, decode_of}
 use Rattle.record.specs.Names.{outline_at, outline_of}
-use Rattle.record.proofs.Shapes.{Known, Plated, two_carriers}
+use Rattle.record.proofs.Shapes.{Known, Plated, is, known_least, unnamed, named_once, two_carriers, two_at_most, work_size, six_bytes}
+use Rattle.record.proofs.Sizes.{drop_size, xfer_size}
+use Rattle.record.proofs.Readings.{drop_record_lem, xfer_record_lem, split_record_lem}
 use Rattle.record.proofs.Forms.{decodes, work_record_lem, plated_record_lem}
 
 module _ (l : List ℕ) where
@@ -34,32 +36,19 @@ module _ (l : List ℕ) where
   double h j n = record { long = n; is = simp (plated_record_lem l h j) }
 
   bare_at : Known (byte l 0) → size_of (byte l 0) ≤ length l → (byte l 0 ≡ RACK → ⊥) → carriers_named (byte l 0) ≡ 0 → Bare
-  unfolding by_kind outline_of record_from
-  bare_at (Known.rack e) h d z = absurd (d e)
-  bare_at (Known.drop e) h d z = record { long = simp e at h; is = simp e }
-  bare_at (Known.xfer e) h d z = let k : 4 ≤ length l = simp e at h in record { long = omega arith; is = simp e }
-  bare_at (Known.carrier_in e) h d z = let q : ◌≡◌ {A = ℕ} 1 0 = simp e at z in absurd (omega arith)
-  bare_at (Known.carrier_out e) h d z = let q : ◌≡◌ {A = ℕ} 1 0 = simp e at z in absurd (omega arith)
-  bare_at (Known.miss e) h d z = let q : ◌≡◌ {A = ℕ} 1 0 = simp e at z in absurd (omega arith)
-  bare_at (Known.tuck e) h d z = let q : ◌≡◌ {A = ℕ} 1 0 = simp e at z in absurd (omega arith)
-  bare_at (Known.knit e) h d z = let q : ◌≡◌ {A = ℕ} 1 0 = simp e at z in absurd (omega arith)
-  bare_at (Known.split e) h d z = let q : ◌≡◌ {A = ℕ} 1 0 = simp e at z in absurd (omega arith)
-  bare_at (Known.plated_tuck e) h d z = let q : ◌≡◌ {A = ℕ} 2 0 = simp e at z in absurd (omega arith)
-  bare_at (Known.plated_knit e) h d z = let q : ◌≡◌ {A = ℕ} 2 0 = simp e at z in absurd (omega arith)
+  unfolding outline_of
+  bare_at k h d z =
+      let high = unnamed k z in
+      let low = known_least k in
+      is (byte l 0) DROP (λ e. record { long = omega (arith, h, drop_size (byte l 0) e); is = simp (drop_record_lem l e, e) })
+      (λ f. let e : byte l 0 ≡ XFER = omega (arith, d, f, high, low) in record { long = omega (arith, h, xfer_size (byte l 0) e); is = simp (xfer_record_lem l e, e) })
 
   carried_at : Known (byte l 0) → size_of (byte l 0) ≤ length l → carriers_named (byte l 0) ≡ 1 → Carried
-  unfolding by_kind outline_of record_from
-  carried_at (Known.rack e) h z = let q : ◌≡◌ {A = ℕ} 0 1 = simp e at z in absurd (omega arith)
-  carried_at (Known.drop e) h z = let q : ◌≡◌ {A = ℕ} 0 1 = simp e at z in absurd (omega arith)
-  carried_at (Known.xfer e) h z = let q : ◌≡◌ {A = ℕ} 0 1 = simp e at z in absurd (omega arith)
-  carried_at (Known.carrier_in e) h z = work (omega arith) (omega arith) (simp e at h)
-  carried_at (Known.carrier_out e) h z = work (omega arith) (omega arith) (simp e at h)
-  carried_at (Known.miss e) h z = work (omega arith) (omega arith) (simp e at h)
-  carried_at (Known.tuck e) h z = work (omega arith) (omega arith) (simp e at h)
-  carried_at (Known.knit e) h z = work (omega arith) (omega arith) (simp e at h)
-  carried_at (Known.split e) h z = let k : 6 ≤ length l = simp e at h in record { long = omega arith; is = simp e }
-  carried_at (Known.plated_tuck e) h z = let q : ◌≡◌ {A = ℕ} 2 1 = simp e at z in absurd (omega arith)
-  carried_at (Known.plated_knit e) h z = let q : ◌≡◌ {A = ℕ} 2 1 = simp e at z in absurd (omega arith)
+  unfolding outline_of
+  carried_at k h z =
+      let (low, high) = named_once k z in
+      is (byte l 0) SPLIT (λ e. record { long = omega (arith, h, six_bytes (byte l 0) (omega arith) (omega arith)); is = simp (split_record_lem l e, e) })
+      (λ f. let j : byte l 0 ≤ KNIT = omega (arith, f, high) in work low j (omega (arith, h, work_size (byte l 0) low j)))
 
   doubled_at : Plated (byte l 0) → size_of (byte l 0) ≤ length l → Doubled
   unfolding by_kind
@@ -71,20 +60,38 @@ module _ (l : List ℕ) where
     abbrev wanted : Record
     wanted = outline_of (decode_of l).what
 
+    known : Known (byte l 0)
+    known = (decodes l e).known
+
+    long : size_of (byte l 0) ≤ length l
+    long = let d = decodes l e in omega (arith, d.kind, d.long)
+
+    what : outline_of (record_from l) ≡ wanted
+    what = ap outline_of (sym (decodes l e).what)
+
     pub some_byte : 0 < length l
     some_byte = let d = decodes l e in omega (arith, d.some, d.long)
 
-    pub bare_outline : (byte l 0 ≡ RACK → ⊥) → carriers_named (byte l 0) ≡ 0 → (3 ≤ length l) × (outline_at (byte l 0) (needle (byte l 1) (byte l 2)) 0 0 ≡ wanted)
-    bare_outline n z =
-        let d = decodes l e in let b = bare_at d.known (omega (arith, d.kind, d.long)) n z in
-        (b.long, b.is ∙ ap outline_of (sym d.what))
+    pub bare_long : (byte l 0 ≡ RACK → ⊥) → carriers_named (byte l 0) ≡ 0 → 3 ≤ length l
+    bare_long n z = (bare_at known long n z).long
 
-    pub carried_outline : carriers_named (byte l 0) ≡ 1 → (5 ≤ length l) × (outline_at (byte l 0) (needle (byte l 2) (byte l 3)) (byte l 4) 0 ≡ wanted)
-    carried_outline z =
-        let d = decodes l e in let b = carried_at d.known (omega (arith, d.kind, d.long)) z in
-        (b.long, b.is ∙ ap outline_of (sym d.what))
+    pub bare_outline : (byte l 0 ≡ RACK → ⊥) → carriers_named (byte l 0) ≡ 0 → outline_at (byte l 0) (needle (byte l 1) (byte l 2)) 0 0 ≡ wanted
+    bare_outline n z = (bare_at known long n z).is ∙ what
 
-    pub doubled_outline : carriers_named (byte l 0) ≡ 2 → (6 ≤ length l) × (outline_at (byte l 0) (needle (byte l 2) (byte l 3)) (byte l 4) (byte l 5) ≡ wanted)
-    doubled_outline z =
-        let d = decodes l e in let b = doubled_at (two_carriers d.known z) (omega (arith, d.kind, d.long)) in
-        (b.long, b.is ∙ ap outline_of (sym d.what))
+    pub carried_long : carriers_named (byte l 0) ≡ 1 → 5 ≤ length l
+    carried_long z = (carried_at known long z).long
+
+    pub carried_outline : carriers_named (byte l 0) ≡ 1 → outline_at (byte l 0) (needle (byte l 2) (byte l 3)) (byte l 4) 0 ≡ wanted
+    carried_outline z = (carried_at known long z).is ∙ what
+
+    module _ (a : carriers_named (byte l 0) ≡ 0 → ⊥) (b : carriers_named (byte l 0) ≡ 1 → ⊥) where
+      doubled : Doubled
+      doubled = doubled_at (two_carriers known (omega (arith, a, b, two_at_most (byte l 0)))) long
+
+      pub doubled_long : 6 ≤ length l
+      doubled_long = doubled.long
+
+      pub doubled_outline : outline_at (byte l 0) (needle (byte l 2) (byte l 3)) (byte l 4) (byte l 5) ≡ wanted
+      doubled_outline = doubled.is ∙ what
+
+pub ruleset outlines = (some_byte, bare_long, bare_outline, carried_long, carried_outline, doubled_long, doubled_outline)

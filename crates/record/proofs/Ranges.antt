@@ -6,8 +6,8 @@ use native.Mathlib.Omega.{arith}
 use lib.Dec.{leb, eqb}
 use borrow.Table.Steps.{cases}
 use borrow.Author.Tests.{eqb-true, eqb-false, leb-true}
+use Rattle.std.proofs.lemmas.Bool.{and_parts}
 use Rattle.machine.specs.Limits.{last_needle, carrier_count}
-use Rattle.machine.proofs.Laws.{and_two}
 use Rattle.machine.proofs.Ranges.{bed_is}
 use Rattle.machine.specs.Machine.{OnBed, hook_of}
 use Rattle.record.specs.declared.Record.{Record}
@@ -26,11 +26,11 @@ needle_number bed n e = omega (arith, (bed_is (needle bed n) e).number)
 module _ (right bed n k : ℕ) (e : work_ok right bed n k ≡ true) where
   pub work_right : right ≤ 1
   unfolding work_ok
-  work_right = leb-true right 1 (and_two (leb right 1) _ e).0
+  work_right = leb-true right 1 (and_parts (leb right 1) _ e).0
 
   work_rest : (needle_ok bed n ≡ true) × ((leb 1 k && leb k carrier_count) ≡ true)
   unfolding work_ok
-  work_rest = and_two (needle_ok bed n) _ (and_two (leb right 1) _ e).1
+  work_rest = and_parts (needle_ok bed n) _ (and_parts (leb right 1) _ e).1
 
   pub work_bed : bed ≤ 1
   work_bed = needle_bed bed n work_rest.0
@@ -39,10 +39,10 @@ module _ (right bed n k : ℕ) (e : work_ok right bed n k ≡ true) where
   work_number = needle_number bed n work_rest.0
 
   pub work_low : 1 ≤ k
-  work_low = leb-true 1 k (and_two (leb 1 k) _ work_rest.1).0
+  work_low = leb-true 1 k (and_parts (leb 1 k) _ work_rest.1).0
 
   pub work_high : k ≤ carrier_count
-  work_high = leb-true k carrier_count (and_two (leb 1 k) _ work_rest.1).1
+  work_high = leb-true k carrier_count (and_parts (leb 1 k) _ work_rest.1).1
 
 -- a direction is 0 or 1
 pub direction : (right : ℕ) → right ≤ 1 → eqb right 1 ≡ not (eqb right 0)

@@ -124,6 +124,12 @@ in_carried P a b c d e f k h j = is k SPLIT (λ q. subst P (sym q) f) (λ n. in_
 pub in_plated : (P : ℕ → Type 0) → P PLATED_TUCK → P PLATED_KNIT → (k : ℕ) → PLATED_TUCK ≤ k → k ≤ PLATED_KNIT → P k
 in_plated P a b k h j = one_of_two k PLATED_TUCK PLATED_KNIT refl h j (λ q. subst P (sym q) a) (λ q. subst P (sym q) b)
 
+pub in_range_known : (k : ℕ) → RACK ≤ k → k ≤ PLATED_KNIT → Known k
+in_range_known k h j =
+    is k RACK Known.rack (λ a. is k DROP Known.drop (λ b. is k XFER Known.xfer (λ c. is k SPLIT Known.split
+    (λ d. is k PLATED_TUCK Known.plated_tuck (λ e. is k PLATED_KNIT Known.plated_knit
+    (λ f. in_work Known (Known.carrier_in refl) (Known.carrier_out refl) (Known.miss refl) (Known.tuck refl) (Known.knit refl) k (omega arith) (omega arith)))))))
+
 pub one_named : (k : ℕ) → IN ≤ k → k ≤ SPLIT → carriers_named k ≡ 1
 unfolding by_kind
 one_named = in_carried (λ (k : ℕ). carriers_named k ≡ 1) refl refl refl refl refl refl
@@ -162,25 +168,31 @@ hook_count_lem = any_kind Count none one two none none none one one two one one 
 pub carrier_count_lem : (k : ℕ) → Count (carriers_named k)
 carrier_count_lem = any_kind Count none none none one one one one one one two two none
 
+pub two_at_most : (k : ℕ) → carriers_named k ≤ 2
+two_at_most = any_kind (λ (n : ℕ). n ≤ 2) (omega arith) (omega arith) (omega arith) (omega arith) (omega arith) (omega arith) (omega arith) (omega arith) (omega arith) (omega arith) (omega arith) (omega arith)
+
 -- ---- kinds by what they do
 -- those that name two carriers
 pub data Plated (k : ℕ) : Type 0 where
   tuck : k ≡ PLATED_TUCK → Plated k
   knit : k ≡ PLATED_KNIT → Plated k
 
+-- the kinds by how many carriers they name
+pub unnamed : {k : ℕ} → Known k → carriers_named k ≡ 0 → k ≤ XFER
+unfolding by_kind
+unnamed = at_known (λ (k : ℕ). carriers_named k ≡ 0 → k ≤ XFER) (λ h. omega arith) (λ h. omega arith) (λ h. omega arith) (λ h. omega arith) (λ h. omega arith) (λ h. omega arith) (λ h. omega arith) (λ h. omega arith) (λ h. omega arith) (λ h. omega arith) (λ h. omega arith)
+
+pub named_once : {k : ℕ} → Known k → carriers_named k ≡ 1 → (IN ≤ k) × (k ≤ SPLIT)
+unfolding by_kind
+named_once =
+    at_known (λ (k : ℕ). carriers_named k ≡ 1 → (IN ≤ k) × (k ≤ SPLIT)) (λ h. (omega arith, omega arith)) (λ h. (omega arith, omega arith)) (λ h. (omega arith, omega arith)) (λ h. (omega arith, omega arith)) (λ h. (omega arith, omega arith)) (λ h. (omega arith, omega arith)) (λ h. (omega arith, omega arith)) (λ h. (omega arith, omega arith)) (λ h. (omega arith, omega arith)) (λ h. (omega arith, omega arith)) (λ h. (omega arith, omega arith))
+
 pub two_carriers : {k : ℕ} → Known k → carriers_named k ≡ 2 → Plated k
 unfolding by_kind
-two_carriers (Known.rack e) h = let q : ◌≡◌ {A = ℕ} 0 2 = simp e at h in absurd (omega arith)
-two_carriers (Known.drop e) h = let q : ◌≡◌ {A = ℕ} 0 2 = simp e at h in absurd (omega arith)
-two_carriers (Known.xfer e) h = let q : ◌≡◌ {A = ℕ} 0 2 = simp e at h in absurd (omega arith)
-two_carriers (Known.carrier_in e) h = let q : ◌≡◌ {A = ℕ} 1 2 = simp e at h in absurd (omega arith)
-two_carriers (Known.carrier_out e) h = let q : ◌≡◌ {A = ℕ} 1 2 = simp e at h in absurd (omega arith)
-two_carriers (Known.miss e) h = let q : ◌≡◌ {A = ℕ} 1 2 = simp e at h in absurd (omega arith)
-two_carriers (Known.tuck e) h = let q : ◌≡◌ {A = ℕ} 1 2 = simp e at h in absurd (omega arith)
-two_carriers (Known.knit e) h = let q : ◌≡◌ {A = ℕ} 1 2 = simp e at h in absurd (omega arith)
-two_carriers (Known.split e) h = let q : ◌≡◌ {A = ℕ} 1 2 = simp e at h in absurd (omega arith)
-two_carriers (Known.plated_tuck e) h = Plated.tuck e
-two_carriers (Known.plated_knit e) h = Plated.knit e
+two_carriers {k} a e = let low = twice a e in is k PLATED_TUCK Plated.tuck (λ d. Plated.knit (omega (arith, d, low, known_most a)))
+  where
+    twice : {j : ℕ} → Known j → carriers_named j ≡ 2 → PLATED_TUCK ≤ j
+    twice = at_known (λ (j : ℕ). carriers_named j ≡ 2 → PLATED_TUCK ≤ j) (λ h. omega arith) (λ h. omega arith) (λ h. omega arith) (λ h. omega arith) (λ h. omega arith) (λ h. omega arith) (λ h. omega arith) (λ h. omega arith) (λ h. omega arith) (λ h. omega arith) (λ h. omega arith)
 
 pub plated_two : {k : ℕ} → Plated k → carriers_named k ≡ 2
 unfolding by_kind
@@ -262,13 +274,7 @@ loop (Forms.split e) = rw e (record { formed = omega arith; carried = omega arit
 loop (Forms.plated (Plated.tuck e)) = rw e (record { formed = omega arith; carried = omega arith; not_in = λ q. omega arith; not_out = λ q. omega arith })
 loop (Forms.plated (Plated.knit e)) = rw e (record { formed = omega arith; carried = omega arith; not_in = λ q. omega arith; not_out = λ q. omega arith })
 
--- tuck to plated knit form loops, and no other kind does
-pub forms_some : (k : ℕ) → TUCK ≤ k → k ≤ PLATED_KNIT → leb 1 (loops_formed k) ≡ true
-unfolding by_kind
-forms_some k h j =
-    is k TUCK (λ e. simp e) (λ a. is k KNIT (λ e. simp e) (λ b. is k SPLIT (λ e. simp e) (λ c. is k PLATED_TUCK (λ e. simp e)
-    (λ d. let e : k ≡ PLATED_KNIT = omega arith in simp e))))
-
+-- no kind but tuck to plated knit forms loops
 pub forms_none : (k : ℕ) → (TUCK ≤ k → k ≤ PLATED_KNIT → ⊥) → loops_formed k ≡ 0
 unfolding by_kind
 forms_none k h =
@@ -324,9 +330,6 @@ uncarried k e =
     }
 
 -- ---- in to knit have a four-byte body
-pub above_bare : (k : ℕ) → 1 ≤ k → (k ≡ RACK → ⊥) → (k ≡ DROP → ⊥) → (k ≡ XFER → ⊥) → IN ≤ k
-above_bare k h a b d = omega arith
-
 pub work_size : (k : ℕ) → IN ≤ k → k ≤ KNIT → size_of k ≡ 5
 unfolding by_kind
 work_size = in_work (λ (k : ℕ). size_of k ≡ 5) refl refl refl refl refl
@@ -339,21 +342,3 @@ plated_size = in_plated (λ (k : ℕ). size_of k ≡ 6) refl refl
 pub six_bytes : (k : ℕ) → SPLIT ≤ k → k ≤ PLATED_KNIT → size_of k ≡ 6
 unfolding by_kind
 six_bytes k h j = is k SPLIT (λ e. simp e) (λ d. plated_size k (omega arith) j)
-
--- what is none of them, nor another known kind, has no length
-pub no_size : (k : ℕ) → (k ≡ RACK → ⊥) → (k ≡ DROP → ⊥) → (k ≡ XFER → ⊥) → (IN ≤ k → k ≤ PLATED_KNIT → ⊥) → size_of k ≡ 0
-no_size k a b c w = go (named k)
-  where
-    go : Named k → size_of k ≡ 0
-    go (Named.unknown n e) = e
-    go (Named.known (Known.rack e)) = absurd (a e)
-    go (Named.known (Known.drop e)) = absurd (b e)
-    go (Named.known (Known.xfer e)) = absurd (c e)
-    go (Named.known (Known.carrier_in e)) = absurd (w (omega arith) (omega arith))
-    go (Named.known (Known.carrier_out e)) = absurd (w (omega arith) (omega arith))
-    go (Named.known (Known.miss e)) = absurd (w (omega arith) (omega arith))
-    go (Named.known (Known.tuck e)) = absurd (w (omega arith) (omega arith))
-    go (Named.known (Known.knit e)) = absurd (w (omega arith) (omega arith))
-    go (Named.known (Known.split e)) = absurd (w (omega arith) (omega arith))
-    go (Named.known (Known.plated_tuck e)) = absurd (w (omega arith) (omega arith))
-    go (Named.known (Known.plated_knit e)) = absurd (w (omega arith) (omega arith))

@@ -1,8 +1,10 @@
 -- The byte format of document 01, 'Records', and of 02, W1: fields and their ranges, the record that bytes encode, and decoding. Kinds and lengths are in Kinds.antt.
-use Rattle.std.specs.Prelude.{ℕ, ◌-◌, ◌≤◌, Bool, false, ◌&&◌, cond, List, [], ◌∷◌, ℤ, pos, negsuc, nat_abs, get_or, length, eqb, leb, ltb}
+use Rattle.std.specs.Prelude.{ℕ, ◌-◌, ◌≤◌, Bool, false, ◌&&◌, cond, List, [], ◌∷◌, Result, Ok, Err, ℤ, pos, negsuc, nat_abs, get_or, length, eqb, leb, ltb}
 use Rattle.machine.specs.declared.Needle.{Needle}
+use Rattle.machine.specs.declared.refusals.Refusal.{Refusal}
 use Rattle.machine.specs.Limits.{last_needle, carrier_count, racking_most}
 use Rattle.machine.specs.Range.{racking_ok, number_ok, on_bed}
+use Rattle.machine.specs.Refusals.{number_of}
 use Rattle.record.specs.declared.Record.{Record}
 use Rattle.record.specs.declared.Decoded.{Decoded}
 use Rattle.record.specs.Kinds.{RACK, DROP, XFER, IN, KNIT, SPLIT, PLATED_TUCK, PLATED_KNIT, size_of, is_plated}
@@ -97,15 +99,27 @@ record_from l =
     (cond (is_plated (byte l 0)) (plated_record (byte l 0) (eqb (byte l 1) 1) (needle (byte l 2) (byte l 3)) (byte l 4) (byte l 5))
     (work_record (byte l 0) (eqb (byte l 1) 1) (needle (byte l 2) (byte l 3)) (byte l 4))))))
 
-unfoldable pub refused_as : ℕ → Decoded
+-- the first record of a list: a refusal's number, or 0 with the record's length and the record
+pub record Reading : Type 0 where
+  pub number : ℕ
+  pub size : ℕ
+  pub what : Record
+
+-- a refusal: length 0, and 0 in every field of the record
+unfoldable pub refused_as : ℕ → Reading
 refused_as n = record { number = n; size = 0; what = blank_record 0 }
 
 -- a list whose first byte is a known kind: 4 (01: cut short) if there are fewer bytes than it needs, 5 (01: field) unless its fields are in range
-unfoldable pub read_of : List ℕ → Decoded
+unfoldable pub read_of : List ℕ → Reading
 read_of l =
     cond (ltb (length l) (size_of (byte l 0))) (refused_as 4)
     (cond (fields_ok l) (record { number = 0; size = size_of (byte l 0); what = record_from l }) (refused_as 5))
 
 -- the first record of a list: 4 without a byte, 3 (01: strange) for an unknown kind
-unfoldable pub decode_of : List ℕ → Decoded
+unfoldable pub decode_of : List ℕ → Reading
 decode_of l = cond (eqb (length l) 0) (refused_as 4) (cond (eqb (size_of (byte l 0)) 0) (refused_as 3) (read_of l))
+
+-- what code answers, read so
+abbrev pub reading_of : Result Decoded Refusal → Reading
+reading_of (Ok d) = record { number = 0; size = d.size; what = d.what }
+reading_of (Err why) = refused_as (number_of why)

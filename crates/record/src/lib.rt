@@ -1,12 +1,13 @@
 // The byte format: the kinds and lengths of records, their fields, and a record decoded.
 #![tactic(auto)]
 
-ghost use Rattle.std.specs.Prelude.{◌≡◌, ◌≤◌, ◌<◌, length, get_or};
-ghost use Rattle.record.specs.Kinds.{RACK, DROP, XFER, IN, PLATED_KNIT, size_of, carriers_named};
-ghost use Rattle.record.specs.Format.{signed_of, needle_ok, carrier_number_ok, work_ok, blank_record, byte, fields_ok, refused_as, read_of, decode_of};
+ghost use Rattle.std.specs.Prelude.{◌≡◌, ◌≤◌, ◌<◌, length};
+ghost use Rattle.record.specs.Kinds.{RACK, DROP, XFER, IN, KNIT, SPLIT, PLATED_TUCK, PLATED_KNIT, size_of, carriers_named};
+ghost use Rattle.machine.specs.Refusals.{told_number};
+ghost use Rattle.record.specs.Format.{signed_of, needle_ok, carrier_number_ok, work_ok, needle, blank_record, byte, reading_of, read_of, decode_of};
 ghost use Rattle.record.specs.Names.{outline_of};
 
-use machine::numbers::{CUT_SHORT, FIELD_RANGE, UNKNOWN_KIND};
+use machine::refusals::Refusal;
 use machine::{Needle, Racking, State};
 
 // A record by its fields; 0 where its kind has no such field.
@@ -23,15 +24,15 @@ pub struct Record {
     pub to: Needle,
 }
 
-// The first record of a slice: a refusal's number, or 0 with the record and its length.
+// The first record of a slice, with its length.
 #[derive(Clone, Copy)]
 pub struct Decoded {
-    pub number: u8,
     pub size: usize,
     pub what: Record,
 }
 
-// The kinds: rack, drop, xfer; in, out, miss, tuck and knit, which have fields of one form; split; plated tuck and knit.
+// The kinds: rack, drop, xfer; in, out, miss, tuck and knit, which have fields of one form; split; plated tuck and knit. (Constants
+// and no enum: the kind's byte is matched by ranges, and `size_of` promises something of every byte.)
 pub const RACK: u8 = 1;
 
 pub const DROP: u8 = 2;
@@ -55,6 +56,7 @@ pub const PLATED_TUCK: u8 = 10;
 pub const PLATED_KNIT: u8 = 11;
 
 // The whole length of a record of this kind, 0 for an unknown kind.
+#[tactic(auto, using(crate::proofs::Sizes::sizes))]
 pub fn size_of(kind: u8) -> usize
     ensures { result ≡ size_of kind }
 {
@@ -69,6 +71,7 @@ pub fn size_of(kind: u8) -> usize
 }
 
 // How many carriers a record of this kind names.
+#[tactic(auto, using(crate::proofs::Sizes::carriers))]
 pub fn carriers_named(kind: u8) -> u8
     ensures { result ≡ carriers_named kind }
 {
@@ -80,22 +83,18 @@ pub fn carriers_named(kind: u8) -> u8
 }
 
 // A byte in two's complement.
+#[tactic(auto, using(crate::proofs::Sizes::signed_is))]
 pub fn signed(b: u8) -> i8
     ensures { result ≡ signed_of b }
 {
-    if b < 128 {
-        b as i8
-    } else {
-        ((b as i16) - 256) as i8
-    }
+    b.cast_signed()
 }
 
-// A byte of a slice that is long enough.
-fn byte(l: &[u8], i: usize) -> u8
-    requires { i < length l.now }
-    ensures { result ≡ get_or l.now i 0 }
+// A needle by the bytes of its bed and its number.
+fn needle(bed: u8, n: u8) -> Needle
+    ensures { result ≡ needle bed n }
 {
-    l[i]
+    Needle(u16::from(bed), u16::from(n))
 }
 
 // A record of this kind with 0 in every other field: the one way in which a record is made.
@@ -113,46 +112,22 @@ fn blank(kind: u8) -> Record
     }
 }
 
-// A refusal: length 0, and 0 in every field of the record.
-fn refused(number: u8) -> Decoded
-    ensures { result ≡ refused_as number }
+// A record with its length.
+fn sized(what: Record) -> Decoded
+    ensures { (result.size ≡ size_of what.kind) × (result.what ≡ what) }
 {
-    let what = blank(0);
     Decoded {
-        number,
-        size: 0,
-        what,
-    }
-}
-
-// Rack: the new racking.
-fn rack(l: &[u8]) -> Decoded
-    requires { byte l.now 0 ≡ RACK }
-    ensures { result ≡ read_of l.now }
-{
-    let size = size_of(RACK);
-    if l.len() < size {
-        return refused(CUT_SHORT);
-    }
-    let racking = Racking(signed(byte(l, 1)));
-    if !racking.in_range() {
-        return refused(FIELD_RANGE);
-    }
-    let mut what = blank(RACK);
-    what.racking = racking;
-    Decoded {
-        number: 0,
-        size,
+        size: size_of(what.kind),
         what,
     }
 }
 
 // Whether the machine has the needle.
+#[tactic(auto, unfolding(crate::specs::Format::needle_ok))]
 fn needle_ok(bed: u8, n: u8) -> bool
     ensures { result ≡ needle_ok bed n }
 {
-    let a = Needle(bed as u16, n as u16);
-    a.on_bed()
+    needle(bed, n).on_bed()
 }
 
 // Whether the machine has the carrier.
@@ -163,222 +138,185 @@ fn carrier_ok(k: u8) -> bool
 }
 
 // Whether carrier, needle and direction are in range.
+#[tactic(auto, unfolding(crate::specs::Format::work_ok))]
 fn work_ok(right: u8, bed: u8, n: u8, k: u8) -> bool
     ensures { result ≡ work_ok right bed n k }
 {
-    if !carrier_ok(k) {
-        return false;
-    }
-    if !needle_ok(bed, n) {
-        return false;
-    }
-    right <= 1
+    right <= 1 && needle_ok(bed, n) && carrier_ok(k)
 }
 
-// A record without a carrier: bed, needle; of an xfer also the needle on the other bed.
-fn bare(kind: u8, l: &[u8]) -> Decoded
-    requires { (byte l.now 0 ≡ kind) × (DROP ≤ kind) × (kind ≤ XFER) }
-    ensures { result ≡ read_of l.now }
+// Rack: the new racking.
+#[tactic(auto, using(crate::proofs::Looks::looks))]
+fn read_rack(l: &[u8]) -> Result<Decoded, Refusal>
+    requires { byte l.now 0 ≡ RACK }
+    ensures { reading_of result ≡ read_of l.now }
 {
-    let size = size_of(kind);
-    if l.len() < size {
-        return refused(CUT_SHORT);
+    let [_, b, ..] = *l else {
+        return Err(Refusal::CutShort);
+    };
+    let racking = Racking(signed(b));
+    if !racking.in_range() {
+        return Err(Refusal::FieldRange);
     }
-    let bed = byte(l, 1);
-    let n = byte(l, 2);
-    if !needle_ok(bed, n) {
-        return refused(FIELD_RANGE);
-    }
-    let mut what = blank(kind);
-    let at = Needle(bed as u16, n as u16);
-    what.at = at;
-    if kind == XFER {
-        let m = byte(l, 3);
-        if State::NEEDLE_MOST < m {
-            return refused(FIELD_RANGE);
-        }
-        let to = Needle((1 - bed) as u16, m as u16);
-        what.to = to;
-    }
-    Decoded {
-        number: 0,
-        size,
-        what,
-    }
+    Ok(sized(Record {
+        racking,
+        ..blank(RACK)
+    }))
 }
 
-// A record with a carrier: direction, bed, needle, carrier; of a split also the needle on the other bed, of a plated
-// stitch the second carrier.
-fn work(kind: u8, l: &[u8]) -> Decoded
-    requires { (byte l.now 0 ≡ kind) × (IN ≤ kind) × (kind ≤ PLATED_KNIT) }
-    ensures { result ≡ read_of l.now }
+// Drop: bed, needle.
+#[tactic(auto, using(crate::proofs::Looks::looks))]
+fn read_drop(l: &[u8]) -> Result<Decoded, Refusal>
+    requires { byte l.now 0 ≡ DROP }
+    ensures { reading_of result ≡ read_of l.now }
 {
-    let size = size_of(kind);
-    if l.len() < size {
-        return refused(CUT_SHORT);
+    let [_, bed, n, ..] = *l else {
+        return Err(Refusal::CutShort);
+    };
+    if !needle_ok(bed, n) {
+        return Err(Refusal::FieldRange);
     }
-    let right = byte(l, 1);
-    let bed = byte(l, 2);
-    let n = byte(l, 3);
-    let k = byte(l, 4);
+    Ok(sized(Record {
+        at: needle(bed, n),
+        ..blank(DROP)
+    }))
+}
+
+// Xfer: bed, needle, the needle on the other bed.
+#[tactic(auto, using(crate::proofs::Looks::looks))]
+fn read_xfer(l: &[u8]) -> Result<Decoded, Refusal>
+    requires { byte l.now 0 ≡ XFER }
+    ensures { reading_of result ≡ read_of l.now }
+{
+    let [_, bed, n, m, ..] = *l else {
+        return Err(Refusal::CutShort);
+    };
+    if !needle_ok(bed, n) || State::NEEDLE_MOST < m {
+        return Err(Refusal::FieldRange);
+    }
+    Ok(sized(Record {
+        at: needle(bed, n),
+        to: needle(1 - bed, m),
+        ..blank(XFER)
+    }))
+}
+
+// In, out, miss, tuck or knit: direction, bed, needle, carrier.
+#[tactic(auto, using(crate::proofs::Looks::looks))]
+fn read_work(kind: u8, l: &[u8]) -> Result<Decoded, Refusal>
+    requires { (byte l.now 0 ≡ kind) × (IN ≤ kind) × (kind ≤ KNIT) }
+    ensures { reading_of result ≡ read_of l.now }
+{
+    let [_, right, bed, n, k, ..] = *l else {
+        return Err(Refusal::CutShort);
+    };
     if !work_ok(right, bed, n, k) {
-        return refused(FIELD_RANGE);
+        return Err(Refusal::FieldRange);
     }
-    let mut what = blank(kind);
-    what.right = right != 0;
-    let at = Needle(bed as u16, n as u16);
-    what.at = at;
-    what.carrier = k;
+    Ok(sized(Record {
+        right: right != 0,
+        at: needle(bed, n),
+        carrier: k,
+        ..blank(kind)
+    }))
+}
+
+// Split: direction, bed, needle, carrier, the needle on the other bed.
+#[tactic(auto, using(crate::proofs::Looks::looks))]
+fn read_split(l: &[u8]) -> Result<Decoded, Refusal>
+    requires { byte l.now 0 ≡ SPLIT }
+    ensures { reading_of result ≡ read_of l.now }
+{
+    let [_, right, bed, n, k, m, ..] = *l else {
+        return Err(Refusal::CutShort);
+    };
+    if !work_ok(right, bed, n, k) || State::NEEDLE_MOST < m {
+        return Err(Refusal::FieldRange);
+    }
+    Ok(sized(Record {
+        right: right != 0,
+        at: needle(bed, n),
+        carrier: k,
+        to: needle(1 - bed, m),
+        ..blank(SPLIT)
+    }))
+}
+
+// Plated tuck or knit: direction, bed, needle, first carrier, second carrier.
+#[tactic(auto, using(crate::proofs::Looks::looks))]
+fn read_plated(kind: u8, l: &[u8]) -> Result<Decoded, Refusal>
+    requires { (byte l.now 0 ≡ kind) × (PLATED_TUCK ≤ kind) × (kind ≤ PLATED_KNIT) }
+    ensures { reading_of result ≡ read_of l.now }
+{
+    let [_, right, bed, n, k, j, ..] = *l else {
+        return Err(Refusal::CutShort);
+    };
+    if !work_ok(right, bed, n, k) || !carrier_ok(j) {
+        return Err(Refusal::FieldRange);
+    }
+    Ok(sized(Record {
+        right: right != 0,
+        at: needle(bed, n),
+        carrier: k,
+        second: j,
+        ..blank(kind)
+    }))
+}
+
+// The first record of the slice. (The hint keeps it in the run's loop: it has two callers.)
+#[inline(always)]
+#[tactic(auto, using(crate::proofs::Forms::decode_none, crate::proofs::Looks::unknown_read, crate::proofs::Looks::known_read))]
+pub fn decode(l: &[u8]) -> Result<Decoded, Refusal>
+    ensures { reading_of result ≡ decode_of l.now }
+{
+    let [kind, ..] = *l else {
+        return Err(Refusal::CutShort);
+    };
     match kind {
-        SPLIT => {
-            let m = byte(l, 5);
-            if State::NEEDLE_MOST < m {
-                return refused(FIELD_RANGE);
-            }
-            let to = Needle((1 - bed) as u16, m as u16);
-            what.to = to;
-        }
-        PLATED_TUCK..=PLATED_KNIT => {
-            let j = byte(l, 5);
-            if !carrier_ok(j) {
-                return refused(FIELD_RANGE);
-            }
-            what.second = j;
-        }
-        _ => {}
-    }
-    Decoded {
-        number: 0,
-        size,
-        what,
+        RACK => read_rack(l),
+        DROP => read_drop(l),
+        XFER => read_xfer(l),
+        IN..=KNIT => read_work(kind, l),
+        SPLIT => read_split(l),
+        // one arm for each: with a range the other arms would be slower
+        PLATED_TUCK => read_plated(PLATED_TUCK, l),
+        PLATED_KNIT => read_plated(PLATED_KNIT, l),
+        _ => Err(Refusal::UnknownKind),
     }
 }
 
-// The first record of the slice.
-pub fn decode(l: &[u8]) -> Decoded
-    ensures { result ≡ decode_of l.now }
+// Why a slice does not begin with a record, for a caller that needs no more than the outline.
+#[tactic(auto, unfolding(crate::specs::Format::refused_as))]
+pub fn check(l: &[u8]) -> Result<(), Refusal>
+    ensures { told_number result ≡ (decode_of l.now).number }
 {
-    if l.len() == 0 {
-        return refused(CUT_SHORT);
-    }
-    let kind = byte(l, 0);
-    match kind {
-        RACK => rack(l),
-        // one arm for each length: the compiler then knows it
-        DROP => bare(DROP, l),
-        XFER => bare(XFER, l),
-        IN..=KNIT => work(kind, l),
-        SPLIT => work(SPLIT, l),
-        // and one for each plated kind: with a range the other arms would be slower
-        PLATED_TUCK => work(PLATED_TUCK, l),
-        PLATED_KNIT => work(PLATED_KNIT, l),
-        _ => refused(UNKNOWN_KIND),
-    }
+    decode(l)?;
+    Ok(())
 }
 
 // What extents and ties look at in a record that is no rack, from bytes that are known to begin with one: nothing is
 // checked again.
+#[tactic(auto, using(crate::proofs::Outlines::outlines))]
 pub fn outline(l: &[u8]) -> Record
     requires { ((decode_of l.now).number ≡ 0) × (byte l.now 0 ≡ RACK → ⊥) }
     ensures { result ≡ outline_of (decode_of l.now).what }
 {
-    let kind = byte(l, 0);
-    let mut x = blank(kind);
-    let carriers = carriers_named(kind);
-    if carriers == 0 {
-        let bed = byte(l, 1);
-        let n = byte(l, 2);
-        let at = Needle(bed as u16, n as u16);
-        x.at = at;
-        return x;
+    let kind = l[0];
+    match carriers_named(kind) {
+        0 => Record {
+            at: needle(l[1], l[2]),
+            ..blank(kind)
+        },
+        1 => Record {
+            at: needle(l[2], l[3]),
+            carrier: l[4],
+            ..blank(kind)
+        },
+        _ => Record {
+            at: needle(l[2], l[3]),
+            carrier: l[4],
+            second: l[5],
+            ..blank(kind)
+        },
     }
-    let bed = byte(l, 2);
-    let n = byte(l, 3);
-    let at = Needle(bed as u16, n as u16);
-    x.at = at;
-    x.carrier = byte(l, 4);
-    if carriers == 2 {
-        x.second = byte(l, 5);
-    }
-    x
-}
-
-// Whether the fields of a drop or an xfer are in range.
-fn bare_ok(kind: u8, l: &[u8]) -> bool
-    requires { (byte l.now 0 ≡ kind) × (DROP ≤ kind) × (kind ≤ XFER) × (size_of kind ≤ length l.now) }
-    ensures { result ≡ fields_ok l.now }
-{
-    let bed = byte(l, 1);
-    let n = byte(l, 2);
-    if !needle_ok(bed, n) {
-        return false;
-    }
-    if kind == DROP {
-        return true;
-    }
-    byte(l, 3) <= State::NEEDLE_MOST
-}
-
-// Whether the fields of a record with a carrier are in range.
-fn carried_ok(kind: u8, l: &[u8]) -> bool
-    requires { (byte l.now 0 ≡ kind) × (IN ≤ kind) × (kind ≤ PLATED_KNIT) × (size_of kind ≤ length l.now) }
-    ensures { result ≡ fields_ok l.now }
-{
-    let right = byte(l, 1);
-    let bed = byte(l, 2);
-    let n = byte(l, 3);
-    let k = byte(l, 4);
-    if !work_ok(right, bed, n, k) {
-        return false;
-    }
-    match kind {
-        SPLIT => byte(l, 5) <= State::NEEDLE_MOST,
-        PLATED_TUCK..=PLATED_KNIT => carrier_ok(byte(l, 5)),
-        _ => true,
-    }
-}
-
-// Whether the racking of a rack is in range.
-fn rack_ok(l: &[u8]) -> bool
-    requires { (byte l.now 0 ≡ RACK) × (size_of RACK ≤ length l.now) }
-    ensures { result ≡ fields_ok l.now }
-{
-    let racking = Racking(signed(byte(l, 1)));
-    racking.in_range()
-}
-
-// Whether the fields of a record of a known kind, whose bytes are all there, are in range.
-fn fields_ok(kind: u8, l: &[u8]) -> bool
-    requires { (byte l.now 0 ≡ kind) × (size_of kind ≡ 0 → ⊥) × (size_of kind ≤ length l.now) }
-    ensures { result ≡ fields_ok l.now }
-{
-    match kind {
-        RACK => rack_ok(l),
-        DROP..=XFER => bare_ok(kind, l),
-        IN..=PLATED_KNIT => carried_ok(kind, l),
-        // it is known to be one of these
-        _ => false,
-    }
-}
-
-// Why a slice does not begin with a record: decode's number alone, for a caller that needs no more than the outline. (A
-// second caller would take decode out of the run's loop.)
-pub fn refusal(l: &[u8]) -> u8
-    ensures { result ≡ (decode_of l.now).number }
-{
-    if l.len() == 0 {
-        return CUT_SHORT;
-    }
-    let kind = byte(l, 0);
-    let size = size_of(kind);
-    if size == 0 {
-        return UNKNOWN_KIND;
-    }
-    if l.len() < size {
-        return CUT_SHORT;
-    }
-    if fields_ok(kind, l) {
-        return 0;
-    }
-    FIELD_RANGE
 }

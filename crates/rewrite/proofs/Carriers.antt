@@ -28,3 +28,5 @@ module _ (x : Record) where
       go none d f = absurd (d refl)
       go one d f = absurd (f refl)
       go two d f = refl
+
+pub ruleset carriers = (none_named, one_named, two_named, two_of)

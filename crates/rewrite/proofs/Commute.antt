@@ -9,6 +9,7 @@ use native.Mathlib.Omega.{arith}
 use lib.ListN.{get_or}
 use lib.Dec.{eqb, leb}
 use borrow.Author.Tests.{eq-eqb, ne_eqb, eqb-true, eqb-false, leb-true}
+use Rattle.std.proofs.lemmas.Bool.{and_parts}
 use Rattle.machine.specs.declared.Needle.{Needle}
 use Rattle.machine.specs.declared.Racking.{Racking}
 use Rattle.machine.specs.declared.Carrier.{Carrier}
@@ -16,7 +17,6 @@ use Rattle.machine.specs.declared.State.{State}
 use Rattle.machine.specs.Machine.{inactive, changed, hook_of, same_needle, attached_at, moved_to}
 use Rattle.machine.specs.Geometry.{column_of, same_column}
 use Rattle.machine.proofs.Signed.{eq_z_true}
-use Rattle.machine.proofs.Laws.{and_two}
 use Rattle.record.specs.declared.Record.{Record}
 use Rattle.record.specs.Kinds.{IN, OUT, MISS, hooks_worked, carriers_named, loops_formed, is_plated, tucks}
 use Rattle.record.specs.Names.{is_rack, racking_after}
@@ -97,7 +97,7 @@ same_after s x a b g = cc (same_first x a b g, same_second x a b g, g.racking)
 pub needle_eq : (a b : Needle) → same_needle a b ≡ true → a ≡ b
 unfolding same_needle
 needle_eq a b e =
-    let (p, q) = and_two (eqb a.0 b.0) (eqb a.1 b.1) e in
+    let (p, q) = and_parts (eqb a.0 b.0) (eqb a.1 b.1) e in
     let bed = eqb-true a.0 b.0 p in let number = eqb-true a.1 b.1 q in
     λ i. record { 0 = bed i; 1 = number i }
 
@@ -109,7 +109,7 @@ look_moved : (r : Racking) (a b : Needle) (c : Carrier) → column_of a r ≡ co
 unfolding look_of moved_to attached_at
 look_moved r a b c e =
     cases (attached_at a c)
-    (λ g. let (side, here) = and_two (not (eqb c.side 0)) (same_needle c.needle a) g in
+    (λ g. let (side, here) = and_parts (not (eqb c.side 0)) (same_needle c.needle a) g in
     let q : column_of c.needle r ≡ column_of b r = ap (λ (n : Needle). column_of n r) (needle_eq c.needle a here) ∙ e in
     rw (g, q))
     (λ g. rw g)

@@ -1,6 +1,6 @@
 -- Extents and ties, read as code tests them. Assumes nothing.
 use borrow.Table.Steps.{cases}
-use Prim.Native.Nat.{ℕ, ◌+◌, ◌≤◌, ◌<◌}
+use Prim.Native.Nat.{ℕ, ◌+◌, ◌≤◌, ◌<◌, min, max}
 use mathlib.Core.Path.{◌≡◌, refl, sym, ◌∙◌}
 use mathlib.Core.Bool.{Bool, true, false, ◌&&◌, ◌||◌, or-false}
 use native.Mathlib.Omega.{arith}
@@ -10,9 +10,9 @@ use lib.Signed.{le_z, lt_z, mag}
 use mir.Syntax.{w32}
 use mir.Val.{to_z, of_z}
 use lib.Dec.{eqb, leb, ltb, leb-suc-suc}
-use borrow.Author.Tests.{ne_eqb, le-leb, lt-leb, ltb-true}
-use Rattle.machine.proofs.Signed.{back, lt_z_true, lt_z_false, up, dn, sum, difference}
-use Rattle.machine.proofs.Laws.{and_two}
+use borrow.Author.Tests.{ne_eqb, ltb-true, ltb-false}
+use Rattle.std.proofs.lemmas.Bool.{and_parts}
+use Rattle.machine.proofs.Signed.{back, up, dn, sum, difference}
 use Rattle.machine.specs.Geometry.{column_of}
 use Rattle.machine.specs.declared.Racking.{Racking}
 use Rattle.record.specs.declared.Record.{Record}
@@ -26,6 +26,13 @@ use Rattle.rewrite.specs.Extents.{half_column, layer_of, narrow, broad, smaller,
 use Rattle.rewrite.specs.Programs.{what, knitting}
 use Rattle.rewrite.specs.Laid.{far_apart}
 use Rattle.rewrite.proofs.Signed.{le_from, le_trans, le_self, le_next, le_before}
+
+-- the library's words for the smaller and the greater
+min_is : (k j : ℕ) → min k j ≡ smaller k j
+min_is k j = cases (ltb k j) (λ t. let h = ltb-true k j t in simp t (omega arith)) (λ t. let h = ltb-false k j t in simp t (omega arith))
+
+max_is : (k j : ℕ) → max k j ≡ greater k j
+max_is k j = cases (ltb k j) (λ t. let h = ltb-true k j t in simp t (omega arith)) (λ t. let h = ltb-false k j t in simp t (omega arith))
 
 module _ (r : Racking) (x : Record) where
   abbrev h : ℤ
@@ -51,6 +58,9 @@ module _ (r : Racking) (x : Record) where
   unfolding extent_of member
   plated_extent a b = one_of_two x.kind PLATED_TUCK PLATED_KNIT refl a b (λ e. simp e) (λ e. simp e)
 
+  pub plated_least : PLATED_TUCK ≤ x.kind → x.kind ≤ PLATED_KNIT → extent_of r x ≡ form_extent h x.at (min x.carrier x.second) (max x.carrier x.second)
+  plated_least a b = rw (min_is x.carrier x.second, max_is x.carrier x.second) (plated_extent a b)
+
   -- a rack, a split, and what is no kind
   pub other_extent : (x.kind ≡ DROP → ⊥) → (x.kind ≡ XFER → ⊥) → (IN ≤ x.kind → x.kind ≤ KNIT → ⊥) → (PLATED_TUCK ≤ x.kind → x.kind ≤ PLATED_KNIT → ⊥) → extent_of r x ≡ broad h 0 11
   unfolding extent_of member
@@ -68,15 +78,13 @@ module _ (r : Racking) (x : Record) where
         ne_eqb k PLATED_KNIT (λ e. z (omega arith) (omega arith)),
       )
 
+pub ruleset extents = (drop_extent, xfer_extent, pass_extent, form_extent_lem, plated_least, other_extent)
+
 -- a comparison of 32-bit values, as code reads them back
-module _ (a b : ℤ) (h : mag a < 2147483648) (k : mag b < 2147483648) where
-  pub less : lt_z (to_z w32 (of_z w32 a)) (to_z w32 (of_z w32 b)) ≡ true → le_z b a ≡ false
-  less e = lt_z_true a b (sym (simp (back w32 a h, back w32 b k)) ∙ e)
+pub not_most : (a b : ℤ) → mag a < 2147483648 → mag b < 2147483648 → le_z (to_z w32 (of_z w32 a)) (to_z w32 (of_z w32 b)) ≡ false → le_z a b ≡ false
+not_most a b h k e = sym (simp (back w32 a h, back w32 b k)) ∙ e
 
-  pub not_less : lt_z (to_z w32 (of_z w32 a)) (to_z w32 (of_z w32 b)) ≡ false → le_z b a ≡ true
-  not_less e = lt_z_false a b (sym (simp (back w32 a h, back w32 b k)) ∙ e)
-
--- the four comparisons of two extents
+-- one of the four comparisons of two extents fails
 module _ (a b : Extent) where
   pub right_of : le_z a.left b.right ≡ false → meets a b ≡ false
   unfolding meets
@@ -90,14 +98,13 @@ module _ (a b : Extent) where
       go true = simp e
       go false = refl
 
-  module _ (p : le_z a.left b.right ≡ true) (q : le_z b.left a.right ≡ true) where
-    pub above : b.high < a.low → meets a b ≡ false
-    unfolding meets
-    above h = simp (p, q, lt-leb a.low b.high h)
-
-    pub else_meets : a.low ≤ b.high → meets a b ≡ leb b.low a.high
-    unfolding meets
-    else_meets h = simp (p, q, le-leb a.low b.high h)
+  pub above : leb a.low b.high ≡ false → meets a b ≡ false
+  unfolding meets
+  above e = go (le_z a.left b.right && le_z b.left a.right)
+    where
+      go : (t : Bool) → (t && (leb a.low b.high && leb b.low a.high)) ≡ false
+      go true = simp e
+      go false = refl
 
 -- the tests of a tie, one after another
 module _ (r : Racking) (x y : List ℕ) where
@@ -164,7 +171,7 @@ meets_near r x y e = near (a -ℤ b) (difference a b)
     f = extent_of r y
 
     across : (le_z d.left f.right ≡ true) × (le_z f.left d.right ≡ true)
-    across = and_two (le_z d.left f.right) (le_z f.left d.right) (and_two (le_z d.left f.right && le_z f.left d.right) (leb d.low f.high && leb f.low d.high) e).0
+    across = and_parts (le_z d.left f.right) (le_z f.left d.right) (and_parts (le_z d.left f.right && le_z f.left d.right) (leb d.low f.high && leb f.low d.high) e).0
 
     -- 2a - 1 ≤ 2b + 1 and 2b - 1 ≤ 2a + 1
     left : up (a +ℤ a -ℤ pos 1) + dn (b +ℤ b +ℤ pos 1) ≤ up (b +ℤ b +ℤ pos 1) + dn (a +ℤ a -ℤ pos 1)

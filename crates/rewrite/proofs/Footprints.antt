@@ -10,13 +10,13 @@ use lib.Signed.{le_z}
 use lib.ListN.{take}
 use lib.Dec.{eqb, leb, ltb}
 use borrow.Author.Tests.{ne_eqb, eqb-false, leb-true, le-leb}
+use Rattle.std.proofs.lemmas.Bool.{and_parts}
 use Rattle.machine.specs.declared.Needle.{Needle}
 use Rattle.machine.specs.declared.Column.{Column}
 use Rattle.machine.specs.declared.Racking.{Racking}
 use Rattle.machine.specs.Limits.{carrier_count}
 use Rattle.machine.specs.Machine.{OnBed, hook_of, Each}
 use Rattle.machine.specs.Geometry.{column_of}
-use Rattle.machine.proofs.Laws.{and_two}
 use Rattle.record.specs.declared.Record.{Record}
 use Rattle.record.specs.Kinds.{by_kind, hooks_worked, carriers_named}
 use Rattle.record.specs.Names.{needles_of, carriers_of}
@@ -44,9 +44,9 @@ share_meets a b h layer p q =
 pub meets_share : (a b : Extent) (h i : ℤ) (k m : ℕ) → Within a h k → Within b i m → meets a b ≡ true → (z : ℤ) × (layer : ℕ) × Within a z layer × Within b z layer
 unfolding meets
 meets_share a b h i k m p q e =
-    let (columns, layers) = and_two (le_z a.left b.right && le_z b.left a.right) (leb a.low b.high && leb b.low a.high) e in
-    let (ab, ba) = and_two (le_z a.left b.right) (le_z b.left a.right) columns in
-    let (lab, lba) = and_two (leb a.low b.high) (leb b.low a.high) layers in
+    let (columns, layers) = and_parts (le_z a.left b.right && le_z b.left a.right) (leb a.low b.high && leb b.low a.high) e in
+    let (ab, ba) = and_parts (le_z a.left b.right) (le_z b.left a.right) columns in
+    let (lab, lba) = and_parts (leb a.low b.high) (leb b.low a.high) layers in
     let (z, za, zb, zc) = later a.left b.left in
     let (n, na, nb, nc) = higher a.low b.low in (
       z,

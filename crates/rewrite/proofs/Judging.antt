@@ -18,7 +18,7 @@ use Rattle.rewrite.specs.Laid.{record_at, start_at, in_force_at}
 use Rattle.rewrite.proofs.Extents.{rack_first, rack_second, one_carrier_tied, by_extents_lem, outline_extent, outline_share}
 use Rattle.rewrite.proofs.Laying.{Stands, stands, kind_at}
 use Rattle.rewrite.proofs.Rackings.{kind_is}
-use Rattle.rewrite.proofs.Pairs.{Placed, placed, first_bytes, second_bytes, first_reads, second_reads}
+use Rattle.rewrite.proofs.Pairs.{first_bytes, second_bytes, first_reads, second_reads}
 use Rattle.rewrite.specs.Programs.{records_of}
 use Rattle.rewrite.specs.Laid.{Laid, Sound, pair_at, tied_pair}
 use borrow.Table.Steps.{cases}
@@ -59,9 +59,6 @@ module _ (p w : List ℕ) (i : ℕ) (at : Pair) (laid : Laid p w) (h : i + 1 < l
 
   abbrev y : List ℕ
   y = record_at p (i + 1)
-
-  pub there : Placed p at
-  there = placed p laid.sound i h at e
 
   first_there : Stands p i
   first_there = stands p laid.sound i (omega (arith, h))

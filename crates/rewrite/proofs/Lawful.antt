@@ -10,15 +10,14 @@ use native.Mathlib.Omega.{arith}
 use lib.Signed.{le_z}
 use lib.Dec.{eqb, leb}
 use borrow.Author.Tests.{eq-eqb, ne_eqb, eqb-true, eqb-false}
+use Rattle.std.proofs.lemmas.Bool.{and_parts}
 use Rattle.machine.specs.declared.Needle.{Needle}
 use Rattle.machine.specs.declared.Racking.{Racking}
 use Rattle.machine.specs.declared.State.{State}
 use Rattle.machine.specs.Machine.{same_needle, Each}
 use Rattle.machine.proofs.Signed.{eq_z_yes, eq_z_true}
-use Rattle.machine.proofs.Laws.{and_two}
 use Rattle.record.specs.declared.Record.{Record}
-use Rattle.record.specs.declared.Decoded.{Decoded}
-use Rattle.record.specs.Format.{refused_as}
+use Rattle.record.specs.Format.{Reading, refused_as}
 use Rattle.record.specs.Kinds.{RACK}
 use Rattle.record.specs.Names.{needles_of, carriers_of, is_rack, racking_after}
 use Rattle.record.proofs.Ranges.{InRange}
@@ -56,7 +55,7 @@ meets_self : (r : Racking) (x : Record) → CarriersHigh x → meets (extent_of 
 meets_self r x h = let (k, p) = some_layer (footprint r x h) in share_meets (extent_of r x) (extent_of r x) (half_column x.at r) k p p
 
 -- whatever the bytes, the carriers that they name are at most 10
-read_carriers : {x : List ℕ} {d : Decoded} → Reads x d → (d.number ≡ 0 → InRange d.what) → CarriersHigh d.what
+read_carriers : {x : List ℕ} {d : Reading} → Reads x d → (d.number ≡ 0 → InRange d.what) → CarriersHigh d.what
 unfolding refused_as
 read_carriers (Reads.none a) h = (omega arith, omega arith)
 read_carriers (Reads.strange a b) h = (omega arith, omega arith)
@@ -129,7 +128,7 @@ unfolding same_bytes
 same_eq [] [] e = refl
 same_eq [] (b ∷ y) e = absurd (true≢false (sym e))
 same_eq (a ∷ x) [] e = absurd (true≢false (sym e))
-same_eq (a ∷ x) (b ∷ y) e = let (p, q) = and_two (eqb a b) (same_bytes x y) e in cc (eqb-true a b p, same_eq x y q)
+same_eq (a ∷ x) (b ∷ y) e = let (p, q) = and_parts (eqb a b) (same_bytes x y) e in cc (eqb-true a b p, same_eq x y q)
 
 pub lawful : Lawful knitting
 lawful =

@@ -1,24 +1,25 @@
 -- A log replayed from a place on, one record at a time, and the program laid again after a swap. Assumes nothing.
-use Prim.Native.Nat.{ℕ, zero, suc, ◌+◌, ◌-◌, ◌*◌, ◌≤◌, ◌<◌}
+use Prim.Native.Nat.{ℕ, zero, suc, ◌+◌, ◌*◌, ◌≤◌, ◌<◌}
 use mathlib.Core.Path.{◌≡◌, refl, sym, ap, subst, ◌∙◌}
 use mathlib.Core.Bool.{true, false}
 use mathlib.Core.List.{List, [], ◌∷◌}
 use native.Mathlib.Omega.{arith}
-use native.Mathlib.Numerals.{add-one}
 use lib.Dec.{eqb}
-use lib.ListN.{length, take, drop, get_or, length-drop, drop_of_length-le}
+use lib.ListN.{length, take, drop, drop_of_length-le}
 use lib.Seq.{drop-cons, drop-drop}
-use borrow.Author.Tests.{eq-eqb, ne_eqb}
+use borrow.Author.Rules.{rules}
+use Rattle.std.specs.Prelude.{Result, Ok, Err, is_ok}
+use Rattle.machine.specs.declared.refusals.Refusal.{Refusal}
+use Rattle.machine.proofs.Refused.{number_some}
+use Rattle.machine.specs.Refusals.{number_of, told_number}
 use Rattle.machine.specs.declared.Racking.{Racking}
 use Rattle.machine.specs.Machine.{Each}
 use Rattle.record.specs.Format.{byte}
 use Rattle.trace.specs.Swaps.{Outcome, no_pair, is_tied, made}
 use Rattle.trace.proofs.Swaps.{Made, made_is, untied}
-use Rattle.rewrite.specs.declared.LogRecord.{LogRecord}
-use Rattle.rewrite.specs.declared.LogRecord.TheVariants.{Torn, Swap}
 use Rattle.rewrite.specs.Programs.{flat, records_of, starts_of, knitting}
-use Rattle.rewrite.specs.Rewrite.{racking_zero, swap_of, Replay, ended, on_outcome, log_record_of, on_record, replay_from, replay}
-use Rattle.rewrite.specs.Laid.{is_record, Laid, Marked, rack_byte, swap_no, left_by, follow_no, left_after}
+use Rattle.rewrite.specs.Rewrite.{racking_zero, swap_of, LogRecord, Torn, Swap, Replay, ended, on_outcome, log_record_of, on_record, replay_from, replay}
+use Rattle.rewrite.specs.Laid.{read_as, is_record, Laid, Marked, rack_byte, swap_no, left_by, follow_no, left_after}
 use Rattle.rewrite.proofs.Records.{records_flat, flat_records}
 use Rattle.rewrite.proofs.Laying.{starts_length, work_length}
 use Rattle.rewrite.proofs.Replays.{Moved, made_moved}
@@ -45,29 +46,21 @@ module _ (log : List ℕ) (at : ℕ) where
       ap (λ (q : List ℕ). replay q at l) e
       ∙ (λ i. on_record (log_record_of (sym e i)) at l (λ m. (skipped (drop (suc at) log) (at + 3) m ∙ ap (λ (q : List ℕ). replay q (at + 3) m) f) i))
 
-  pub read_short : length log - at < 3 → Torn ≡ log_record_of (drop at log)
-  read_short i = go (drop at log) (length-drop at log)
-    where
-      go : (q : List ℕ) → length q ≡ length log - at → Torn ≡ log_record_of q
-      go [] e = refl
-      go (k ∷ []) e = refl
-      go (k ∷ high ∷ []) e = refl
-      go (k ∷ high ∷ low ∷ q) e = absurd (omega arith)
+-- code's reading of it: torn, or a position
+pub torn_left : (x : LogRecord) (l : List (List ℕ)) {why : Refusal} → Err why ≡ read_as x → (number_of why ≡ follow_no x l) × (left_after x l ≡ l)
+unfolding follow_no left_after
+torn_left Torn l e = (ap told_number e, refl)
+torn_left (Swap i) l e = absurd (search rules)
 
-  module _ (h : at + 2 < length log) where
-    three : drop at log ≡ get_or log at 0 ∷ get_or log (at + 1) 0 ∷ get_or log (at + 2) 0 ∷ drop (suc (at + 2)) log
-    three =
-        let second : suc (at + 1) ≡ at + 2 = omega arith in
-        drop-cons log at 0 (omega arith)
-        ∙ ap (λ (q : List ℕ). get_or log at 0 ∷ q)
-        (ap (λ (n : ℕ). drop n log) (sym (add-one at)) ∙ drop-cons log (at + 1) 0 (omega arith)
-        ∙ ap (λ (q : List ℕ). get_or log (at + 1) 0 ∷ q) (ap (λ (n : ℕ). drop n log) second ∙ drop-cons log (at + 2) 0 h))
+pub swap_left : (x : LogRecord) (l : List (List ℕ)) {i : ℕ} → Ok i ≡ read_as x → (swap_no (swap_of i l) ≡ follow_no x l) × (left_by (swap_of i l) l ≡ left_after x l)
+unfolding follow_no left_after
+swap_left Torn l e = absurd (search rules)
+swap_left (Swap j) l {i} e = let q : i ≡ j = search rules in (ap (λ (k : ℕ). swap_no (swap_of k l)) q, ap (λ (k : ℕ). left_by (swap_of k l) l) q)
 
-    pub read_kind : (get_or log at 0 ≡ 64 → ⊥) → Torn ≡ log_record_of (drop at log)
-    read_kind d = sym (ap log_record_of three ∙ simp (ne_eqb (get_or log at 0) 64 d))
-
-    pub read_swap : get_or log at 0 ≡ 64 → Swap (get_or log (at + 1) 0 * 256 + get_or log (at + 2) 0) ≡ log_record_of (drop at log)
-    read_swap k = sym (ap log_record_of three ∙ simp (eq-eqb (get_or log at 0) 64 k))
+-- what is refused has a number
+pub told_some : {A : Type 0} (r : Result A Refusal) → is_ok r ≡ false → told_number r ≡ 0 → ⊥
+told_some (Ok x) e z = absurd (search rules)
+told_some (Err why) e z = number_some why z
 
 -- by its number: refused, and nothing moved; or its swap is made
 pub follow_refused : (x : LogRecord) (at n : ℕ) (l : List (List ℕ)) (more : List (List ℕ) → Replay) → n ≡ follow_no x l → (n ≡ 0 → ⊥)

@@ -9,9 +9,9 @@ use lib.ListN.{length, take, drop, get_or, set, length-append}
 use lib.Seq.{length-take-le, take_at, drop_at, drop-append-add, split_at, drop-cons, set_at}
 use lib.Dec.{eqb}
 use borrow.Author.Tests.{eqb-true}
+use Rattle.std.proofs.lemmas.Bool.{and_parts}
 use Rattle.machine.specs.declared.Racking.{Racking}
 use Rattle.machine.specs.Machine.{Each}
-use Rattle.machine.proofs.Laws.{and_two}
 use Rattle.record.specs.Kinds.{size_of}
 use Rattle.record.specs.Format.{decode_of}
 use Rattle.trace.specs.Records.{tied}
@@ -21,7 +21,7 @@ use Rattle.trace.proofs.Theorems.{made_iff_untied, refused_iff_tied, no_pair_iff
 use Rattle.rewrite.specs.declared.Pair.{Pair}
 use Rattle.rewrite.specs.Programs.{flat, records_of, starts_of, knitting}
 use Rattle.rewrite.specs.Rewrite.{racking_zero, swap_of}
-use Rattle.rewrite.specs.Laid.{is_record, Sound, Laid, record_at, start_at, pair_at, tied_pair, exchanged}
+use Rattle.rewrite.specs.Laid.{Placed, is_record, Sound, Laid, record_at, start_at, pair_at, tied_pair, exchanged}
 use Rattle.rewrite.proofs.Records.{each_part, records_flat}
 use Rattle.rewrite.proofs.Laying.{flat_append, starts_append, starts_length, start_next, Stands, stands, size_at, bytes_at}
 use Rattle.rewrite.proofs.Rackings.{force_is}
@@ -73,13 +73,6 @@ module _ (u : List (List ℕ)) (x y : List ℕ) (v : List (List ℕ)) where
       ∙ sym two
 
 -- ---- records i and i + 1 of a program
--- in bounds, and short
-pub record Placed (p : List ℕ) (s : Pair) : Type 0 where
-  pub first_long : s.first + 2 ≤ s.second
-  pub second_long : s.second + 2 ≤ s.end
-  pub ends : s.end ≤ length p
-  pub short : s.end - s.first ≤ 12
-
 module _ (p : List ℕ) (sound : Sound p) (i : ℕ) (h : i + 1 < length (records_of p)) where
   abbrev pub first : List ℕ
   first = record_at p i
@@ -168,7 +161,7 @@ module _ (p : List ℕ) (sound : Sound p) (i : ℕ) (h : i + 1 < length (records
         (λ k. set ((laid.starts ∙ ap (starts_of 0) pair_cut) k) (i + 1) (f k)) ∙ starts_exchanged front first second rest (i + 1) (ap (λ (n : ℕ). n + 1) front_length)
 
   reads : (x : List ℕ) → is_record x ≡ true → (decode_of x).number ≡ 0
-  reads x e = eqb-true (decode_of x).number 0 (and_two (eqb (decode_of x).number 0) (eqb (decode_of x).size (length x)) e).0
+  reads x e = eqb-true (decode_of x).number 0 (and_parts (eqb (decode_of x).number 0) (eqb (decode_of x).size (length x)) e).0
 
   pub first_reads : (decode_of first).number ≡ 0
   first_reads = reads first one.is_one_record

@@ -8,13 +8,12 @@ use lib.Dec.{eqb}
 use lib.ListN.{length, take, drop, length-append, length-drop, take-append-drop}
 use lib.Seq.{take-length, take_at, drop_at}
 use borrow.Author.Tests.{eqb-true, eq-eqb}
+use Rattle.std.proofs.lemmas.Bool.{and_parts}
 use Rattle.machine.specs.declared.State.{State}
 use Rattle.machine.specs.Machine.{Each}
-use Rattle.machine.proofs.Laws.{and_two}
 use Rattle.record.specs.declared.Record.{Record}
-use Rattle.record.specs.declared.Decoded.{Decoded}
 use Rattle.record.specs.Kinds.{by_kind, size_of}
-use Rattle.record.specs.Format.{Encodes, byte, decode_of}
+use Rattle.record.specs.Format.{Reading, Encodes, byte, decode_of}
 use Rattle.record.proofs.Shapes.{work_size, plated_size}
 use Rattle.record.proofs.Forms.{form_decode, decode_form}
 use Rattle.run.specs.Relation.{Steps}
@@ -50,7 +49,7 @@ records_flat p = flat_cut (length p) p (omega arith)
 -- they are the form of the record that they encode, and only such are
 pub record_form : (x : List ℕ) → is_record x ≡ true → Encodes x (what x)
 record_form x w =
-    let (a, b) = and_two (eqb (decode_of x).number 0) (eqb (decode_of x).size (length x)) w in
+    let (a, b) = and_parts (eqb (decode_of x).number 0) (eqb (decode_of x).size (length x)) w in
     let e = eqb-true (decode_of x).size (length x) b in
     subst (λ (y : List ℕ). Encodes y (what x)) (ap (λ (n : ℕ). take n x) e ∙ take-length x) (decode_form x (eqb-true (decode_of x).number 0 a))
 
@@ -61,7 +60,7 @@ pub form_record : {x : List ℕ} {r : Record} → Encodes x r → is_record x �
 form_record {x} form = simp (form_alone form, eq-eqb (length x) (length x) refl)
 
 pub form_what : {x : List ℕ} {r : Record} → Encodes x r → what x ≡ r
-form_what form = ap (λ (d : Decoded). d.what) (form_alone form)
+form_what form = ap (λ (d : Reading). d.what) (form_alone form)
 
 -- the length of a form is its kind's
 pub record Sized (x : List ℕ) : Type 0 where

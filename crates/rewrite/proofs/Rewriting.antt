@@ -1,26 +1,25 @@
 -- The rewriter's call, put together: refused by its limit, by its lengths or by its run, or the program laid and its log replayed. Assumes nothing.
-use borrow.Table.Steps.{cases}
 use Prim.Native.Nat.{ℕ, ◌/◌, ◌≤◌, ◌<◌}
 use mathlib.Core.Path.{◌≡◌, refl, sym, ap, subst, ◌∙◌}
 use mathlib.Core.Bool.{Bool, true, false, ◌||◌, cond}
 use mathlib.Core.List.{List, ◌++◌}
 use native.Mathlib.Omega.{arith}
-use lib.Dec.{eqb, leb, ltb}
+use lib.Dec.{eqb, ltb}
 use lib.ListN.{length, take, drop, length-append, length-drop}
 use lib.Seq.{take_at, drop_at}
-use borrow.Author.Tests.{eq-eqb, ne_eqb, eqb-true, leb-true, leb-false, lt-ltb, le-ltb, ltb-false}
+use borrow.Author.Tests.{eq-eqb, ne_eqb, eqb-true, lt-ltb, le-ltb, ltb-false}
 use Rattle.machine.specs.Limits.{program_most, log_most}
 use Rattle.machine.specs.Machine.{empty_state}
 use Rattle.machine.specs.Range.{LimitInRange}
 use Rattle.machine.proofs.Ranges.{limit_exactly, limit_cases, limit_out}
 use Rattle.run.specs.declared.Answer.{Answer}
-use Rattle.run.specs.Run.{reached, start_no, answer_limit, answer_of, run_of}
+use Rattle.run.specs.Run.{reached, answer_limit, answer_of, run_of}
 use Rattle.record.proofs.Shapes.{cond_cases}
 use Rattle.run.proofs.Answers.{FullSize, answered, answer_size, empty_size}
 use Rattle.run.proofs.Demand.{place_bound}
 use Rattle.run.specs.declared.Ended.{Ended}
 use Rattle.rewrite.specs.Programs.{flat, records_of, starts_of}
-use Rattle.rewrite.specs.Rewrite.{replay, lent_no, Rewritten, refused, written, rewrite_of}
+use Rattle.rewrite.specs.Rewrite.{ended, replay, lent_no, Rewritten, refused, written, rewrite_of}
 use Rattle.rewrite.specs.Exact.{Enough}
 use Rattle.rewrite.specs.Laid.{Sound, Laid, Marked}
 use Rattle.rewrite.proofs.Records.{accepted_records, records_flat}
@@ -60,22 +59,6 @@ module _ (limit program log output work : ℕ) where
       all_enough k m =
           simp ((limit_exactly limit).1 b, le-ltb program_most program h, le-ltb log_most log i, le-ltb output program k, le-ltb work (program / 2) m)
 
-  -- 15 and 1 of the program are the run's own
-  pub start_lent : (start_no limit program ≡ 0 → ⊥) → start_no limit program ≡ lent_here
-  unfolding start_no
-  start_lent d =
-      limit_cases limit
-      (λ b. cases (leb program program_most) (λ t. absurd (d (simp ((limit_exactly limit).1 b, t))))
-      (λ t. simp ((limit_exactly limit).1 b, t) (sym (program_long b (leb-false program program_most t)))))
-      (λ b. simp (limit_out limit b) (sym (limit_bad b)))
-
-  pub started : start_no limit program ≡ 0 → LimitInRange limit × (program ≤ program_most)
-  unfolding start_no
-  started e =
-      limit_cases limit
-      (λ b. cases (leb program program_most) (λ t. (b, leb-true program program_most t)) (λ t. absurd (omega (arith, simp ((limit_exactly limit).1 b, t) at e))))
-      (λ b. absurd (omega (arith, simp (limit_out limit b) at e)))
-
 -- what 0 says
 neither : (a b : Bool) {m n : ℕ} → (n ≡ 0 → ⊥) → cond (a || b) n m ≡ 0 → (a ≡ false) × (b ≡ false) × (m ≡ 0)
 neither true b h e = absurd (h e)
@@ -107,9 +90,6 @@ module _ (p output o : List ℕ) (h : length p ≤ length output) (joined : o �
 
   pub copy_past : drop (length p) o ≡ drop (length p) output
   copy_past = ap (drop (length p)) joined ∙ drop_at p _ (length p) refl
-
-  pub copy_length : length p ≤ length o
-  copy_length = omega (arith, ap length joined, length-append p (drop (length p) output))
 
 -- the work area after the starts
 module _ (p work w : List ℕ) (n : ℕ) (e : n ≡ length (records_of p)) (written : w ≡ starts_of 0 (records_of p) ++ drop n work) where
@@ -153,12 +133,13 @@ module _ (limit : ℕ) (p log output work : List ℕ) where
   written_call z y = simp (eq-eqb number 0 z, eq-eqb (run_of limit p).number 0 y)
 
   -- what is answered and left
-  unfoldable pub Gives : Answer → List ℕ → List ℕ → Type 0
-  Gives a q v = (a ≡ call.answer) × ((q ≡ call.output) × (v ≡ call.work))
+  pub record Gives (a : Answer) (q v : List ℕ) : Type 0 where
+    pub answer : a ≡ call.answer
+    pub bytes : q ≡ call.output
+    pub starts : v ≡ call.work
 
   gives : (r : Rewritten) → call ≡ r → Gives r.answer r.output r.work
-  unfolding Gives
-  gives r e = (sym (ap (λ (c : Rewritten). c.answer) e), (sym (ap (λ (c : Rewritten). c.output) e), sym (ap (λ (c : Rewritten). c.work) e)))
+  gives r e = record { answer = sym (ap (λ (c : Rewritten). c.answer) e); bytes = sym (ap (λ (c : Rewritten). c.output) e); starts = sym (ap (λ (c : Rewritten). c.work) e) }
 
   pub gives_lent : (n : ℕ) (a : Answer) → n ≡ number → (n ≡ 0 → ⊥) → a ≡ answer_of (reached n 0 (empty_state (answer_limit limit))) → Gives a output work
   gives_lent n a e d f =
@@ -173,17 +154,18 @@ module _ (limit : ℕ) (p log output work : List ℕ) where
         subst (λ (b : Answer). Gives b output work) (sym ran) (gives (refused (run_of limit p) output work) (refused_call lent none))
 
     pub gives_written : a.number ≡ 0 → (d : Ended) (q v o w : List ℕ) (n : ℕ) → n ≡ length (records_of p) → drop (length p) o ≡ drop (length p) output → drop n w ≡ drop n work
-        → (d.number ≡ (replay log 0 (records_of p)).number) × (d.place ≡ (replay log 0 (records_of p)).place) → q ≡ flat (replay log 0 (records_of p)).left → v ≡ starts_of 0 (replay log 0 (records_of p)).left
+        → ended d.number d.place (replay log 0 (records_of p)).left ≡ replay log 0 (records_of p) → q ≡ flat (replay log 0 (records_of p)).left → v ≡ starts_of 0 (replay log 0 (records_of p)).left
         → Gives (record { number = d.number; place = d.place; complete = a.complete; state = a.state }) (q ++ drop (length p) o) (v ++ drop n w)
-    unfolding Gives
-    gives_written z d q v o w n count past-o past-w (e, f) bytes starts =
+    gives_written z d q v o w n count past-o past-w e bytes starts =
         let r = replay log 0 (records_of p) in
         let done : (run_of limit p).number ≡ 0 = sym (ap (λ (b : Answer). b.number) ran) ∙ z in
         let g = gives (written limit p r output work) (written_call lent done) in
-        let m : n ≡ length r.left = count ∙ sym (replay_moved log 0 (records_of p)).records in (
-          (λ i. record { number = e i; place = f i; complete = (ran i).complete; state = (ran i).state }) ∙ g.0,
-          ((λ i. bytes i ++ past-o i) ∙ g.1.0, (λ i. starts i ++ (past-w ∙ ap (λ (k : ℕ). drop k work) m) i) ∙ g.1.1),
-        )
+        let m : n ≡ length r.left = count ∙ sym (replay_moved log 0 (records_of p)).records in
+        record {
+          answer = (λ i. record { number = (e i).number; place = (e i).place; complete = (ran i).complete; state = (ran i).state }) ∙ g.answer;
+          bytes = (λ i. bytes i ++ past-o i) ∙ g.bytes;
+          starts = (λ i. starts i ++ (past-w ∙ ap (λ (k : ℕ). drop k work) m) i) ∙ g.starts;
+        }
 
   -- what holds of the three ways in which a call ends holds of it
   by_call : (P : Rewritten → Type 0) → (number ≡ 0 → P (written limit p (replay log 0 (records_of p)) output work)) → P (refused (run_of limit p) output work)

@@ -4,9 +4,10 @@ use mathlib.Core.List.{List, [], ◌∷◌, ◌++◌, append-nil, append_assoc}
 use Prim.Native.Nat.{ℕ, suc, ◌+◌, ◌-◌, ◌≤◌, ◌<◌}
 use native.Mathlib.Omega.{arith}
 use native.Mathlib.Numerals.{add-one}
-use lib.ListN.{length, take, drop, get_or, set, length-append, length-drop, drop_of_length-le, take-append-drop}
-use lib.Seq.{take_all, take_at, drop_at, take-append-le, drop-append-le, length-take-le, take-take, take-add, drop-drop}
+use lib.ListN.{length, take, drop, get_or, set, length-append, length-drop, drop_of_length-le}
+use lib.Seq.{take_at, take-append-le, drop-append-le, length-take-le, take-take, drop-drop}
 use lib.Seq.{drop-cons, take-suc, set_at, get_or_at}
+use Rattle.std.proofs.lemmas.List.{drop-take}
 use Rattle.rewrite.specs.Laid.{exchanged}
 
 -- the part afterwards
@@ -121,22 +122,10 @@ module _ (p : List ℕ) (k : ℕ) (h : length p ≡ k + k) where
   pub half_back : length (drop k p) ≡ k
   half_back = omega (arith, length-drop k p)
 
-  pub half_none : p ≡ halfway (take k p) (drop k p) 0
-  half_none = sym (take-append-drop k p)
-
-  pub half_all : (i : ℕ) → i ≡ k → halfway (take k p) (drop k p) i ≡ turned p k
-  half_all i e =
-      ap (halfway (take k p) (drop k p)) e
-      ∙ (λ n. (take_all k (drop k p) (omega (arith, half_back)) n ++ drop_of_length-le (take k p) {i = k} (omega (arith, half_front)) n)
-      ++ (take_all k (take k p) (omega (arith, half_front)) n ++ drop_of_length-le (drop k p) {i = k} (omega (arith, half_back)) n))
-      ∙ (λ n. append-nil (drop k p) n ++ append-nil (take k p) n)
-
 -- ---- the part put back
 -- what a part holds from j on
 drop_take : (j n : ℕ) (l : List ℕ) → j ≤ n → n ≤ length l → drop j (take n l) ≡ take (n - j) (drop j l)
-drop_take j n l h g =
-    let e : n ≡ j + (n - j) = omega arith in
-    ap (drop j) (ap (λ (m : ℕ). take m l) e ∙ take-add j (n - j) l) ∙ drop_at (take j l) (take (n - j) (drop j l)) j (length-take-le j l (omega arith))
+drop_take j n l h g = let e : n ≡ j + (n - j) = omega arith in ap (λ (m : ℕ). drop j (take m l)) e ∙ drop-take j (n - j) l
 
 pub put_back : (o r : List ℕ) (a b e : ℕ) → a ≤ b → b ≤ e → e ≤ length o → r ≡ turned (take (e - a) (drop a o)) (b - a)
     → take a o ++ (r ++ drop (e - a) (drop a o)) ≡ exchanged o a b e

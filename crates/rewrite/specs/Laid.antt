@@ -1,7 +1,10 @@
 -- How a program is laid in the lent areas between swaps: what the rewriter's private functions ask and promise. No part of the claims.
-use Rattle.std.specs.Prelude.{ℕ, ◌+◌, ◌-◌, ◌*◌, ◌≤◌, ◌<◌, ◌≡◌, Bool, true, cond, ◌&&◌, List, [], ◌∷◌, ◌++◌, ◌-ℤ◌, nat_abs, eqb, ltb, length, take, drop, get_or}
+use Rattle.std.specs.Prelude.{ℕ, ◌+◌, ◌-◌, ◌*◌, ◌≤◌, ◌<◌, ◌≡◌, Bool, true, cond, ◌&&◌, List, [], ◌∷◌, ◌++◌, ◌-ℤ◌, nat_abs, eqb, ltb, length, take, drop, get_or, Result, Ok, Err}
 use Rattle.machine.specs.declared.Column.{Column}
 use Rattle.machine.specs.declared.Racking.{Racking}
+use Rattle.machine.specs.declared.refusals.Refusal.{Refusal}
+use Rattle.machine.specs.declared.refusals.Refusal.TheVariants.{TornLog}
+use Rattle.machine.specs.Refusals.{number_of}
 use Rattle.machine.specs.Limits.{program_most}
 use Rattle.machine.specs.Machine.{Each}
 use Rattle.record.specs.Kinds.{RACK}
@@ -9,10 +12,9 @@ use Rattle.record.specs.Format.{byte, signed_of, decode_of}
 use Rattle.trace.specs.Records.{tied}
 use Rattle.trace.specs.Swaps.{Outcome, no_pair, is_tied, made}
 use Rattle.rewrite.specs.declared.Pair.{Pair}
-use Rattle.rewrite.specs.declared.LogRecord.{LogRecord}
-use Rattle.rewrite.specs.declared.LogRecord.TheVariants.{Torn, Swap}
+use Rattle.run.specs.declared.Stop.{Stop}
 use Rattle.rewrite.specs.Programs.{flat, records_of, starts_of, knitting}
-use Rattle.rewrite.specs.Rewrite.{swap_of}
+use Rattle.rewrite.specs.Rewrite.{swap_of, LogRecord, Torn, Swap, Replay, ended}
 
 -- two columns apart or more, so that no extents there meet
 unfoldable pub far_apart : Column → Column → Bool
@@ -53,6 +55,13 @@ start_at program i = length (flat (take i (records_of program)))
 abbrev pub pair_at : List ℕ → ℕ → Pair
 pair_at program i = record { first = start_at program i; second = start_at program (i + 1); end = start_at program (i + 2) }
 
+-- in bounds, and short
+pub record Placed (program : List ℕ) (there : Pair) : Type 0 where
+  pub first_long : there.first + 2 ≤ there.second
+  pub second_long : there.second + 2 ≤ there.end
+  pub ends : there.end ≤ length program
+  pub short : there.end - there.first ≤ 12
+
 -- the racking in force at record i
 abbrev pub in_force_at : List ℕ → ℕ → Racking
 in_force_at program i = record { 0 = signed_of (rack_byte 0 (take i (records_of program))) }
@@ -72,11 +81,12 @@ left_by no_pair l = l
 left_by is_tied l = l
 left_by (made m) l = m
 
--- what a log record answers and leaves; its position is one of two bytes
-abbrev pub InTwoBytes : LogRecord → Type 0
-InTwoBytes Torn = Unit {0}
-InTwoBytes (Swap i) = i < 65536
+-- what code reads a log record as: its position, or 14
+abbrev pub read_as : LogRecord → Result ℕ Refusal
+read_as Torn = Err TornLog
+read_as (Swap i) = Ok i
 
+-- what a log record answers and leaves
 unfoldable pub follow_no : LogRecord → List (List ℕ) → ℕ
 follow_no Torn l = 14
 follow_no (Swap i) l = swap_no (swap_of i l)
@@ -88,3 +98,8 @@ left_after (Swap i) l = left_by (swap_of i l) l
 -- the records from a to b and from b to e change places
 unfoldable pub exchanged : List ℕ → ℕ → ℕ → ℕ → List ℕ
 exchanged o a b e = take a o ++ (take (e - b) (drop b o) ++ (take (b - a) (drop a o) ++ drop e o))
+
+-- where a log ended, as code answers it, with the records that are left
+abbrev pub stopped : Result (Unit {0}) Stop → List (List ℕ) → Replay
+stopped (Ok _) l = ended 0 0 l
+stopped (Err stop) l = ended (number_of stop.why) stop.place l

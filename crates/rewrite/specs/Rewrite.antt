@@ -7,8 +7,6 @@ use Rattle.machine.specs.Range.{limit_ok}
 use Rattle.run.specs.declared.Answer.{Answer}
 use Rattle.run.specs.Run.{reached, answer_limit, answer_of, run_of}
 use Rattle.trace.specs.Swaps.{Outcome, no_pair, is_tied, made, swap_at}
-use Rattle.rewrite.specs.declared.LogRecord.{LogRecord}
-use Rattle.rewrite.specs.declared.LogRecord.TheVariants.{Torn, Swap}
 use Rattle.rewrite.specs.Programs.{flat, records_of, starts_of, log_record_size, swap_kind, position_of, knitting}
 
 -- racking 0, where every program starts
@@ -33,6 +31,11 @@ abbrev pub on_outcome : Outcome (List ℕ) → ℕ → List (List ℕ) → (List
 on_outcome no_pair at l more = ended 12 at l
 on_outcome is_tied at l more = ended 13 at l
 on_outcome (made m) at l more = more m
+
+-- what a log record is read as: torn, or a swap of records i and i + 1
+pub data LogRecord : Type 0 where
+  Torn : LogRecord
+  Swap : ℕ → LogRecord
 
 -- the log record that bytes begin with; another kind, or fewer than three bytes, is torn
 abbrev pub log_record_of : List ℕ → LogRecord

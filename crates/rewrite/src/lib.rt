@@ -1,17 +1,18 @@
 // The rewriter: extents and ties, starts, and swaps made in the lent output only where the rule lets them.
 #![tactic(auto)]
 
-ghost use Rattle.std.specs.Prelude.{◌≡◌, List, ◌++◌, ℕ, ◌+◌, ◌-◌, ◌*◌, ◌/◌, ◌≤◌, ◌<◌, length, take, drop};
+ghost use Rattle.std.specs.Prelude.{◌≡◌, List, ◌++◌, ℕ, cond, ◌+◌, ◌-◌, ◌*◌, ◌/◌, ◌≤◌, ◌<◌, length, take, drop};
+ghost use Rattle.machine.specs.Refusals.{told_number};
 ghost use Rattle.record.specs.Names.{carriers_of};
-ghost use Rattle.rewrite.specs.Extents.{member, half_column, layer_of, narrow, broad, smaller, greater, form_extent, extent_of, meets, share_carrier};
+ghost use Rattle.rewrite.specs.Extents.{member, half_column, layer_of, narrow, broad, form_extent, extent_of, meets, share_carrier};
 ghost use Rattle.rewrite.specs.Programs.{flat, records_of, starts_of};
-ghost use Rattle.rewrite.specs.Rewrite.{swap_of, log_record_of, replay, lent_no, writes, rewrite_of};
-ghost use Rattle.rewrite.specs.Laid.{far_apart, Sound, Laid, Marked, start_at, pair_at, rack_byte, in_force_at, tied_pair, swap_no, left_by, InTwoBytes, follow_no, left_after, exchanged};
+ghost use Rattle.rewrite.specs.Rewrite.{swap_of, log_record_of, ended, replay, lent_no, writes, rewrite_of};
+ghost use Rattle.rewrite.specs.Laid.{far_apart, Placed, Sound, Laid, Marked, start_at, pair_at, rack_byte, in_force_at, tied_pair, swap_no, left_by, read_as, follow_no, left_after, stopped, exchanged};
 
-use machine::numbers::{NO_PAIR, NO_ROOM, TIED, TOO_LONG, TORN_LOG};
+use machine::refusals::Refusal;
 use machine::{Column, Needle, Racking, State};
 use record::{DROP, IN, KNIT, MISS, PLATED_KNIT, PLATED_TUCK, RACK, Record, SPLIT, TUCK, XFER};
-use run::{Answer, Ended};
+use run::{Answer, Ended, Stop};
 
 // What a record covers: half columns from left to right, layers from low to high.
 #[derive(Clone, Copy)]
@@ -30,11 +31,12 @@ struct Pair {
     end: usize,
 }
 
-// What a log record is read as: torn, or a swap of records i and i + 1.
+// A program between swaps, its records' starts, and the racking bytes in force at every 64th.
 #[derive(Clone, Copy)]
-enum LogRecord {
-    Torn,
-    Swap(usize),
+struct View<'a> {
+    program: &'a [u8],
+    starts: &'a [u16],
+    rackings: &'a [u8],
 }
 
 // The layer of the back bed; the front bed's is 0, carriers lie between.
@@ -50,35 +52,23 @@ pub const STRIDE: usize = 64;
 
 pub const MARKS: usize = 256;
 
-// The needle's half column alone.
-fn narrow(n: Needle, r: Racking, low: u8, high: u8) -> Extent
-    ensures { result ≡ narrow (half_column n r) low high }
+// The needle's half column, alone or with one to each side.
+fn columns(n: Needle, r: Racking, beside: bool, low: u8, high: u8) -> Extent
+    ensures { result ≡ cond beside (broad (half_column n r) low high) (narrow (half_column n r) low high) }
 {
     let z = n.column(r);
     let h = z.0 + z.0;
+    let reach = i32::from(beside);
     Extent {
-        left: h,
-        right: h,
-        low,
-        high,
-    }
-}
-
-// The needle's half column and one to each side.
-fn broad(n: Needle, r: Racking, low: u8, high: u8) -> Extent
-    ensures { result ≡ broad (half_column n r) low high }
-{
-    let z = n.column(r);
-    let h = z.0 + z.0;
-    Extent {
-        left: h - 1,
-        right: h + 1,
+        left: h - reach,
+        right: h + reach,
         low,
         high,
     }
 }
 
 // The layer of the needle's bed.
+#[tactic(auto, unfolding(crate::specs::Extents::layer_of))]
 fn layer(n: Needle) -> u8
     ensures { result ≡ layer_of n }
 {
@@ -90,38 +80,30 @@ fn form(n: Needle, r: Racking, low: u8, high: u8) -> Extent
     ensures { result ≡ form_extent (half_column n r) n low high }
 {
     if n.0 == 0 {
-        return broad(n, r, 0, high);
+        columns(n, r, true, 0, high)
+    } else {
+        columns(n, r, true, low, BACK)
     }
-    broad(n, r, low, BACK)
-}
-
-// From the needle's bed to two carriers.
-fn plated(n: Needle, r: Racking, k: u8, j: u8) -> Extent
-    ensures { result ≡ form_extent (half_column n r) n (smaller k j) (greater k j) }
-{
-    if k < j {
-        return form(n, r, k, j);
-    }
-    form(n, r, j, k)
 }
 
 // A record's extent at the racking in force.
+#[tactic(auto, using(crate::proofs::Extents::extents))]
 pub fn extent_of(x: Record, r: Racking) -> Extent
     ensures { result ≡ extent_of r x }
 {
     let n = x.at;
     let kind = x.kind;
-    let all = broad(n, r, 0, BACK);
+    let all = columns(n, r, true, 0, BACK);
     match kind {
         DROP => {
             let k = layer(n);
-            narrow(n, r, k, k)
+            columns(n, r, false, k, k)
         }
-        XFER => narrow(n, r, 0, BACK),
-        IN..=MISS => broad(n, r, x.carrier, x.carrier),
+        XFER => columns(n, r, false, 0, BACK),
+        IN..=MISS => columns(n, r, true, x.carrier, x.carrier),
         TUCK..=KNIT => form(n, r, x.carrier, x.carrier),
         SPLIT => all,
-        PLATED_TUCK..=PLATED_KNIT => plated(n, r, x.carrier, x.second),
+        PLATED_TUCK..=PLATED_KNIT => form(n, r, x.carrier.min(x.second), x.carrier.max(x.second)),
         // a rack has no extent: no tie asks for it
         _ => all,
     }
@@ -129,23 +111,19 @@ pub fn extent_of(x: Record, r: Racking) -> Extent
 
 impl Extent {
     // Whether the two share a half column and a layer.
+    #[tactic(auto, unfolding(crate::specs::Extents::meets))]
     pub fn meets(self, other: Extent) -> bool
         ensures { result ≡ meets self other }
     {
-        if other.right < self.left {
-            return false;
-        }
-        if self.right < other.left {
-            return false;
-        }
-        if other.high < self.low {
-            return false;
-        }
-        other.low <= self.high
+        self.left <= other.right
+            && other.left <= self.right
+            && self.low <= other.high
+            && other.low <= self.high
     }
 }
 
 // Whether the record names the carrier.
+#[tactic(auto, using(crate::proofs::Carriers::carriers), unfolding(crate::specs::Extents::member))]
 pub fn names(x: Record, k: u8) -> bool
     ensures { result ≡ member k (carriers_of x) }
 {
@@ -157,6 +135,7 @@ pub fn names(x: Record, k: u8) -> bool
 }
 
 // Whether the two name one carrier.
+#[tactic(auto, using(crate::proofs::Carriers::carriers), unfolding(crate::specs::Extents::common))]
 pub fn share_carrier(x: Record, y: Record) -> bool
     ensures { result ≡ share_carrier x y }
 {
@@ -168,14 +147,15 @@ pub fn share_carrier(x: Record, y: Record) -> bool
 }
 
 // Whether the two are two columns apart or more.
+#[tactic(auto, unfolding(crate::specs::Laid::far_apart))]
 pub fn apart(a: Column, b: Column) -> bool
     ensures { result ≡ far_apart a b }
 {
-    let d = (a.0 as i64) - (b.0 as i64);
-    d < -1 || 1 < d
+    1 < a.0.abs_diff(b.0)
 }
 
 // Whether the extents of the two meet at the racking in force; most are apart by their columns alone.
+#[tactic(auto, using(crate::proofs::Extents::far_apart_lem))]
 fn meet(x: Record, y: Record, r: Racking) -> bool
     ensures { result ≡ meets (extent_of r x) (extent_of r y) }
 {
@@ -189,33 +169,8 @@ fn meet(x: Record, y: Record, r: Racking) -> bool
     e.meets(extent_of(y, r))
 }
 
-// Whether records i and i + 1 of the output, which stand there, are tied: a rack, one carrier, or extents that meet. (The
-// racking in force is looked for before the records are read: with those at hand the walk to it would be longer by a
-// load for each record; a tie ends its log, so a walk for nothing is made once.)
-#[tactic(auto, using(crate::proofs::Judging::racks))]
-fn tied(output: &[u8], work: &[u16], table: &[u8], i: usize, there: Pair) -> bool
-    requires { (Laid output.now work.now) × (Marked output.now table.now) × (i + 1 < length (records_of output.now)) × (there ≡ pair_at output.now i) }
-    ensures { result ≡ tied_pair output.now i }
-{
-    let a = there.first;
-    let b = there.second;
-    let e = there.end;
-    if output[a] == RACK {
-        return true;
-    }
-    if output[b] == RACK {
-        return true;
-    }
-    let r = racking_at(output, work, table, i);
-    let x = record::outline(&output[a..b]);
-    let y = record::outline(&output[b..e]);
-    if share_carrier(x, y) {
-        return true;
-    }
-    meet(x, y, r)
-}
-
-// Moves the first k bytes of a short part behind the others.
+// Moves the first k bytes of a short part behind the others. (The library's `rotate_left` costs a swap 4,300 instructions in
+// place of 117: it keeps a side of any length on the stack.)
 fn rotate(part: &mut [u8], k: usize)
     requires { (k ≤ length part.old) × (length part.old ≤ 12) }
     ensures { part.new ≡ drop k part.old ++ take k part.old }
@@ -233,17 +188,14 @@ fn halves(part: &mut [u8], k: usize)
     requires { length part.old ≡ k + k }
     ensures { part.new ≡ drop k part.old ++ take k part.old }
 {
-    let mut i: usize = 0;
-    while i < k {
-        let b = part[i];
-        part[i] = part[k + i];
-        part[k + i] = b;
-        i += 1;
+    for i in 0..k {
+        part.swap(i, k + i);
     }
 }
 
 // The records from a to b and from b to e change places: two of 3 bytes (drops), of 5 (in to knit) or of 6 (split, plated)
 // byte by byte, at a length that the compiler knows, all else by way of a copy.
+#[tactic(auto, using(crate::proofs::Rotations::put_back))]
 fn exchange(output: &mut [u8], a: usize, b: usize, e: usize)
     requires { (a ≤ b) × (b ≤ e) × (e ≤ length output.old) × (e - a ≤ 12) }
     ensures { output.new ≡ exchanged output.old a b e }
@@ -258,7 +210,8 @@ fn exchange(output: &mut [u8], a: usize, b: usize, e: usize)
     }
 }
 
-// Writes each record's start into the front of the work area and answers how many there are.
+// Writes each record's start into the front of the work area and answers how many there are. (A `while`: a record's size decides
+// the next place.)
 pub fn starts(program: &[u8], work: &mut [u16]) -> usize
     requires { (Sound program.now) × (length program.now / 2 ≤ length work.old) }
     ensures { (result ≡ length (records_of program.now)) × (work.new ≡ starts_of 0 (records_of program.now) ++ drop result work.old) }
@@ -274,22 +227,12 @@ pub fn starts(program: &[u8], work: &mut [u16]) -> usize
 }
 
 // Where record i starts in the program whose starts these are. All starts are read here.
+#[tactic(auto, using(crate::proofs::Laying::work_start))]
 fn start(work: &[u16], i: usize) -> usize
     requires { i < length work.now }
     ensures { (program : List ℕ) → Laid program work.now → result ≡ start_at program i }
 {
-    work[i] as usize
-}
-
-// Where records i and i + 1 stand.
-fn pair_at(program: &[u8], work: &[u16], i: usize) -> Pair
-    requires { (Laid program.now work.now) × (i + 1 < length (records_of program.now)) }
-    ensures { result ≡ pair_at program.now i }
-{
-    let first = start(work, i);
-    let second = start(work, i + 1);
-    let end = second + record::size_of(program[second]);
-    Pair { first, second, end }
+    usize::from(work[i])
 }
 
 // The racking byte after the records from i to n, where it was r before them.
@@ -298,13 +241,11 @@ fn racking_after(program: &[u8], work: &[u16], i: usize, n: usize, r: u8) -> u8
     ensures { result ≡ rack_byte r (take (n - i) (drop i (records_of program.now))) }
 {
     let mut b = r;
-    let mut j = i;
-    while j < n {
+    for j in i..n {
         let at = start(work, j);
         if program[at] == RACK {
             b = program[at + 1];
         }
-        j += 1;
     }
     b
 }
@@ -315,130 +256,162 @@ fn marks(program: &[u8], work: &[u16], table: &mut [u8])
     ensures { Marked program.now table.new }
 {
     let n = work.len();
-    let mut j: usize = 0;
-    let mut i: usize = 0;
     let mut b: u8 = 0;
-    while i + STRIDE < n {
-        table[j] = b;
-        b = racking_after(program, work, i, i + STRIDE, b);
-        i += STRIDE;
-        j += 1;
-    }
-    if i < n {
-        table[j] = b;
+    for i in (0..n).step_by(STRIDE) {
+        table[i / STRIDE] = b;
+        if i + STRIDE < n {
+            b = racking_after(program, work, i, i + STRIDE, b);
+        }
     }
 }
 
-// The racking in force at record i: at most 63 records are looked at.
-fn racking_at(program: &[u8], work: &[u16], table: &[u8], i: usize) -> Racking
-    requires { (Laid program.now work.now) × (Marked program.now table.now) × (i < length (records_of program.now)) }
-    ensures { result ≡ in_force_at program.now i }
-{
-    let j = i / STRIDE;
-    let b = racking_after(program, work, j * STRIDE, i, table[j]);
-    Racking(record::signed(b))
+impl<'a> View<'a> {
+    // Where records i and i + 1 stand.
+    fn pair_at(self, i: usize) -> Pair
+        requires { (Laid self.program.now self.starts.now) × (i + 1 < length (records_of self.program.now)) }
+        ensures { (result ≡ pair_at self.entry.program.now i) × (Placed self.entry.program.now result) }
+    {
+        let first = start(self.starts, i);
+        let second = start(self.starts, i + 1);
+        let end = second + record::size_of(self.program[second]);
+        Pair { first, second, end }
+    }
+
+    // The racking in force at record i: at most 63 records are looked at.
+    fn racking_at(self, i: usize) -> Racking
+        requires { (Laid self.program.now self.starts.now) × (Marked self.program.now self.rackings.now) × (i < length (records_of self.program.now)) }
+        ensures { result ≡ in_force_at self.entry.program.now i }
+    {
+        let j = i / STRIDE;
+        let b = racking_after(self.program, self.starts, j * STRIDE, i, self.rackings[j]);
+        Racking(record::signed(b))
+    }
+
+    // Whether records i and i + 1, which stand there, are tied: a rack, one carrier, or extents that meet. (The racking in
+    // force is looked for before the records are read: with those at hand the walk to it would be longer by a load for each
+    // record; a tie ends its log, so a walk for nothing is made once.)
+    #[tactic(auto, using(crate::proofs::Judging::racks))]
+    fn tied(self, i: usize, there: Pair) -> bool
+        requires { (Laid self.program.now self.starts.now) × (Marked self.program.now self.rackings.now) × (i + 1 < length (records_of self.program.now)) × (there ≡ pair_at self.program.now i) × (Placed self.program.now there) }
+        ensures { result ≡ tied_pair self.entry.program.now i }
+    {
+        let a = there.first;
+        let b = there.second;
+        let e = there.end;
+        let program = self.program;
+        if program[a] == RACK {
+            return true;
+        }
+        if program[b] == RACK {
+            return true;
+        }
+        let r = self.racking_at(i);
+        let x = record::outline(&program[a..b]);
+        let y = record::outline(&program[b..e]);
+        share_carrier(x, y) || meet(x, y, r)
+    }
 }
 
-// Swaps records i and i + 1, or answers 12 or 13.
-fn swap(output: &mut [u8], work: &mut [u16], table: &[u8], i: usize) -> u8
+// Swaps records i and i + 1, or answers 12 or 13. (Output, work and table are three loans: a struct of them would have to promise of
+// each method that its loans stay themselves.)
+fn swap(output: &mut [u8], work: &mut [u16], table: &[u8], i: usize) -> Result<(), Refusal>
     requires { (Laid output.old work.old) × (Marked output.old table.now) × (i < 65536) }
-    ensures number { result ≡ swap_no (swap_of i (records_of output.old)) }
+    ensures number { told_number result ≡ swap_no (swap_of i (records_of output.old)) }
     ensures bytes { output.new ≡ flat (left_by (swap_of i (records_of output.old)) (records_of output.old)) }
     ensures starts { work.new ≡ starts_of 0 (left_by (swap_of i (records_of output.old)) (records_of output.old)) }
 {
     if work.len() <= i + 1 {
-        return NO_PAIR;
+        return Err(Refusal::NoPair);
     }
-    let there = pair_at(output, work, i);
-    if tied(output, work, table, i, there) {
-        return TIED;
+    let view = View {
+        program: output,
+        starts: work,
+        rackings: table,
+    };
+    let there = view.pair_at(i);
+    if view.tied(i, there) {
+        return Err(Refusal::Tied);
     }
     exchange(output, there.first, there.second, there.end);
     work[i + 1] = (there.first + (there.end - there.second)) as u16;
-    0
+    Ok(())
 }
 
-// A byte in a wider type.
-fn wide(b: u8) -> usize
-    ensures { (result ≡ b) × (result < 256) }
+// The position in the log record that the bytes begin with: its kind, then the position, high byte first. All log records
+// are read here.
+fn log_record(log: &[u8]) -> Result<u16, Refusal>
+    ensures { result ≡ read_as (log_record_of log.now) }
 {
-    b as usize
+    match log {
+        [SWAP, high, low, ..] => Ok(u16::from_be_bytes([*high, *low])),
+        _ => Err(Refusal::TornLog),
+    }
 }
 
-// The log record at a place: its kind, then a position, high byte first. All log records are read here.
-fn log_record(log: &[u8], at: usize) -> LogRecord
-    requires { at < length log.now }
-    ensures { (result ≡ log_record_of (drop at log.now)) × (InTwoBytes result) }
+// Does what the log record asks that the bytes begin with, or answers why not.
+fn follow(log: &[u8], output: &mut [u8], work: &mut [u16], table: &[u8]) -> Result<(), Refusal>
+    requires { (Laid output.old work.old) × (Marked output.old table.now) }
+    ensures number { told_number result ≡ follow_no (log_record_of log.now) (records_of output.old) }
+    ensures bytes { output.new ≡ flat (left_after (log_record_of log.now) (records_of output.old)) }
+    ensures starts { work.new ≡ starts_of 0 (left_after (log_record_of log.now) (records_of output.old)) }
 {
-    if log.len() - at < LOG_RECORD {
-        return LogRecord::Torn;
-    }
-    if log[at] != SWAP {
-        return LogRecord::Torn;
-    }
-    LogRecord::Swap(wide(log[at + 1]) * 256 + wide(log[at + 2]))
-}
-
-// Does what a log record asks, or answers why not.
-fn follow(x: LogRecord, output: &mut [u8], work: &mut [u16], table: &[u8]) -> u8
-    requires { (Laid output.old work.old) × (Marked output.old table.now) × (InTwoBytes x) }
-    ensures number { result ≡ follow_no x (records_of output.old) }
-    ensures bytes { output.new ≡ flat (left_after x (records_of output.old)) }
-    ensures starts { work.new ≡ starts_of 0 (left_after x (records_of output.old)) }
-{
-    match x {
-        LogRecord::Torn => TORN_LOG,
-        LogRecord::Swap(i) => swap(output, work, table, i),
-    }
+    let i = log_record(log)?;
+    swap(output, work, table, usize::from(i))
 }
 
 // Follows the records of a log in order, up to the first that it refuses.
-fn replay(log: &[u8], output: &mut [u8], work: &mut [u16], table: &[u8]) -> Ended
+fn replay(log: &[u8], output: &mut [u8], work: &mut [u16], table: &[u8]) -> Result<(), Stop>
     requires { (Laid output.old work.old) × (Marked output.old table.now) }
-    ensures number { (result.number ≡ (replay log.now 0 (records_of output.old)).number) × (result.place ≡ (replay log.now 0 (records_of output.old)).place) }
+    ensures stopped { stopped result (replay log.now 0 (records_of output.old)).left ≡ replay log.now 0 (records_of output.old) }
     ensures bytes { output.new ≡ flat (replay log.now 0 (records_of output.old)).left }
     ensures starts { work.new ≡ starts_of 0 (replay log.now 0 (records_of output.old)).left }
 {
-    let mut at: usize = 0;
-    while at < log.len() {
-        let number = follow(log_record(log, at), output, work, table);
-        if number != 0 {
-            return run::end_at(number, at);
-        }
-        at += LOG_RECORD;
+    for place in (0..log.len()).step_by(LOG_RECORD) {
+        follow(&log[place..], output, work, table).map_err(|why| Stop { why, place })?;
     }
-    run::end_at(0, 0)
+    Ok(())
 }
 
-// Whether hooks can have the limit and the lent areas will do, by their lengths: 0, or 15, 1 or 2.
-pub fn lent(limit: u8, program: usize, log: usize, output: usize, work: usize) -> u8
-    ensures { result ≡ lent_no limit program log output work }
+// Where a log ended, by numbers: 0 and 0 at its end.
+fn end_of(r: Result<(), Stop>) -> Ended
+    ensures { (l : List (List ℕ)) → ended result.number result.place l ≡ stopped r l }
 {
-    let number = run::start(limit, program);
-    if number != 0 {
-        return number;
+    match r {
+        Ok(()) => run::end_at(0, 0),
+        Err(stop) => run::end_at(stop.why.number(), stop.place),
     }
+}
+
+// Whether hooks can have the limit and the lent areas will do, by their lengths, or 15, 1 or 2.
+#[tactic(auto, unfolding(crate::specs::Rewrite::lent_no, run::specs::Run::start_no))]
+pub fn lent(
+    limit: u8,
+    program: usize,
+    log: usize,
+    output: usize,
+    work: usize,
+) -> Result<(), Refusal>
+    ensures { told_number result ≡ lent_no limit program log output work }
+{
+    run::start(limit, program)?;
     if State::LOG_MOST < log {
-        return TOO_LONG;
+        return Err(Refusal::TooLong);
     }
-    if output < program {
-        return NO_ROOM;
+    if output < program || work < program / 2 {
+        return Err(Refusal::NoRoom);
     }
-    if work < program / 2 {
-        return NO_ROOM;
-    }
-    0
+    Ok(())
 }
 
 // Whether a call that answers this number has written: the program is then at the front of the output.
+#[tactic(auto, unfolding(crate::specs::Rewrite::writes))]
 pub fn writes(number: u8) -> bool
     ensures { result ≡ writes number }
 {
-    match number {
-        0 => true,
-        NO_PAIR | TIED | TORN_LOG => true,
-        _ => false,
-    }
+    number == 0
+        || number == Refusal::NoPair.number()
+        || number == Refusal::Tied.number()
+        || number == Refusal::TornLog.number()
 }
 
 // Runs the program, copies it to the front of the output, writes its records' starts into the front of the work area
@@ -449,9 +422,8 @@ pub fn rewrite(limit: u8, program: &[u8], log: &[u8], output: &mut [u8], work: &
     ensures starts { work.new ≡ (rewrite_of limit program.now log.now output.old work.old).work }
 {
     let n = program.len();
-    let number = lent(limit, n, log.len(), output.len(), work.len());
-    if number != 0 {
-        return run::refused(number, limit);
+    if let Err(why) = lent(limit, n, log.len(), output.len(), work.len()) {
+        return run::refused(why.number(), limit);
     }
     let a = run::run(limit, program);
     if a.number != 0 {
@@ -461,12 +433,10 @@ pub fn rewrite(limit: u8, program: &[u8], log: &[u8], output: &mut [u8], work: &
     let count = starts(program, work);
     let mut table = [0u8; MARKS];
     marks(program, &work[..count], &mut table);
-    let d = replay(log, &mut output[..n], &mut work[..count], &table);
-    let state = a.state;
+    let d = end_of(replay(log, &mut output[..n], &mut work[..count], &table));
     Answer {
         number: d.number,
         place: d.place,
-        complete: a.complete,
-        state,
+        ..a
     }
 }

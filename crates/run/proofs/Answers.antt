@@ -13,7 +13,7 @@ use Rattle.machine.specs.Machine.{empty_state, complete_of, inactive}
 use Rattle.machine.specs.Range.{LimitInRange}
 use Rattle.machine.proofs.Laws.{empty_is_complete, complete_exactly}
 use Rattle.machine.proofs.Ranges.{limit_exactly, limit_cases, limit_out}
-use Rattle.run.specs.declared.Reached.{Reached}
+use Rattle.run.specs.Run.{Reached}
 use Rattle.run.specs.declared.Answer.{Answer}
 use Rattle.run.specs.Relation.{Steps, Valid}
 use Rattle.run.specs.Reason.{First}

@@ -9,9 +9,8 @@ use lib.ListN.{length, take, drop, take-append-drop}
 use borrow.Author.Tests.{ne_eqb}
 use Rattle.machine.specs.declared.State.{State}
 use Rattle.record.specs.declared.Record.{Record}
-use Rattle.record.specs.declared.Decoded.{Decoded}
 use Rattle.record.specs.Kinds.{size_of}
-use Rattle.record.specs.Format.{Encodes, byte, refused_as, decode_of}
+use Rattle.record.specs.Format.{Reading, Encodes, byte, refused_as, decode_of}
 use Rattle.record.proofs.Shapes.{is, known_size, sized_known}
 use Rattle.record.proofs.Forms.{Reads, reads, form_decode, form_in, decode_form, decode_in}
 use Rattle.run.specs.Relation.{Step}
@@ -33,7 +32,7 @@ module _ {l : List ℕ} (f : size_of (byte l 0) ≡ 0 → ⊥) where
   whole : size_of (byte l 0) ≤ length l → Whole l
   whole h = record { some = omega (arith, known_size (sized_known (byte l 0) f)); known = f; long = h }
 
-bytes_reason : {l : List ℕ} {d : Decoded} (s : State) → Reads l d → (d.number ≡ 0 → ⊥) → Reason d.number s l
+bytes_reason : {l : List ℕ} {d : Reading} (s : State) → Reads l d → (d.number ≡ 0 → ⊥) → Reason d.number s l
 unfolding refused_as
 bytes_reason s (Reads.none e) h = Reason.cut_short refl (CutShort.no_byte e)
 bytes_reason s (Reads.strange a e) h = Reason.unknown_kind refl (record { some = a; unknown = e })
@@ -46,7 +45,7 @@ front_decode : {l bytes : List ℕ} {x : Record} (rest : List ℕ) → l ≡ byt
 front_decode rest e form = ap decode_of e ∙ form_decode form rest
 
 -- bytes that are refused have one reason alone
-bytes_alone : {l : List ℕ} {d : Decoded} {s : State} {m : ℕ} → Reason m s l → Reads l d → decode_of l ≡ d → (d.number ≡ 0 → ⊥) → m ≡ d.number
+bytes_alone : {l : List ℕ} {d : Reading} {s : State} {m : ℕ} → Reason m s l → Reads l d → decode_of l ≡ d → (d.number ≡ 0 → ⊥) → m ≡ d.number
 unfolding refused_as
 bytes_alone (Reason.unknown_kind q a) (Reads.none e) i h = absurd (omega (arith, a.some))
 bytes_alone (Reason.unknown_kind q a) (Reads.strange b c) i h = q
@@ -64,10 +63,10 @@ bytes_alone (Reason.field_range q a) (Reads.strange b c) i h = absurd (a.whole.k
 bytes_alone (Reason.field_range q a) (Reads.short f b c) i h = absurd (omega (arith, a.whole.long))
 bytes_alone (Reason.field_range q a) (Reads.outside f b c) i h = q
 bytes_alone (Reason.field_range q a) (Reads.done f b c) i h = absurd (h refl)
-bytes_alone (Reason.of_record bytes rest x q form r) w i h = absurd (h (ap (λ (d : Decoded). d.number) (sym i ∙ front_decode rest q form)))
+bytes_alone (Reason.of_record bytes rest x q form r) w i h = absurd (h (ap (λ (d : Reading). d.number) (sym i ∙ front_decode rest q form)))
 
 -- where a record was decoded, every reason is one of that record
-record_reason : {l : List ℕ} {d : Decoded} {s : State} {m : ℕ} → Reads l d → decode_of l ≡ d → d.number ≡ 0 → Reason m s l → RecordReason m s d.what
+record_reason : {l : List ℕ} {d : Reading} {s : State} {m : ℕ} → Reads l d → decode_of l ≡ d → d.number ≡ 0 → Reason m s l → RecordReason m s d.what
 unfolding refused_as
 record_reason (Reads.none a) i e r = absurd (omega arith)
 record_reason (Reads.strange a b) i e r = absurd (omega arith)
@@ -77,7 +76,7 @@ record_reason (Reads.done f a b) i e (Reason.unknown_kind q u) = absurd (f u.unk
 record_reason (Reads.done f a b) i e (Reason.cut_short q u) = absurd (not_short f a u)
 record_reason (Reads.done f a b) i e (Reason.field_range q u) = absurd (true≢false (sym b ∙ u.outside))
 record_reason {s = s} {m = m} (Reads.done f a b) i e (Reason.of_record bytes rest x q form r) =
-    subst (λ (y : Record). RecordReason m s y) (ap (λ (d : Decoded). d.what) (sym (front_decode rest q form) ∙ i)) r
+    subst (λ (y : Record). RecordReason m s y) (ap (λ (d : Reading). d.what) (sym (front_decode rest q form) ∙ i)) r
 
 -- ---- the first reason
 pub bytes_first_lem : (s : State) (l : List ℕ) → ((decode_of l).number ≡ 0 → ⊥) → First (decode_of l).number s l
@@ -94,8 +93,8 @@ step_first s l e h =
 pub reason_no_step : {n : ℕ} {s : State} {l : List ℕ} → Reason n s l → NoStep s l
 reason_no_step {n} {s} {l} r bytes rest x t e form step =
     let d = front_decode rest e form in
-    let k = record_reason (reads l) refl (ap (λ (y : Decoded). y.number) d) r in
-    (number_earliest s x (form_in form) (subst (λ (y : Record). RecordReason n s y) (ap (λ (y : Decoded). y.what) d) k)).0 (step_only s x (form_in form) step).0
+    let k = record_reason (reads l) refl (ap (λ (y : Reading). y.number) d) r in
+    (number_earliest s x (form_in form) (subst (λ (y : Record). RecordReason n s y) (ap (λ (y : Reading). y.what) d) k)).0 (step_only s x (form_in form) step).0
 
 pub no_step_reason : (s : State) (l : List ℕ) → NoStep s l → (n : ℕ) × Reason n s l
 no_step_reason s l h =

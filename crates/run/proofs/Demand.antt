@@ -18,7 +18,7 @@ use Rattle.machine.proofs.Stretches.{front_stays as front-as-far}
 use Rattle.record.specs.declared.Record.{Record}
 use Rattle.record.specs.Format.{Encodes, signed_of}
 use Rattle.run.specs.declared.Answer.{Answer}
-use Rattle.run.specs.declared.Reached.{Reached}
+use Rattle.run.specs.Run.{Reached}
 use Rattle.run.specs.Relation.{Active, Attached, Unstretched, Step, Steps}
 use Rattle.run.specs.Run.{answer_of, run_of, step_of}
 use Rattle.run.specs.Claims.{AcceptsExactlyValid, GivesFinalState, BadLimitExactly, TooLongExactly, TooLongAnswer, RefusesFirst, RefusalIsOne, PlaceIsSmall, CompleteIsEmpty, StepKeepsLimit, RunKeepsLimit, ReasonExactlyNoStep, StepAcceptsExactly, StepGives, StepRefuses}
@@ -99,21 +99,18 @@ pub current_rack_steps : CurrentRackSteps
 current_rack_steps = current_rack
 
 -- the step of a rack is by its rule
-rule_of : {s : State} {x : Record} {t : State} → x.kind ≡ RACK → Step s x t → Unstretched s x.racking
-rule_of k (Step.rack e u) = u
-rule_of k (Step.drop e) = absurd (omega arith)
-rule_of k (Step.xfer e o r) = absurd (omega arith)
-rule_of k (Step.carrier_in e c) = absurd (omega arith)
-rule_of k (Step.carrier_out e p) = absurd (omega arith)
-rule_of k (Step.miss e p) = absurd (omega arith)
-rule_of k (Step.tuck e p f r) = absurd (omega arith)
-rule_of k (Step.knit e p f) = absurd (omega arith)
-rule_of k (Step.split e p f o r) = absurd (omega arith)
-rule_of k (Step.plated_tuck e two p q f g r) = absurd (omega arith)
-rule_of k (Step.plated_knit e two p q f g r) = absurd (omega arith)
-
-by_rule : {s t : State} {x : Record} → x.kind ≡ RACK → Step s x t → Unstretched s x.racking
-by_rule k step = rule_of k step
+by_rule : {s : State} {x : Record} {t : State} → x.kind ≡ RACK → Step s x t → Unstretched s x.racking
+by_rule k (Step.rack e u) = u
+by_rule k (Step.drop e) = absurd (omega arith)
+by_rule k (Step.xfer e o r) = absurd (omega arith)
+by_rule k (Step.carrier_in e c) = absurd (omega arith)
+by_rule k (Step.carrier_out e p) = absurd (omega arith)
+by_rule k (Step.miss e p) = absurd (omega arith)
+by_rule k (Step.tuck e p f r) = absurd (omega arith)
+by_rule k (Step.knit e p f) = absurd (omega arith)
+by_rule k (Step.split e p f o r) = absurd (omega arith)
+by_rule k (Step.plated_tuck e two p q f g r) = absurd (omega arith)
+by_rule k (Step.plated_knit e two p q f g r) = absurd (omega arith)
 
 pub rack_exactly : RackExactly
 rack_exactly s x e = (

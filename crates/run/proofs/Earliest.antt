@@ -23,25 +23,9 @@ use Rattle.run.proofs.Premises.{float_zero, float_over, float_cases, tuck_full, 
 use Rattle.run.proofs.Racks.{rack_seventeen}
 use Rattle.run.proofs.Refusals.{rank}
 
--- ---- the tests go by the order of the list: two yarns before all carriers, in before parking, parking before the float, the float before the
--- columns, the columns before the hooks
+-- the tests go by the order of the list: two yarns before all carriers, and so on
 yarns_in : rank 16 ≤ rank 7
 yarns_in = omega arith
-
-in_parking : rank 7 ≤ rank 8
-in_parking = omega arith
-
-parking_float : rank 8 ≤ rank 9
-parking_float = omega arith
-
-float_columns : rank 9 ≤ rank 10
-float_columns = omega arith
-
-columns_hooks : rank 10 ≤ rank 11
-columns_hooks = omega arith
-
-through : {a b c : ℕ} → a ≤ b → b ≤ c → a ≤ c
-through h k = omega arith
 
 -- ---- a number that stands no later than m; one that does if it is not 0
 abbrev NoLater : ℕ → ℕ → Type 0
@@ -65,7 +49,7 @@ module _ (m : ℕ) where
   in_turn a b h k = is a 0 (λ e. rw (or_next a b e) k) (λ d. rw (or_first a b d) h)
 
   later : (k n : ℕ) → rank k ≤ rank m → NoLaterIfAny k n → NoLaterIfAny m n
-  later k n h f d = through (f d) h
+  later k n h f d = omega (arith, f d, h)
 
 or_assoc : (a b n : ℕ) → or_number (or_number a b) n ≡ or_number a (or_number b n)
 or_assoc a b n = cases (eqb a 0) (λ t. simp t) (λ t. simp t)
@@ -80,7 +64,7 @@ module _ (s : State) (x : Record) where
   slot_early : (k : ℕ) (z : Slot) → NoLaterIfAny 8 (slot_no s x k z)
   slot_early k z d =
       parked_cases s.racking (carrier_of s k) z
-      (λ c. rw (parked_off s.racking (carrier_of s k) z c) in_parking)
+      (λ c. rw (parked_off s.racking (carrier_of s k) z c) (omega arith))
       (λ a h. rw (parked_elsewhere s.racking (carrier_of s k) z a h) (omega arith))
       (λ p. absurd (d (parked_zero s.racking (carrier_of s k) z p)))
 
@@ -95,7 +79,7 @@ module _ (s : State) (x : Record) where
   enter_no k = slot_no s x k (entry_slot s x)
 
   enter_early : (k : ℕ) → NoLaterIfAny 9 (enter_no k)
-  enter_early k = later 9 8 (enter_no k) parking_float (slot_early k (entry_slot s x))
+  enter_early k = later 9 8 (enter_no k) (omega arith) (slot_early k (entry_slot s x))
 
   ready_early : NoLaterIfAny 9 (ready_no s x)
   ready_early = in_turn 9 (enter_no x.carrier) (reach_no s x x.carrier) (enter_early x.carrier) (reach_early x.carrier)
@@ -112,7 +96,7 @@ module _ (s : State) (x : Record) where
   -- 10 or 11 where the second hook would be over its loops
   move_full_early : s.limit < sum s x → NoLater 11 (move_no s x)
   move_full_early h =
-      opposite_cases s x (λ o. itself 11 _ (λ e. omega arith) (move_full s x o h)) (λ o. rw (move_apart s x o) ((λ e. omega arith), columns_hooks))
+      opposite_cases s x (λ o. itself 11 _ (λ e. omega arith) (move_full s x o h)) (λ o. rw (move_apart s x o) ((λ e. omega arith), (omega arith)))
 
   abbrev slot : Slot
   slot = cond (eqb x.kind OUT) (exit_slot s x) (entry_slot s x)
@@ -183,32 +167,30 @@ module _ (s : State) (x : Record) (f : InRange x) where
 
     plated_eight : {i : ℕ} → NamesCarrier x i → slot_no s x i (entry_slot s x) ≡ 8 → NoLater 8 (number_at s x)
     plated_eight (NamesCarrier.first h e) c =
-        plated_early 8 in_parking (past_in 8 _ in_parking (at_first 8 _ _ (itself 8 _ (λ z. omega arith) (subst (λ (n : ℕ). slot_no s x n (entry_slot s x) ≡ 8) (sym e) c))))
+        plated_early 8 (omega arith) (past_in 8 _ (omega arith) (at_first 8 _ _ (itself 8 _ (λ z. omega arith) (subst (λ (n : ℕ). slot_no s x n (entry_slot s x) ≡ 8) (sym e) c))))
     plated_eight (NamesCarrier.second h e) c =
-        plated_early 8 in_parking (past_in 8 _ in_parking (at_last 8 _ _ (slot_early s x k (entry_slot s x))
+        plated_early 8 (omega arith) (past_in 8 _ (omega arith) (at_last 8 _ _ (slot_early s x k (entry_slot s x))
         (at_first 8 _ _ (itself 8 _ (λ z. omega arith) (subst (λ (n : ℕ). slot_no s x n (entry_slot s x) ≡ 8) (sym e) c)))))
 
     past_parked : (n : ℕ) → NoLater 9 n → NoLater 9 (or_number (not_in_no (seen s x k)) (or_number (not_in_no (seen s x j)) (or_number (enter_no s x k) (or_number (enter_no s x j) n))))
-    past_parked n f = past_in 9 _ (through in_parking parking_float) (past_slots 9 n parking_float f)
+    past_parked n f = past_in 9 _ (omega arith) (past_slots 9 n (omega arith) f)
 
     plated_nine : {i : ℕ} → NamesCarrier x i → reach_no s x i ≡ 9 → NoLater 9 (number_at s x)
     plated_nine (NamesCarrier.first h e) c =
-        plated_early 9 (through in_parking parking_float) (past_parked _ (at_first 9 _ _ (itself 9 _ (λ z. omega arith) (subst (λ (n : ℕ). reach_no s x n ≡ 9) (sym e) c))))
+        plated_early 9 (omega arith) (past_parked _ (at_first 9 _ _ (itself 9 _ (λ z. omega arith) (subst (λ (n : ℕ). reach_no s x n ≡ 9) (sym e) c))))
     plated_nine (NamesCarrier.second h e) c =
-        plated_early 9 (through in_parking parking_float) (past_parked _ (at_last 9 _ _ (reach_early s x k) (itself 9 _ (λ z. omega arith) (subst (λ (n : ℕ). reach_no s x n ≡ 9) (sym e) c))))
+        plated_early 9 (omega arith) (past_parked _ (at_last 9 _ _ (reach_early s x k) (itself 9 _ (λ z. omega arith) (subst (λ (n : ℕ). reach_no s x n ≡ 9) (sym e) c))))
 
     pair_early : NoLaterIfAny 9 (pair_no s x)
     pair_early =
-        let seven = through in_parking parking_float in
-        in_turn 9 _ _ (later 9 7 (not_in_no (seen s x k)) seven (not_in_early s x k))
-        (in_turn 9 _ _ (later 9 7 (not_in_no (seen s x j)) seven (not_in_early s x j))
+        in_turn 9 _ _ (later 9 7 (not_in_no (seen s x k)) (omega arith) (not_in_early s x k))
+        (in_turn 9 _ _ (later 9 7 (not_in_no (seen s x j)) (omega arith) (not_in_early s x j))
         (in_turn 9 _ _ (enter_early s x k) (in_turn 9 _ _ (enter_early s x j) (in_turn 9 _ _ (reach_early s x k) (reach_early s x j)))))
 
     plated_full : (n : ℕ) → number_at s x ≡ or_number (twice_no x) (or_number (pair_no s x) n) → n ≡ 11 → NoLater 11 (number_at s x)
     plated_full n q e =
-        let nine = through float_columns columns_hooks in
-        rw q (at_last 11 (twice_no x) _ (later 11 7 (twice_no x) (through (through in_parking parking_float) nine) (twice_early s x))
-        (at_last 11 (pair_no s x) n (later 11 9 (pair_no s x) nine pair_early) (itself 11 n (λ z. omega arith) e)))
+        rw q (at_last 11 (twice_no x) _ (later 11 7 (twice_no x) (omega arith) (twice_early s x))
+        (at_last 11 (pair_no s x) n (later 11 9 (pair_no s x) (omega arith) pair_early) (itself 11 n (λ z. omega arith) e)))
 
   -- ---- a carrier that a record names, of any kind
   not_in_first : {i : ℕ} → NamesCarrier x i → Uses x.kind → Inactive (carrier_of s i) → NoLater 7 (number_at s x)
@@ -234,7 +216,7 @@ module _ (s : State) (x : Record) (f : InRange x) where
 
   -- where tuck or split is refused for its hooks
   after_ready : (m n : ℕ) → rank 9 ≤ rank m → number_at s x ≡ or_number (ready_no s x) n → NoLater m n → NoLater m (number_at s x)
-  after_ready m n h e k = rw e (at_last m (ready_no s x) n (λ d. through (ready_early s x d) h) k)
+  after_ready m n h e k = rw e (at_last m (ready_no s x) n (λ d. omega (arith, ready_early s x d, h)) k)
 
   -- a reason that holds stands no earlier than the step's number, which is not 0 then
   pub number_earliest : {m : ℕ} → RecordReason m s x → (number_at s x ≡ 0 → ⊥) × (rank (number_at s x) ≤ rank m)
@@ -254,9 +236,9 @@ module _ (s : State) (x : Record) (f : InRange x) where
     where
       apart : Moves x.kind → NoLater 10 (number_at s x)
       apart (Moves.xfer k) = itself 10 _ (λ z. omega arith) (xfer_number s x k ∙ move_apart s x a.differ)
-      apart (Moves.split k) = after_ready 10 _ float_columns (split_number s x k) (itself 10 _ (λ z. omega arith) (move_apart s x a.differ))
+      apart (Moves.split k) = after_ready 10 _ (omega arith) (split_number s x k) (itself 10 _ (λ z. omega arith) (move_apart s x a.differ))
   number_earliest (RecordReason.hook_full e (HookFull.tuck k h)) =
-      rw e (after_ready 11 _ (through float_columns columns_hooks) (tuck_number s x k) (itself 11 _ (λ z. omega arith) (tuck_full s.limit (loops_on s x.at) 1 h)))
+      rw e (after_ready 11 _ (omega arith) (tuck_number s x k) (itself 11 _ (λ z. omega arith) (tuck_full s.limit (loops_on s x.at) 1 h)))
   number_earliest (RecordReason.hook_full e (HookFull.plated_tuck k h)) =
       rw e (plated_full (Plated.tuck k) _ (plated_tuck_number s x k) (tuck_full s.limit (loops_on s x.at) 2 h))
   number_earliest (RecordReason.hook_full e (HookFull.plated_knit k h)) = rw e (plated_full (Plated.knit k) _ (plated_knit_number s x k) (tuck_full s.limit 0 2 h))
@@ -264,4 +246,4 @@ module _ (s : State) (x : Record) (f : InRange x) where
     where
       full : Moves x.kind → NoLater 11 (number_at s x)
       full (Moves.xfer k) = rw (xfer_number s x k) (move_full_early s x h)
-      full (Moves.split k) = after_ready 11 _ (through float_columns columns_hooks) (split_number s x k) (move_full_early s x h)
+      full (Moves.split k) = after_ready 11 _ (omega arith) (split_number s x k) (move_full_early s x h)

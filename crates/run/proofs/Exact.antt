@@ -3,14 +3,13 @@ use Prim.Native.Nat.{ℕ, ◌≤◌}
 use mathlib.Core.Path.{◌≡◌, refl, sym, ap, subst, ◌∙◌}
 use mathlib.Core.Bool.{Bool, true, false, true≢false}
 use mathlib.Core.List.{List, [], ◌∷◌, ◌++◌, append-nil}
-use mathlib.Core.Logic.{◌↔◌}
 use native.Mathlib.Omega.{arith}
 use lib.ListN.{length, take, drop, take-append-drop}
+use Rattle.std.proofs.lemmas.Bool.Decides.{same_from_decides}
 use Rattle.machine.specs.declared.State.{State}
 use Rattle.record.specs.declared.Record.{Record}
-use Rattle.record.specs.declared.Decoded.{Decoded}
 use Rattle.record.specs.Kinds.{IN, OUT, MISS, TUCK, KNIT, PLATED_TUCK, PLATED_KNIT, size_of}
-use Rattle.record.specs.Format.{Encodes, signed_of, byte, fields_ok, refused_as, decode_of}
+use Rattle.record.specs.Format.{Reading, Encodes, signed_of, byte, fields_ok, refused_as, decode_of}
 use Rattle.record.proofs.Shapes.{Known, at_known, sized_known}
 use Rattle.record.proofs.Forms.{Reads, reads, form_decode, decode_form, decode_kind}
 use Rattle.run.specs.declared.Answer.{Answer}
@@ -22,16 +21,9 @@ use Rattle.run.proofs.Answers.{Answered, answered, long_run, bad_run, valid_run,
 use Rattle.run.proofs.Unique.{one_refusal}
 
 -- ---- an answer by its parts
--- two flags that say the same of a state are one
-pub same_flag : (b c : Bool) {P : Type 0} → (b ≡ true) ↔ P → (c ≡ true) ↔ P → b ≡ c
-same_flag true true f g = refl
-same_flag true false f g = absurd (true≢false (sym (g.1 (f.0 refl))))
-same_flag false true f g = absurd (true≢false (sym (f.1 (g.0 refl))))
-same_flag false false f g = refl
-
 -- the run's flag, where its state is t
 pub run_flag : (limit : ℕ) (p : List ℕ) {t : State} (c : Bool) → (run_of limit p).state ≡ t → Complete c t → (run_of limit p).complete ≡ c
-run_flag limit p c e h = same_flag (run_of limit p).complete c (subst (Complete (run_of limit p).complete) e (complete_empty (answered limit p))) h
+run_flag limit p c e h = same_from_decides (run_of limit p).complete c (subst (Complete (run_of limit p).complete) e (complete_empty (answered limit p))) h
 
 -- number, place and state are the run's: then the answer is
 same_answer : (limit : ℕ) (p : List ℕ) (a : Answer) → run_of limit p ≡ answer_of (reached a.number a.place a.state) → Complete a.complete a.state → run_of limit p ≡ a
@@ -64,7 +56,7 @@ size_exactly bytes x form = go (form_decode form []) (decode_kind (bytes ++ []))
   where
     go : decode_of (bytes ++ []) ≡ record { number = 0; size = length bytes; what = x } → ((decode_of (bytes ++ [])).number ≡ 0 → (decode_of (bytes ++ [])).size ≡ size_of (byte (bytes ++ []) 0))
         → length bytes ≡ size_of (byte bytes 0)
-    go d k = sym (ap (λ (e : Decoded). e.size) d) ∙ k (ap (λ (e : Decoded). e.number) d) ∙ ap (λ (l : List ℕ). size_of (byte l 0)) (append-nil bytes)
+    go d k = sym (ap (λ (e : Reading). e.size) d) ∙ k (ap (λ (e : Reading). e.number) d) ∙ ap (λ (l : List ℕ). size_of (byte l 0)) (append-nil bytes)
 
 -- a record of each known kind, its fields the least in range
 some_record : {k : ℕ} → Known k → (body : List ℕ) × (x : Record) × Encodes (k ∷ body) x
@@ -94,7 +86,7 @@ known_exactly k = ((λ h. some_record (sized_known k h)), λ (body, x, form). λ
 
 -- fields of bytes that are read, and of whole bytes that are not
 module _ {l : List ℕ} where
-  in_range : {d : Decoded} → Reads l d → d.number ≡ 0 → fields_ok l ≡ true
+  in_range : {d : Reading} → Reads l d → d.number ≡ 0 → fields_ok l ≡ true
   unfolding refused_as
   in_range (Reads.none a) e = absurd (omega arith)
   in_range (Reads.strange a b) e = absurd (omega arith)
@@ -102,7 +94,7 @@ module _ {l : List ℕ} where
   in_range (Reads.outside f a b) e = absurd (omega arith)
   in_range (Reads.done f a b) e = b
 
-  out_of_range : {d : Decoded} → Reads l d → Whole l → (d.number ≡ 0 → ⊥) → fields_ok l ≡ false
+  out_of_range : {d : Reading} → Reads l d → Whole l → (d.number ≡ 0 → ⊥) → fields_ok l ≡ false
   out_of_range (Reads.none a) w h = absurd (omega (arith, w.some))
   out_of_range (Reads.strange a b) w h = absurd (w.known b)
   out_of_range (Reads.short f a b) w h = absurd (omega (arith, w.long))
@@ -111,6 +103,6 @@ module _ {l : List ℕ} where
 
 pub field_exactly : FieldExactly
 field_exactly l w = (
-  (λ e bytes rest x q form. true≢false (sym (in_range (reads l) (ap (λ (d : Decoded). d.number) (ap decode_of q ∙ form_decode form rest))) ∙ e)),
+  (λ e bytes rest x q form. true≢false (sym (in_range (reads l) (ap (λ (d : Reading). d.number) (ap decode_of q ∙ form_decode form rest))) ∙ e)),
   (λ h. out_of_range (reads l) w (λ e. h (take (decode_of l).size l) (drop (decode_of l).size l) (decode_of l).what (sym (take-append-drop (decode_of l).size l)) (decode_form l e))),
 )

@@ -1,5 +1,4 @@
 -- Laws of the step and the run; the theorems are in Demand.
-pub mod Looks
 pub mod ByKind
 pub mod Arms
 pub mod Turns
@@ -19,6 +18,3 @@ pub mod Demand
 pub mod Yarns
 pub mod Limits
 pub mod Exact
-pub mod Parking
-pub mod Starting
-pub mod Forming

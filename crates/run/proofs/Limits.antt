@@ -26,21 +26,18 @@ use Rattle.run.proofs.Demand.{final}
 
 -- ---- greater
 -- only the room asked for looks at the limit, and a greater one has it
-raised_step : {s : State} {x : Record} {t : State} (n : ℕ) → s.limit ≤ n → Step s x t → Step (at_limit n s) x (at_limit n t)
-raised_step n h (Step.rack e u) = Step.rack e u
-raised_step n h (Step.drop e) = Step.drop e
-raised_step n h (Step.xfer e o r) = Step.xfer e o (omega arith)
-raised_step n h (Step.carrier_in e c) = Step.carrier_in e c
-raised_step n h (Step.carrier_out e p) = Step.carrier_out e p
-raised_step n h (Step.miss e p) = Step.miss e p
-raised_step n h (Step.tuck e p f r) = Step.tuck e p f (omega arith)
-raised_step n h (Step.knit e p f) = Step.knit e p f
-raised_step n h (Step.split e p f o r) = Step.split e p f o (omega arith)
-raised_step n h (Step.plated_tuck e two p q f g r) = Step.plated_tuck e two p q f g (omega arith)
-raised_step n h (Step.plated_knit e two p q f g r) = Step.plated_knit e two p q f g (omega arith)
-
-raised : {s t : State} {x : Record} (n : ℕ) → s.limit ≤ n → Step s x t → Step (at_limit n s) x (at_limit n t)
-raised n h step = raised_step n h step
+raised : {s : State} {x : Record} {t : State} (n : ℕ) → s.limit ≤ n → Step s x t → Step (at_limit n s) x (at_limit n t)
+raised n h (Step.rack e u) = Step.rack e u
+raised n h (Step.drop e) = Step.drop e
+raised n h (Step.xfer e o r) = Step.xfer e o (omega arith)
+raised n h (Step.carrier_in e c) = Step.carrier_in e c
+raised n h (Step.carrier_out e p) = Step.carrier_out e p
+raised n h (Step.miss e p) = Step.miss e p
+raised n h (Step.tuck e p f r) = Step.tuck e p f (omega arith)
+raised n h (Step.knit e p f) = Step.knit e p f
+raised n h (Step.split e p f o r) = Step.split e p f o (omega arith)
+raised n h (Step.plated_tuck e two p q f g r) = Step.plated_tuck e two p q f g (omega arith)
+raised n h (Step.plated_knit e two p q f g r) = Step.plated_knit e two p q f g (omega arith)
 
 all_raised : {s t : State} {p : List ℕ} (n : ℕ) → s.limit ≤ n → Steps s p t → Steps (at_limit n s) p (at_limit n t)
 all_raised n h Steps.none = Steps.none

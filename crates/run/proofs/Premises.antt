@@ -1,11 +1,11 @@
 -- Each test of the step: 0 where its premise holds, else the number of its reason. Assumes nothing.
 use borrow.Table.Steps.{cases}
 use Prim.Native.Nat.{ℕ, ◌+◌, ◌≤◌, ◌<◌}
-use mathlib.Core.Path.{◌≡◌, refl, ap, ◌∙◌}
+use mathlib.Core.Path.{◌≡◌, ap}
 use mathlib.Core.Bool.{true, false, cond}
 use lib.IntN.{ℤ, ◌-ℤ◌, nat_abs}
 use lib.Dec.{eqb, leb}
-use borrow.Author.Tests.{eq-eqb, ne_eqb, eqb-false, leb-true, leb-false, le-leb, lt-leb}
+use borrow.Author.Tests.{eq-eqb, ne_eqb, leb-true, leb-false, le-leb, lt-leb}
 use Rattle.machine.specs.declared.Column.{Column}
 use Rattle.machine.specs.declared.Racking.{Racking}
 use Rattle.machine.specs.declared.Slot.{Slot}
@@ -18,11 +18,9 @@ use Rattle.machine.proofs.Signed.{eq_z_yes, eq_z_no, eq_z_true, eq_z_false}
 use Rattle.record.specs.declared.Record.{Record}
 use Rattle.record.specs.Kinds.{carriers_named}
 use Rattle.record.proofs.Shapes.{is}
-use Rattle.record.proofs.Shapes.{cond_cases}
 use Rattle.run.specs.Relation.{Active, Inactive, Attached, ParkedAt, Opposite, Room, TwoYarns}
 use Rattle.run.specs.Step.{look_of, or_number, twice_no, not_in_no, parked_no, float_no}
 use Rattle.run.specs.Loops.{tuck_no, transfer_no}
-use Rattle.run.proofs.Looks.{parked_is, in_is, not_in_is, float_is}
 
 -- ---- numbers in order
 pub or_next : (a b : ℕ) → a ≡ 0 → or_number a b ≡ b
@@ -41,13 +39,16 @@ column_same a b e = ap {B = Column} (λ (z : ℤ). record { 0 = z }) e
 -- what a carrier answers: 0 and its premise, or a number and why
 module _ (r : Racking) (c : Carrier) where
   pub parked_zero : (z : Slot) → ParkedAt c z → parked_no (look_of r c).active (look_of r c).slot z ≡ 0
-  parked_zero z p = parked_is r c z ∙ simp (ne_eqb c.active 0 p.active, eq_z_yes c.slot.0 z.0 (ap (λ (y : Slot). y.0) p.here))
+  unfolding parked_no look_of
+  parked_zero z p = simp (ne_eqb c.active 0 p.active, eq_z_yes c.slot.0 z.0 (ap (λ (y : Slot). y.0) p.here))
 
   pub parked_off : (z : Slot) → Inactive c → parked_no (look_of r c).active (look_of r c).slot z ≡ 7
-  parked_off z e = parked_is r c z ∙ simp (eq-eqb c.active 0 e)
+  unfolding parked_no look_of
+  parked_off z e = simp (eq-eqb c.active 0 e)
 
   pub parked_elsewhere : (z : Slot) → Active c → (c.slot ≡ z → ⊥) → parked_no (look_of r c).active (look_of r c).slot z ≡ 8
-  parked_elsewhere z a h = parked_is r c z ∙ simp (ne_eqb c.active 0 a, eq_z_no c.slot.0 z.0 (λ e. h (slot_same c.slot z e)))
+  unfolding parked_no look_of
+  parked_elsewhere z a h = simp (ne_eqb c.active 0 a, eq_z_no c.slot.0 z.0 (λ e. h (slot_same c.slot z e)))
 
   pub parked_cases : (z : Slot) {G : Type 0} → (Inactive c → G) → (Active c → (c.slot ≡ z → ⊥) → G) → (ParkedAt c z → G) → G
   parked_cases z f g k =
@@ -59,31 +60,32 @@ module _ (r : Racking) (c : Carrier) where
   in_no = cond (look_of r c).active 6 0
 
   pub in_zero : Inactive c → in_no ≡ 0
-  in_zero e = in_is r c ∙ simp (eq-eqb c.active 0 e)
+  unfolding look_of
+  in_zero e = simp (eq-eqb c.active 0 e)
 
   pub in_six : Active c → in_no ≡ 6
-  in_six a = in_is r c ∙ simp (ne_eqb c.active 0 a)
+  unfolding look_of
+  in_six a = simp (ne_eqb c.active 0 a)
 
   pub not_in_zero : Active c → not_in_no (look_of r c) ≡ 0
-  not_in_zero a = not_in_is r c ∙ simp (ne_eqb c.active 0 a)
+  unfolding look_of
+  not_in_zero a = simp (ne_eqb c.active 0 a)
 
   pub not_in_seven : Inactive c → not_in_no (look_of r c) ≡ 7
-  not_in_seven e = not_in_is r c ∙ simp (eq-eqb c.active 0 e)
+  unfolding look_of
+  not_in_seven e = simp (eq-eqb c.active 0 e)
 
   module _ (z : Column) where
     abbrev pub far : ℕ
     far = nat_abs ((column_of c.needle r).0 -ℤ z.0)
 
-    float_at : float_no (look_of r c) z ≡ cond (eqb c.side 0) 0 (cond (leb far float_most) 0 9)
-    unfolding within_float
-    float_at = float_is r c z
-
     pub float_zero : (Attached c → far ≤ float_most) → float_no (look_of r c) z ≡ 0
-    float_zero h =
-        float_at ∙ cond_cases (λ (n : ℕ). n ≡ 0) (eqb c.side 0) (λ t. refl) (λ t. simp (le-leb far float_most (h (eqb-false c.side 0 t))))
+    unfolding float_no look_of within_float
+    float_zero h = is c.side 0 (λ e. simp (eq-eqb c.side 0 e)) (λ a. simp (ne_eqb c.side 0 a, le-leb far float_most (h a)))
 
     pub float_over : Attached c → float_most < far → float_no (look_of r c) z ≡ 9
-    float_over a h = float_at ∙ simp (ne_eqb c.side 0 a, lt-leb far float_most h)
+    unfolding float_no look_of within_float
+    float_over a h = simp (ne_eqb c.side 0 a, lt-leb far float_most h)
 
     pub float_cases : {G : Type 0} → (Attached c → float_most < far → G) → ((Attached c → far ≤ float_most) → G) → G
     float_cases f g =

@@ -7,13 +7,13 @@ use native.Mathlib.Omega.{arith}
 use lib.Dec.{eqb, ltb}
 use lib.ListN.{get_or}
 use borrow.Author.Tests.{ne_eqb, eqb-false, not-true, lt-ltb, ltb-true}
+use Rattle.std.proofs.lemmas.Bool.{and_parts}
 use Rattle.machine.specs.declared.Racking.{Racking}
 use Rattle.machine.specs.declared.Carrier.{Carrier}
 use Rattle.machine.specs.declared.State.{State}
 use Rattle.machine.specs.Limits.{stretch_most}
 use Rattle.machine.specs.Machine.{inactive, carrier_of}
 use Rattle.machine.specs.Stretch.{distance_of, stretches, any_stretched}
-use Rattle.machine.proofs.Laws.{and_two}
 use Rattle.machine.proofs.Stretches.{one_stretched, none_stretched}
 use Rattle.record.specs.declared.Record.{Record}
 use Rattle.run.specs.Relation.{Stretches, Unstretched, Step, racked}
@@ -25,9 +25,9 @@ module _ (r z : Racking) (c : Carrier) where
   pub stretched_said : stretches r z c ≡ true → Stretches r z c
   unfolding stretches
   stretched_said e =
-      let (a, t) = and_two (not (eqb c.active 0)) _ e in
-      let (b, u) = and_two (not (eqb c.side 0)) _ t in
-      let (o, g) = and_two (ltb stretch_most (distance_of z c)) _ u in
+      let (a, t) = and_parts (not (eqb c.active 0)) _ e in
+      let (b, u) = and_parts (not (eqb c.side 0)) _ t in
+      let (o, g) = and_parts (ltb stretch_most (distance_of z c)) _ u in
       record {
         parked = eqb-false c.active 0 (not-true (eqb c.active 0) a);
         attached = eqb-false c.side 0 (not-true (eqb c.side 0) b);
@@ -69,7 +69,4 @@ module _ (s : State) (x : Record) where
 
 -- ---- what a rack does
 pub current_rack : CurrentRackSteps
-current_rack s x e f = subst (λ (z : Racking). Step s x (racked s z)) f (Step.rack e (λ k u. less_itself (subst (λ (z : Racking). distance_of s.racking (carrier_of s k) < distance_of z (carrier_of s k)) f u.greater)))
-  where
-    less_itself : {n : ℕ} → n < n → ⊥
-    less_itself h = omega arith
+current_rack s x e f = subst (λ (z : Racking). Step s x (racked s z)) f (Step.rack e (λ k u. omega (arith, subst (λ (z : Racking). distance_of s.racking (carrier_of s k) < distance_of z (carrier_of s k)) f u.greater)))

@@ -7,10 +7,9 @@ use lib.ListN.{length, take, drop, length-drop, length-set, length-map, take-app
 use lib.Seq.{drop-append_seam, drop-drop, take-add}
 use Rattle.machine.specs.declared.State.{State}
 use Rattle.record.specs.declared.Record.{Record}
-use Rattle.record.specs.declared.Decoded.{Decoded}
-use Rattle.record.specs.Format.{Encodes, decode_of}
+use Rattle.record.specs.Format.{Reading, Encodes, decode_of}
 use Rattle.record.proofs.Forms.{form_decode, form_in, decode_size, decode_form, decode_in}
-use Rattle.run.specs.declared.Reached.{Reached}
+use Rattle.run.specs.Run.{Reached}
 use Rattle.run.specs.Relation.{Step, Steps}
 use Rattle.run.specs.Reason.{First}
 use Rattle.run.specs.Step.{number_at, apply_of}
@@ -39,9 +38,9 @@ pub on_form : {bytes : List ℕ} {x : Record} {s t : State} → Encodes bytes x 
 on_form {bytes} {x} {s} {t} form step rest at =
     let e = form_decode form rest in
     let (z, u) = step_only s x (form_in form) step in
-    let k : (decode_of (bytes ++ rest)).number ≡ 0 = ap (λ (d : Decoded). d.number) e in
-    run_next (bytes ++ rest) at s (omega (arith, decode_size (bytes ++ rest) k)) k (ap (λ (d : Decoded). number_at s d.what) e ∙ z)
-    ∙ ap (λ (d : Decoded). run_from 0 (drop d.size (bytes ++ rest)) (at + d.size) (apply_of s d.what)) e
+    let k : (decode_of (bytes ++ rest)).number ≡ 0 = ap (λ (d : Reading). d.number) e in
+    run_next (bytes ++ rest) at s (omega (arith, decode_size (bytes ++ rest) k)) k (ap (λ (d : Reading). number_at s d.what) e ∙ z)
+    ∙ ap (λ (d : Reading). run_from 0 (drop d.size (bytes ++ rest)) (at + d.size) (apply_of s d.what)) e
     ∙ ap (λ (l : List ℕ). run_from 0 l (at + length bytes) (apply_of s x)) (drop-append_seam bytes rest) ∙ ap (run_from 0 rest (at + length bytes)) u
 
 pub run_steps : {s t : State} {p : List ℕ} → Steps s p t → (at : ℕ) → run_from 0 p at s ≡ reached 0 0 t
@@ -89,21 +88,18 @@ pub record SameFrame (s t : State) : Type 0 where
   pub limit : t.limit ≡ s.limit
   pub carriers : length t.carriers ≡ length s.carriers
 
-frame_after : {s : State} {x : Record} {t : State} → Step s x t → SameFrame s t
-frame_after (Step.rack e u) = record { loops = refl; limit = refl; carriers = refl }
-frame_after (Step.drop e) = record { loops = simp length-set; limit = refl; carriers = refl }
-frame_after (Step.xfer e o r) = record { loops = simp length-set; limit = refl; carriers = simp length-map }
-frame_after (Step.carrier_in e c) = record { loops = refl; limit = refl; carriers = simp length-set }
-frame_after (Step.carrier_out e p) = record { loops = refl; limit = refl; carriers = simp length-set }
-frame_after (Step.miss e p) = record { loops = refl; limit = refl; carriers = simp length-set }
-frame_after (Step.tuck e p h r) = record { loops = simp length-set; limit = refl; carriers = simp length-set }
-frame_after (Step.knit e p h) = record { loops = simp length-set; limit = refl; carriers = simp length-set }
-frame_after (Step.split e p h o r) = record { loops = simp length-set; limit = refl; carriers = simp (length-set, length-map) }
-frame_after (Step.plated_tuck e two p q h i r) = record { loops = simp length-set; limit = refl; carriers = simp length-set }
-frame_after (Step.plated_knit e two p q h i r) = record { loops = simp length-set; limit = refl; carriers = simp length-set }
-
-pub step_frame : {s t : State} {x : Record} → Step s x t → SameFrame s t
-step_frame step = frame_after step
+pub step_frame : {s : State} {x : Record} {t : State} → Step s x t → SameFrame s t
+step_frame (Step.rack e u) = record { loops = refl; limit = refl; carriers = refl }
+step_frame (Step.drop e) = record { loops = simp length-set; limit = refl; carriers = refl }
+step_frame (Step.xfer e o r) = record { loops = simp length-set; limit = refl; carriers = simp length-map }
+step_frame (Step.carrier_in e c) = record { loops = refl; limit = refl; carriers = simp length-set }
+step_frame (Step.carrier_out e p) = record { loops = refl; limit = refl; carriers = simp length-set }
+step_frame (Step.miss e p) = record { loops = refl; limit = refl; carriers = simp length-set }
+step_frame (Step.tuck e p h r) = record { loops = simp length-set; limit = refl; carriers = simp length-set }
+step_frame (Step.knit e p h) = record { loops = simp length-set; limit = refl; carriers = simp length-set }
+step_frame (Step.split e p h o r) = record { loops = simp length-set; limit = refl; carriers = simp (length-set, length-map) }
+step_frame (Step.plated_tuck e two p q h i r) = record { loops = simp length-set; limit = refl; carriers = simp length-set }
+step_frame (Step.plated_knit e two p q h i r) = record { loops = simp length-set; limit = refl; carriers = simp length-set }
 
 pub steps_frame : {s t : State} {p : List ℕ} → Steps s p t → SameFrame s t
 steps_frame Steps.none = record { loops = refl; limit = refl; carriers = refl }

@@ -8,15 +8,12 @@ use Rattle.machine.specs.declared.State.{State}
 use Rattle.machine.specs.Machine.{empty_state}
 use Rattle.machine.specs.Range.{StateInRange}
 use Rattle.machine.proofs.Ranges.{empty_in}
-use Rattle.record.specs.Format.{decode_of}
-use Rattle.record.proofs.Forms.{decode_size}
-use Rattle.run.specs.declared.Reached.{Reached}
+use Rattle.run.specs.Run.{Reached}
 use Rattle.run.specs.declared.Stepped.{Stepped}
-use Rattle.run.specs.Step.{number_at}
 use Rattle.run.specs.Run.{reached, stay, step_of, run_from, answer_of}
 use Rattle.run.specs.Claims.{Stepwise, StepsAreTheRun, StepsAreOne}
 use Rattle.record.proofs.Shapes.{is}
-use Rattle.run.proofs.Turns.{unread_step, refused_step, made_step, run_end, run_stops, run_goes}
+use Rattle.run.proofs.Turns.{step_sized, run_end, run_stops, run_goes}
 use Rattle.run.proofs.Answers.{short_run}
 use Rattle.run.proofs.Ranges.{slice_keeps}
 
@@ -25,15 +22,8 @@ record Follows (l : List ℕ) (at : ℕ) (r : Reached) (a : Stepped) : Type 0 wh
   pub stops : (a.number ≡ 0 → ⊥) → r ≡ reached a.number at a.state
   pub goes : a.number ≡ 0 → (0 < a.length) × (r ≡ run_from 0 (drop a.length l) (at + a.length) a.state)
 
-some_length : (s : State) (l : List ℕ) → (step_of s l).number ≡ 0 → 0 < (step_of s l).length
-some_length s l e =
-    is (decode_of l).number 0
-    (λ k. is (number_at s (decode_of l).what) 0 (λ z. subst (λ (t : Stepped). 0 < t.length) (sym (made_step s l k z)) (decode_size l k).0)
-    (λ d. absurd (d (sym (ap (λ (t : Stepped). t.number) (refused_step s l k d)) ∙ e))))
-    (λ d. absurd (d (sym (ap (λ (t : Stepped). t.number) (unread_step s l d)) ∙ e)))
-
 follows : (s : State) (l : List ℕ) (at : ℕ) → 0 < length l → Follows l at (run_from 0 l at s) (step_of s l)
-follows s l at h = record { stops = run_stops l at s h; goes = λ e. (some_length s l e, run_goes l at s h e (some_length s l e)) }
+follows s l at h = record { stops = run_stops l at s h; goes = λ e. let some = (step_sized s l e).0 in (some, run_goes l at s h e some) }
 
 module _ (service : State → List ℕ → Stepped) (agrees : (s : State) (l : List ℕ) → StateInRange s → service s l ≡ step_of s l) where
   module _ {s : State} (k : StateInRange s) (l : List ℕ) where

@@ -1,19 +1,19 @@
--- One turn of the run's loop: what a decoded record makes of the rest of the program. Assumes nothing.
+-- One turn of the run's loop: the step of the first record at a place, and the run of the rest of the program. Assumes nothing.
 use Prim.Native.Nat.{ℕ, zero, suc, ◌+◌, ◌-◌, ◌≤◌, ◌<◌}
 use mathlib.Core.Path.{◌≡◌, refl, sym, ap, subst, ◌∙◌}
 use mathlib.Core.List.{List, [], ◌∷◌}
 use native.Mathlib.Omega.{arith}
-use lib.ListN.{length, drop, take, length-drop}
-use lib.Seq.{take_all, drop-drop, drop-length}
+use lib.ListN.{length, drop, take, length-drop, drop_of_length-le}
+use lib.Seq.{take_all, drop-drop}
 use borrow.Author.Tests.{eq-eqb, ne_eqb}
 use Rattle.machine.specs.declared.State.{State}
-use Rattle.record.specs.declared.Decoded.{Decoded}
 use Rattle.record.specs.Format.{decode_of}
-use Rattle.record.proofs.Ranges.{InRange}
+use Rattle.record.proofs.Shapes.{is, known_least, known_most, carrying, two_named}
 use Rattle.record.proofs.Forms.{decode_size, decode_in}
 use Rattle.run.specs.Step.{number_at, apply_of}
 use Rattle.run.specs.declared.Stepped.{Stepped}
-use Rattle.run.specs.Run.{reached, told, stay, step_of, turn, run_from}
+use Rattle.machine.proofs.Refused.{number_some}
+use Rattle.run.specs.Run.{Fits, reached, told, stay, step_of, turn, run_from}
 
 -- passing over bytes
 run_skip : (k : ℕ) (l : List ℕ) (at : ℕ) (s : State) → run_from k l at s ≡ run_from 0 (drop k l) at s
@@ -78,52 +78,58 @@ module _ (l : List ℕ) (at : ℕ) (s : State) (h : 0 < length l) where
         run_goes l at s h (number e) (subst (λ (t : Stepped). 0 < t.length) (sym e) (decode_size l k).0)
         ∙ ap (λ (t : Stepped). run_from 0 (drop t.length l) (at + t.length) t.state) e
 
--- the program's end
-pub ended : (s₀ : State) (p : List ℕ) (at : ℕ) (s : State) → at ≡ length p → run_from 0 p 0 s₀ ≡ run_from 0 (drop at p) at s → reached 0 0 s ≡ run_from 0 p 0 s₀
-ended s₀ p at s h inv = sym (inv ∙ ap (λ (k : ℕ). run_from 0 (drop k p) at s) h ∙ ap (λ (l : List ℕ). run_from 0 l at s) (drop-length p) ∙ run_end at s)
+-- ---- of a slice's first record
+pub fits : (l : List ℕ) → (decode_of l).number ≡ 0 → Fits (decode_of l).what
+fits l k =
+    let x = decode_in l k in
+    record {
+      kind_low = known_least x.known;
+      kind_high = known_most x.known;
+      at_bed = x.at_bed;
+      to_bed = x.to_bed;
+      carrier_low = λ h. x.carrier_low (carrying x.known h);
+      carrier_high = x.carrier_high;
+      second_low = λ h. x.second_low (two_named (decode_of l).what.kind h (known_most x.known));
+      second_high = x.second_high;
+    }
 
--- what the loop knows of a record that it has decoded at a place
-pub record Turn (s₀ : State) (p : List ℕ) (at : ℕ) (s : State) (d : Decoded) : Type 0 where
-  pub inside : at < length p
-  pub so_far : run_from 0 p 0 s₀ ≡ run_from 0 (drop at p) at s
-  pub is : d ≡ decode_of (drop at p)
+-- a step's length is that of a record that is there
+pub step_sized : (s : State) (l : List ℕ) → (step_of s l).number ≡ 0 → (0 < (step_of s l).length) × ((step_of s l).length ≤ length l)
+step_sized s l e =
+    is (decode_of l).number 0
+    (λ k. is (number_at s (decode_of l).what) 0
+    (λ z. subst (λ (t : Stepped). (0 < t.length) × (t.length ≤ length l)) (sym (made_step s l k z)) (decode_size l k))
+    (λ d. absurd (d (sym (ap (λ (t : Stepped). t.number) (refused_step s l k d)) ∙ e))))
+    (λ d. absurd (d (sym (ap (λ (t : Stepped). t.number) (unread_step s l d)) ∙ e)))
 
-module _ {s₀ : State} {p : List ℕ} {at : ℕ} {s : State} {d : Decoded} where
-  -- the part of the slice from a place on
-  pub turned : at < length p → run_from 0 p 0 s₀ ≡ run_from 0 (drop at p) at s → d ≡ decode_of (take (length p - at) (drop at p)) → Turn s₀ p at s d
-  turned h inv e =
-      record { inside = h; so_far = inv; is = e ∙ ap decode_of (take_all (length p - at) (drop at p) (omega (arith, length-drop at p))) }
+-- ---- at a place in a program
+module _ (p : List ℕ) (at : ℕ) where
+  pub rest_is : take (length p - at) (drop at p) ≡ drop at p
+  rest_is = take_all (length p - at) (drop at p) (omega (arith, length-drop at p))
 
-  module _ (t : Turn s₀ p at s d) where
-    some : 0 < length (drop at p)
-    some = omega (arith, length-drop at p, t.inside)
+  module _ (s : State) where
+    pub ends_at : length p ≤ at → run_from 0 (drop at p) at s ≡ reached 0 0 s
+    ends_at h = ap (λ (l : List ℕ). run_from 0 l at s) (drop_of_length-le p h) ∙ run_end at s
 
-    pub refused : (d.number ≡ 0 → ⊥) → reached d.number at s ≡ run_from 0 p 0 s₀
-    refused k =
-        sym (t.so_far ∙ run_refused (drop at p) at s some (subst (λ (x : Decoded). x.number ≡ 0 → ⊥) t.is k)
-        ∙ ap (λ (x : Decoded). reached x.number at s) (sym t.is))
+    module _ (h : at < length p) where
+      some : 0 < length (drop at p)
+      some = omega (arith, length-drop at p, h)
 
-    module _ (k : d.number ≡ 0) where
-      k' : (decode_of (drop at p)).number ≡ 0
-      k' = subst (λ (x : Decoded). x.number ≡ 0) t.is k
+      pub stops_at : ((step_of s (drop at p)).number ≡ 0 → ⊥) → run_from 0 (drop at p) at s ≡ reached (step_of s (drop at p)).number at (step_of s (drop at p)).state
+      stops_at d = run_stops (drop at p) at s some d
 
-      pub in_range : InRange d.what
-      in_range = subst (λ (x : Decoded). InRange x.what) (sym t.is) (decode_in (drop at p) k')
+      module _ (e : (step_of s (drop at p)).number ≡ 0) where
+        abbrev long : ℕ
+        long = (step_of s (drop at p)).length
 
-      pub sized : (0 < d.size) × (d.size ≤ length p - at)
-      sized =
-          let z : (0 < d.size) × (d.size ≤ length (drop at p)) =
-          subst (λ (x : Decoded). (0 < x.size) × (x.size ≤ length (drop at p))) (sym t.is) (decode_size (drop at p) k') in
-          (z.0, omega (arith, z.1, length-drop at p))
+        pub goes_at : run_from 0 (drop at p) at s ≡ run_from 0 (drop (at + long) p) (at + long) (step_of s (drop at p)).state
+        goes_at =
+            run_goes (drop at p) at s some e (step_sized s (drop at p) e).0
+            ∙ ap (λ (l : List ℕ). run_from 0 l (at + long) (step_of s (drop at p)).state) (drop-drop long at p)
 
-      pub stopped : (n : ℕ) → n ≡ number_at s d.what → (n ≡ 0 → ⊥) → reached n at s ≡ run_from 0 p 0 s₀
-      stopped n e h =
-          let e' : n ≡ number_at s (decode_of (drop at p)).what = e ∙ ap (λ (x : Decoded). number_at s x.what) t.is in
-          sym (t.so_far ∙ run_stopped (drop at p) at s some k' (λ q. h (e' ∙ q)) ∙ ap (λ (m : ℕ). reached m at s) (sym e'))
+        pub long_at : (0 < long) × (at + long ≤ length p)
+        long_at = let z = step_sized s (drop at p) e in (z.0, omega (arith, z.1, length-drop at p))
 
-      pub goes : (u : State) → number_at s d.what ≡ 0 → apply_of s d.what ≡ u → run_from 0 p 0 s₀ ≡ run_from 0 (drop (at + d.size) p) (at + d.size) u
-      goes u n e =
-          t.so_far ∙ run_next (drop at p) at s some k' (sym (ap (λ (x : Decoded). number_at s x.what) t.is) ∙ n)
-          ∙ ap (λ (x : Decoded). run_from 0 (drop x.size (drop at p)) (at + x.size) (apply_of s x.what)) (sym t.is)
-          ∙ ap (run_from 0 (drop d.size (drop at p)) (at + d.size)) e
-          ∙ ap (λ (l : List ℕ). run_from 0 l (at + d.size) u) (drop-drop d.size at p)
+pub ruleset advancing = (number_some, fits, unread_step, refused_step, made_step)
+
+pub ruleset running = (number_some, rest_is, ends_at, stops_at, goes_at, long_at)

@@ -10,7 +10,7 @@ use Rattle.machine.specs.Machine.{empty_state}
 use Rattle.machine.specs.Range.{LimitInRange}
 use Rattle.record.specs.Format.{decode_of}
 use Rattle.record.proofs.Forms.{decode_form, decode_in}
-use Rattle.run.specs.declared.Reached.{Reached}
+use Rattle.run.specs.Run.{Reached}
 use Rattle.run.specs.declared.Answer.{Answer}
 use Rattle.run.specs.Relation.{Steps}
 use Rattle.run.specs.Reason.{First}

@@ -11,6 +11,7 @@ use lib.Dec.{eqb}
 use lib.ListN.{length, get_or, set, length-set, length-map, get_or-map}
 use lib.Seq.{get_or-set_same, get_or-set_other}
 use borrow.Author.Tests.{eq-eqb, ne_eqb, eqb-true, eqb-false, not-true}
+use Rattle.std.proofs.lemmas.Bool.{and_parts}
 use Rattle.machine.specs.declared.Needle.{Needle}
 use Rattle.machine.specs.declared.Column.{Column}
 use Rattle.machine.specs.declared.Carrier.{Carrier}
@@ -19,7 +20,6 @@ use Rattle.machine.specs.Limits.{float_most, carrier_count}
 use Rattle.machine.specs.Machine.{inactive, carrier_of, same_needle, attached_at, moved_to}
 use Rattle.machine.specs.Geometry.{column_of}
 use Rattle.machine.proofs.Signed.{apart_by}
-use Rattle.machine.proofs.Laws.{and_two}
 use Rattle.record.specs.declared.Record.{Record}
 use Rattle.record.specs.Kinds.{XFER, IN, OUT, TUCK, SPLIT, carriers_named, loops_formed}
 use Rattle.record.proofs.Shapes.{Known, Plated, Forms, is, two_carriers, plated_two, forms, loop, carrying}
@@ -156,8 +156,8 @@ module _ (a b : Needle) (c : Carrier) where
   attached_there : attached_at a c ≡ true → Attached c × (c.needle ≡ a)
   unfolding attached_at same_needle
   attached_there t =
-      let (h, u) = and_two (not (eqb c.side 0)) _ t in
-      let (p, q) = and_two (eqb c.needle.0 a.0) _ u in
+      let (h, u) = and_parts (not (eqb c.side 0)) _ t in
+      let (p, q) = and_parts (eqb c.needle.0 a.0) _ u in
       let bed = eqb-true c.needle.0 a.0 p in
       let number = eqb-true c.needle.1 a.1 q in
       (eqb-false c.side 0 (not-true (eqb c.side 0) h), λ i. record { 0 = bed i; 1 = number i })
@@ -228,20 +228,27 @@ module _ (s : State) (x : Record) (f : InRange x) (ten : length s.carriers ≡ c
       (λ b z. Became.same (no_transfer (λ q. omega arith) (λ q. omega arith)) (no_end (λ a c. omega arith)) (not_its b (λ p q. d q))
       (is_now (w ∙ z ∙ ap (λ (l : List Carrier). get_or l (k - 1) inactive) e))))
 
+  -- in and out
+  by_end : (c : Carrier) → ((t : State) → AttachedTo t k c.side c.needle → AttachedTo t k 0 inactive.needle) → (x.carrier ≡ k → Unattaches x k) → IN ≤ x.kind → x.kind ≤ OUT
+      → Became (with_carrier s x.carrier c)
+  by_end c unattached its_own low high =
+      alone s ten c low (λ q w. Became.ended (its_own q) (unattached _ (is_now w)))
+      (λ d w. Became.same (no_transfer (λ q. omega arith) (λ q. omega arith)) (not_ended d) (no_loop (omega arith)) (is_now w))
+
+  -- a kind below the stitches that ends no attachment and takes none along
+  as_it_was : {t : State} → x.kind < TUCK → (x.kind ≡ XFER → ⊥) → (IN ≤ x.kind → x.kind ≤ OUT → ⊥) → AttachedTo t k its.side its.needle → Became t
+  as_it_was h a b = Became.same (no_transfer a (λ q. omega arith)) (no_end b) (no_loop h)
+
   became : {t : State} → Step s x t → Became t
-  became (Step.rack e u) = Became.same (no_transfer (λ q. omega arith) (λ q. omega arith)) (no_end (λ a b. omega arith)) (no_loop (omega arith)) (is_now refl)
-  became (Step.drop e) = Became.same (no_transfer (λ q. omega arith) (λ q. omega arith)) (no_end (λ a b. omega arith)) (no_loop (omega arith)) (is_now refl)
+  became (Step.rack e u) = as_it_was (omega arith) (λ q. omega arith) (λ a b. omega arith) (is_now refl)
+  became (Step.drop e) = as_it_was (omega arith) (λ q. omega arith) (λ a b. omega arith) (is_now refl)
   became (Step.xfer e o r) = Became.transferred_on (Transfers.by_xfer e) (no_end (λ a b. omega arith)) (no_loop (omega arith)) (is_now along)
-  became (Step.carrier_in e c) =
-      alone s ten _ (omega arith) (λ q w. Became.ended (Unattaches.by_in e q) (is_now w))
-      (λ d w. Became.same (no_transfer (λ q. omega arith) (λ q. omega arith)) (not_ended d) (no_loop (omega arith)) (is_now w))
-  became (Step.carrier_out e p) =
-      alone s ten _ (omega arith) (λ q w. Became.ended (Unattaches.by_out e q) (is_now w))
-      (λ d w. Became.same (no_transfer (λ q. omega arith) (λ q. omega arith)) (not_ended d) (no_loop (omega arith)) (is_now w))
+  became (Step.carrier_in e c) = by_end _ (λ _ w. w) (Unattaches.by_in e) (omega arith) (omega arith)
+  became (Step.carrier_out e p) = by_end _ (λ _ w. w) (Unattaches.by_out e) (omega arith) (omega arith)
   became (Step.miss e p) =
       alone s ten _ (omega arith)
-      (λ q w. Became.same (no_transfer (λ q. omega arith) (λ q. omega arith)) (no_end (λ a b. omega arith)) (no_loop (omega arith)) (passed q w))
-      (λ d w. Became.same (no_transfer (λ q. omega arith) (λ q. omega arith)) (no_end (λ a b. omega arith)) (no_loop (omega arith)) (is_now w))
+      (λ q w. as_it_was (omega arith) (λ q. omega arith) (λ a b. omega arith) (passed q w))
+      (λ d w. as_it_was (omega arith) (λ q. omega arith) (λ a b. omega arith) (is_now w))
     where
       passed : {t : State} → x.carrier ≡ k → carrier_of t k ≡ reparked (carrier_of s x.carrier) (exit_slot s x) → AttachedTo t k its.side its.needle
       passed {t} q w = subst (λ (j : ℕ). AttachedTo t k (carrier_of s j).side (carrier_of s j).needle) q (is_now w)

@@ -15,7 +15,7 @@ use Rattle.record.specs.declared.Record.{Record}
 use Rattle.record.specs.Kinds.{RACK, size_of}
 use Rattle.record.specs.Format.{Encodes, byte, fields_ok}
 use Rattle.run.specs.declared.Answer.{Answer}
-use Rattle.run.specs.declared.Reached.{Reached}
+use Rattle.run.specs.Run.{Reached}
 use Rattle.run.specs.declared.Stepped.{Stepped}
 use Rattle.run.specs.Relation.{Active, Attached, Step, Steps, Valid, Stretches, attached}
 use Rattle.run.specs.Reason.{Whole, Stretched, Reason, First}

@@ -1,17 +1,24 @@
 -- The step of the first record of a slice, and the run of a program's bytes, which goes by that step, as definitions that compute.
-use Rattle.std.specs.Prelude.{ℕ, zero, suc, ◌+◌, ◌-◌, Bool, cond, List, [], ◌∷◌, length, eqb, ltb, leb}
+use Rattle.std.specs.Prelude.{ℕ, zero, suc, ◌+◌, ◌-◌, ◌≤◌, Bool, cond, List, [], ◌∷◌, length, eqb, ltb, leb, Result, Ok, Err}
 use Rattle.machine.specs.declared.State.{State}
-use Rattle.machine.specs.Limits.{limit_most, program_most}
-use Rattle.machine.specs.Machine.{empty_state, state_with, complete_of}
+use Rattle.machine.specs.Limits.{carrier_count, limit_most, program_most}
+use Rattle.machine.specs.Machine.{OnBed, empty_state, complete_of}
 use Rattle.machine.specs.Range.{limit_ok}
+use Rattle.machine.specs.Refusals.{number_of}
 use Rattle.machine.specs.Walk.{hooks_looked}
-use Rattle.record.specs.Kinds.{size_of}
+use Rattle.record.specs.declared.Record.{Record}
+use Rattle.record.specs.Kinds.{RACK, IN, PLATED_TUCK, PLATED_KNIT, size_of}
 use Rattle.record.specs.Format.{byte, decode_of}
-use Rattle.run.specs.declared.Reached.{Reached}
-use Rattle.run.specs.declared.Halted.{Halted}
+use Rattle.run.specs.declared.Stop.{Stop}
 use Rattle.run.specs.declared.Answer.{Answer}
 use Rattle.run.specs.declared.Stepped.{Stepped}
 use Rattle.run.specs.Step.{number_at, apply_of}
+
+-- where a run stopped: the refusal's number and the record's start, or 0 and 0, and the state
+pub record Reached : Type 0 where
+  pub number : ℕ
+  pub place : ℕ
+  pub state : State
 
 abbrev pub reached : ℕ → ℕ → State → Reached
 reached n at s = record { number = n; place = at; state = s }
@@ -74,6 +81,22 @@ run_of limit p = answer_of (reached_of limit p)
 unfoldable pub front_of : List ℕ → ℕ
 front_of l = cond (eqb (length l) 0) 0 (cond (eqb (size_of (byte l 0)) 0) 1 (cond (ltb (length l) (size_of (byte l 0))) (length l) (size_of (byte l 0))))
 
--- where the loop stopped, with the loops that it was lent and the limit
-abbrev pub halted : Halted → List ℕ → ℕ → Reached
-halted h l limit = reached h.number h.place (state_with h.racking l limit h.carriers)
+-- the fields of a record that bytes encode, as far as the step goes by them
+pub record Fits (x : Record) : Type 0 where
+  pub kind_low : RACK ≤ x.kind
+  pub kind_high : x.kind ≤ PLATED_KNIT
+  pub at_bed : OnBed x.at
+  pub to_bed : OnBed x.to
+  pub carrier_low : IN ≤ x.kind → 1 ≤ x.carrier
+  pub carrier_high : x.carrier ≤ carrier_count
+  pub second_low : PLATED_TUCK ≤ x.kind → 1 ≤ x.second
+  pub second_high : x.second ≤ carrier_count
+
+-- the state after a record: as it was where the record has no step
+abbrev pub after_of : State → Record → State
+after_of s x = cond (eqb (number_at s x) 0) (apply_of s x) s
+
+-- where the loop ended, with the state that it was lent
+abbrev pub ended : Result (Unit {0}) Stop → State → Reached
+ended (Ok _) s = reached 0 0 s
+ended (Err stop) s = reached (number_of stop.why) stop.place s

@@ -1,31 +1,24 @@
 // The step of a record and the run of a program, with the refusals 1, 3 to 11, 15 of a limit, 16 and 17.
 #![tactic(auto)]
 
-ghost use Rattle.std.specs.Prelude.{◌≡◌, ◌≤◌, ◌<◌, get_or, set, eqb, not, cond};
-ghost use Rattle.machine.specs.Machine.{OnBed, hook_of, inactive, empty_state, state_with};
+ghost use Rattle.std.specs.Prelude.{◌≡◌, ◌≤◌, ◌<◌, ◌+◌, get_or, set, eqb, not, cond, map, IfOk};
+ghost use Rattle.machine.specs.Machine.{OnBed, hook_of, inactive, empty_state, changed, moved_to};
 ghost use Rattle.machine.specs.Geometry.{column_of, entry_of, exit_of};
-ghost use Rattle.record.specs.Kinds.{IN, OUT, TUCK, SPLIT, PLATED_KNIT};
+ghost use Rattle.machine.specs.Refusals.{told_number};
+ghost use Rattle.record.specs.Kinds.{RACK, DROP, XFER, IN, OUT, MISS, TUCK, KNIT, SPLIT, PLATED_TUCK, PLATED_KNIT};
 ghost use Rattle.run.specs.Relation.{unattached, reparked, attached};
-ghost use Rattle.run.specs.Step.{look_of, parked_no, float_no, or_number, asked_no, both_no};
+ghost use Rattle.run.specs.Step.{look_of, parked_no, float_no, or_number, asked_no, both_no, number_at};
 ghost use Rattle.run.specs.Loops.{tuck_no, tucked, form_no, formed_loops, transfer_no, transferred_loops};
-ghost use Rattle.run.specs.Run.{reached, halted, run_from, answer_limit, start_no, reached_of, answer_of, run_of, front_of, one_if, step_of};
+ghost use Rattle.run.specs.Run.{Fits, after_of, reached, ended, run_from, answer_limit, start_no, reached_of, answer_of, run_of, front_of, step_of};
 
-use machine::numbers::{
-    ALREADY_IN, BAD_STATE, CUT_SHORT, FLOAT_TOO_LONG, HOOK_FULL, NOT_IN, NOT_OPPOSITE, STRETCHED,
-    TOO_LONG, WRONG_SLOT, YARN_TWICE,
+use machine::refusals::Refusal;
+use machine::{Carrier, Motion, Needle, Racking, Slot, State};
+use record::{
+    DROP, IN, KNIT, MISS, OUT, PLATED_KNIT, PLATED_TUCK, RACK, Record, SPLIT, TUCK, XFER,
 };
-use machine::{Carrier, Needle, Racking, Slot, State};
-use record::{DROP, IN, KNIT, MISS, OUT, PLATED_KNIT, PLATED_TUCK, RACK, SPLIT, TUCK, XFER};
 
-// Where a run stopped: the refusal's number and the record's start, or 0 and 0, and the state.
-#[derive(Clone, Copy)]
-pub struct Reached {
-    pub number: u8,
-    pub place: usize,
-    pub state: State,
-}
-
-// Where a run or a log ended: number and place alone.
+// Where a run or a log ended: number and place alone. (Numbers here and in the two below, as C has them: `refused`, `end_at` and
+// rewrite's `writes` promise something of every number.)
 #[derive(Clone, Copy)]
 pub struct Ended {
     pub number: u8,
@@ -52,139 +45,120 @@ pub struct Stepped {
     pub state: State,
 }
 
-// Where the run's loop stopped, besides the loops, which it is lent.
+// Why a run stopped, and at which record's start.
 #[derive(Clone, Copy)]
-struct Halted {
+pub struct Stop {
+    pub why: Refusal,
     pub place: usize,
-    pub carriers: [Carrier; State::CARRIERS],
-    pub number: u8,
-    pub racking: Racking,
 }
 
-// Whether the carrier is parked at the slot: 0, or 7 or 8.
-#[tactic(auto, using(crate::proofs::Parking::parking), unfolding(crate::specs::Step::parked_no))]
-fn parked(c: Carrier, z: Slot) -> u8
-    ensures { result ≡ parked_no (not (eqb c.active 0)) c.slot z }
+// Whether the carrier is parked at the slot, or 7 or 8.
+#[tactic(auto, using(machine::proofs::Signed::int_eq_is), unfolding(crate::specs::Step::parked_no))]
+fn parked(c: Carrier, z: Slot) -> Result<(), Refusal>
+    ensures { told_number result ≡ parked_no (not (eqb c.active 0)) c.slot z }
 {
     if c.active == 0 {
-        return NOT_IN;
+        return Err(Refusal::NotIn);
     }
-    let here = c.slot;
-    if here.0 == z.0 { 0 } else { WRONG_SLOT }
+    if c.slot != z {
+        return Err(Refusal::WrongSlot);
+    }
+    Ok(())
 }
 
-// Whether an attached carrier's needle is near enough to the needle: 0, or 9.
-fn float(c: Carrier, n: Needle, r: Racking) -> u8
-    ensures { result ≡ float_no (look_of r c) (column_of n r) }
+// Whether an attached carrier's needle is near enough to the needle, or 9.
+#[tactic(auto, unfolding(crate::specs::Step::float_no, crate::specs::Step::look_of))]
+fn float(c: Carrier, m: Motion) -> Result<(), Refusal>
+    ensures { told_number result ≡ float_no (look_of m.racking c) (column_of m.needle m.racking) }
 {
-    if c.side == 0 {
-        return 0;
+    if c.side != 0 && !c.needle.column(m.racking).near(m.column()) {
+        return Err(Refusal::FloatTooLong);
     }
-    let last = c.needle;
-    let z = last.column(r);
-    if z.near(n.column(r)) {
-        0
-    } else {
-        FLOAT_TOO_LONG
-    }
+    Ok(())
 }
 
-// Whether the carrier can form a loop at the needle: 0, or 7 to 9.
-fn ready(c: Carrier, n: Needle, r: Racking, right: bool) -> u8
-    requires { OnBed n }
-    ensures { result ≡ or_number (parked_no (look_of r c).active (look_of r c).slot (entry_of (column_of n r) right)) (float_no (look_of r c) (column_of n r)) }
+// Whether the carrier can form a loop at the needle, or 7 to 9. (By the hint this and the others that have it are part of the
+// run's loop.)
+#[inline(always)]
+#[tactic(auto, unfolding(crate::specs::Step::look_of))]
+fn ready(c: Carrier, m: Motion) -> Result<(), Refusal>
+    ensures { told_number result ≡ or_number (parked_no (look_of m.racking c).active (look_of m.racking c).slot (entry_of (column_of m.needle m.racking) m.right)) (float_no (look_of m.racking c) (column_of m.needle m.racking)) }
 {
-    let number = parked(c, n.entry(r, right));
-    if number != 0 {
-        return number;
-    }
-    float(c, n, r)
+    parked(c, m.entry())?;
+    float(c, m)
 }
 
-// Whether two carriers can form a plated stitch at the needle: 0, or 7 to 9, by number first. (7 of either, then 8 of
+// Whether two carriers can form a plated stitch at the needle, or 7 to 9, by number first. (7 of either, then 8 of
 // either, then 9 of either: whose 9 it is the number does not tell.)
-fn both_ready(c: Carrier, d: Carrier, n: Needle, r: Racking, right: bool) -> u8
-    requires { OnBed n }
-    ensures { result ≡ both_no (entry_of (column_of n r) right) (column_of n r) (look_of r c) (look_of r d) }
+#[tactic(auto, unfolding(crate::specs::Step::parked_no, crate::specs::Step::float_no, crate::specs::Step::look_of))]
+fn both_ready(c: Carrier, d: Carrier, m: Motion) -> Result<(), Refusal>
+    ensures { told_number result ≡ both_no (entry_of (column_of m.needle m.racking) m.right) (column_of m.needle m.racking) (look_of m.racking c) (look_of m.racking d) }
 {
     if d.active == 0 {
-        return NOT_IN;
+        return Err(Refusal::NotIn);
     }
-    let number = parked(c, n.entry(r, right));
-    if number != 0 {
-        return number;
-    }
-    let number = ready(d, n, r, right);
-    if number != 0 {
-        return number;
-    }
-    float(c, n, r)
+    parked(c, m.entry())?;
+    ready(d, m)?;
+    float(c, m)
 }
 
-// What a record of this kind asks of one carrier: 0, or 6 to 9.
-fn asked(kind: u8, n: Needle, right: bool, c: Carrier, r: Racking) -> u8
-    requires { OnBed n }
-    ensures { result ≡ asked_no kind n right r (look_of r c) }
+// What a record of this kind asks of one carrier, or 6 to 9.
+#[inline(always)]
+#[tactic(auto, unfolding(crate::specs::Step::look_of, record::specs::Kinds::by_kind))]
+fn asked(kind: u8, c: Carrier, m: Motion) -> Result<(), Refusal>
+    ensures { told_number result ≡ asked_no kind m.needle m.right m.racking (look_of m.racking c) }
 {
     match kind {
-        IN => { if c.active == 0 { 0 } else { ALREADY_IN } }
-        OUT => parked(c, n.exit(r, right)),
-        MISS => parked(c, n.entry(r, right)),
-        TUCK..=PLATED_KNIT => ready(c, n, r, right),
-        _ => 0,
+        IN if c.active != 0 => Err(Refusal::AlreadyIn),
+        OUT => parked(c, m.exit()),
+        MISS => parked(c, m.entry()),
+        TUCK..=PLATED_KNIT => ready(c, m),
+        _ => Ok(()),
     }
 }
 
 // The carrier after in; after in or out, by the kind; after a miss; after it formed a loop at the needle.
-fn enter(n: Needle, r: Racking, right: bool) -> Carrier
-    requires { OnBed n }
-    ensures { result ≡ unattached (entry_of (column_of n r) right) }
+#[inline(always)]
+fn enter(m: Motion) -> Carrier
+    ensures { result ≡ unattached (entry_of (column_of m.needle m.racking) m.right) }
 {
-    let slot = n.entry(r, right);
     Carrier {
         active: 1,
         side: 0,
-        slot,
+        slot: m.entry(),
         needle: Needle(0, 0),
     }
 }
 
-fn enter_or_leave(kind: u8, n: Needle, r: Racking, right: bool) -> Carrier
-    requires { (IN ≤ kind) × (kind ≤ OUT) × (OnBed n) }
-    ensures { result ≡ cond (eqb kind IN) (unattached (entry_of (column_of n r) right)) inactive }
+#[inline(always)]
+fn enter_or_leave(kind: u8, m: Motion) -> Carrier
+    ensures { result ≡ cond (eqb kind IN) (unattached (entry_of (column_of m.needle m.racking) m.right)) inactive }
 {
-    match kind {
-        IN => enter(n, r, right),
-        OUT => Carrier::inactive(),
-        _ => Carrier::inactive(),
+    if kind == IN {
+        enter(m)
+    } else {
+        Carrier::inactive()
     }
 }
 
-fn pass(c: Carrier, n: Needle, r: Racking, right: bool) -> Carrier
-    requires { OnBed n }
-    ensures { result ≡ reparked c (exit_of (column_of n r) right) }
+fn pass(c: Carrier, m: Motion) -> Carrier
+    ensures { result ≡ reparked c (exit_of (column_of m.needle m.racking) m.right) }
 {
-    let slot = n.exit(r, right);
-    let needle = c.needle;
     Carrier {
         active: 1,
-        side: c.side,
-        slot,
-        needle,
+        slot: m.exit(),
+        ..c
     }
 }
 
-fn attach(n: Needle, r: Racking, right: bool) -> Carrier
-    requires { OnBed n }
-    ensures { result ≡ attached (exit_of (column_of n r) right) n right }
+fn attach(m: Motion) -> Carrier
+    ensures { result ≡ attached (exit_of (column_of m.needle m.racking) m.right) m.needle m.right }
 {
-    let slot = n.exit(r, right);
-    let side = if right { 2 } else { 1 };
     Carrier {
         active: 1,
-        side,
-        slot,
-        needle: n,
+        side: if m.right { 2 } else { 1 },
+        slot: m.exit(),
+        needle: m.needle,
     }
 }
 
@@ -193,50 +167,62 @@ fn put(loops: &mut [u8; State::HOOKS], n: Needle, v: u8)
     requires { OnBed n }
     ensures { loops.new ≡ set loops.old (hook_of n) v }
 {
-    let i = n.hook();
-    loops[i] = v;
+    loops[n.hook()] = v;
 }
 
-// Loops more on the needle's hook, v of them: 0, or 11 and no store.
-fn tuck(loops: &mut [u8; State::HOOKS], n: Needle, v: u8, limit: u8) -> u8
+// The loops on a hook with v more, or 11 where it has no room for them.
+#[tactic(auto, unfolding(crate::specs::Loops::tuck_no))]
+fn with_more(here: u8, v: u8, limit: u8) -> Result<u8, Refusal>
+    ensures number { told_number result ≡ tuck_no limit here v }
+    ensures loops { IfOk result (λ n. n ≡ here + v) }
+{
+    match here.checked_add(v) {
+        Some(n) if n <= limit => Ok(n),
+        _ => Err(Refusal::HookFull),
+    }
+}
+
+// Loops more on the needle's hook, v of them, or 11 and no store.
+#[tactic(auto, unfolding(crate::specs::Loops::tuck_no, crate::specs::Loops::tucked))]
+fn tuck(loops: &mut [u8; State::HOOKS], n: Needle, v: u8, limit: u8) -> Result<(), Refusal>
     requires { OnBed n }
-    ensures { (result ≡ tuck_no limit (get_or loops.old (hook_of n) 0) v) × (loops.new ≡ tucked limit loops.old n v) }
+    ensures number { told_number result ≡ tuck_no limit (get_or loops.old (hook_of n) 0) v }
+    ensures loops { loops.new ≡ tucked limit loops.old n v }
 {
     let i = n.hook();
-    let here = loops[i];
-    if wide(limit) < wide(here) + wide(v) {
-        return HOOK_FULL;
-    }
-    loops[i] = here + v;
-    0
+    loops[i] = with_more(loops[i], v, limit)?;
+    Ok(())
 }
 
-// The loops that a tuck or a knit forms on the needle's hook, plain or plated: 0, or 11 and no store. (One loop always
+// The loops that a tuck or a knit forms on the needle's hook, plain or plated, or 11 and no store. (One loop always
 // fits.)
-#[tactic(auto, using(crate::proofs::Forming::forming), unfolding(crate::specs::Loops::tuck_no, crate::specs::Loops::tucked, crate::specs::Loops::form_no, crate::specs::Loops::formed_loops, crate::specs::Step::first_asked, crate::specs::Step::first_after, record::specs::Kinds::by_kind))]
-fn form(kind: u8, loops: &mut [u8; State::HOOKS], n: Needle, limit: u8) -> u8
+#[inline(always)]
+#[tactic(auto, unfolding(crate::specs::Loops::tuck_no, crate::specs::Loops::tucked, crate::specs::Loops::form_no, crate::specs::Loops::formed_loops, crate::specs::Step::first_asked, crate::specs::Step::first_after, record::specs::Kinds::by_kind))]
+fn form(kind: u8, loops: &mut [u8; State::HOOKS], n: Needle, limit: u8) -> Result<(), Refusal>
     requires { (TUCK ≤ kind) × (kind ≤ PLATED_KNIT) × (kind ≡ SPLIT → ⊥) × (OnBed n) }
-    ensures { (result ≡ form_no limit kind (get_or loops.old (hook_of n) 0)) × (loops.new ≡ formed_loops limit kind loops.old n) }
+    ensures number { told_number result ≡ form_no limit kind (get_or loops.old (hook_of n) 0) }
+    ensures loops { loops.new ≡ formed_loops limit kind loops.old n }
 {
     match kind {
         TUCK => tuck(loops, n, 1, limit),
         KNIT => {
             put(loops, n, 1);
-            0
+            Ok(())
         }
         PLATED_TUCK => tuck(loops, n, 2, limit),
         PLATED_KNIT => {
             if limit < 2 {
-                return HOOK_FULL;
+                return Err(Refusal::HookFull);
             }
             put(loops, n, 2);
-            0
+            Ok(())
         }
-        _ => 0,
+        _ => Ok(()),
     }
 }
 
-// The loops at a go to b, and a then holds v: 0, or 10 or 11 and no store.
+// The loops at a go to b, and a then holds v; or 10 or 11, and no store.
+#[tactic(auto, using(machine::proofs::Signed::int_eq_is), unfolding(crate::specs::Loops::tuck_no, crate::specs::Loops::transfer_no, crate::specs::Loops::transferred_loops, machine::specs::Geometry::same_column))]
 fn transfer(
     loops: &mut [u8; State::HOOKS],
     a: Needle,
@@ -244,186 +230,220 @@ fn transfer(
     r: Racking,
     v: u8,
     limit: u8,
-) -> u8
+) -> Result<(), Refusal>
     requires { (OnBed a) × (OnBed b) }
-    ensures { (result ≡ transfer_no limit loops.old a b r) × (loops.new ≡ transferred_loops limit loops.old a b r v) }
+    ensures number { told_number result ≡ transfer_no limit loops.old a b r }
+    ensures loops { loops.new ≡ transferred_loops limit loops.old a b r v }
 {
-    let z = a.column(r);
-    if !z.equals(b.column(r)) {
-        return NOT_OPPOSITE;
+    if a.column(r) != b.column(r) {
+        return Err(Refusal::NotOpposite);
     }
     let i = a.hook();
     let j = b.hook();
-    let here = loops[i];
-    let there = loops[j];
-    if wide(limit) < wide(here) + wide(there) {
-        return HOOK_FULL;
-    }
+    let sum = with_more(loops[i], loops[j], limit)?;
     loops[i] = v;
-    loops[j] = here + there;
-    0
+    loops[j] = sum;
+    Ok(())
 }
 
-// A byte in a wider type, which a sum of two fits.
-fn wide(n: u8) -> u16
-    ensures { (result ≡ n) × (result < 256) }
+// The move of a record's carrier over its needle.
+fn motion(x: Record, racking: Racking) -> Motion
+    requires { Fits x }
+    ensures { (result.needle ≡ x.at) × (result.racking ≡ racking) × (result.right ≡ x.right) }
 {
-    n as u16
-}
-
-// A run that stops with a number at a place.
-fn stop(number: u8, place: usize, state: State) -> Reached
-    ensures { result ≡ reached number place state }
-{
-    Reached {
-        number,
-        place,
-        state,
-    }
-}
-
-// The loop that stops so.
-fn halt(number: u8, place: usize, racking: Racking, carriers: [Carrier; State::CARRIERS]) -> Halted
-    ensures { result ≡ record { number = number; place = place; racking = racking; carriers = carriers } }
-{
-    Halted {
-        place,
-        carriers,
-        number,
+    Motion {
+        needle: x.at,
         racking,
+        right: x.right,
     }
 }
 
-// The run from a state in parts over bytes of any length. The loops are lent: stores are made there, by the kind, and the
-// state is not copied.
-fn run_from(
-    racking: Racking,
-    loops: &mut [u8; State::HOOKS],
-    limit: u8,
-    carriers: [Carrier; State::CARRIERS],
-    program: &[u8],
-) -> Halted
-    ensures { halted result loops.new limit ≡ run_from 0 program.now 0 (state_with racking loops.old limit carriers) }
+// A rack, unless it stretches a yarn. (`Fits` stands in each contract from here on: in a struct of its own the record would be read
+// by one name more at forty places. A function for each family: one for several would ask the kind again, a few instructions
+// a record.)
+#[tactic(auto, using(crate::proofs::Arms::racks))]
+fn rack(state: &mut State, x: Record) -> Result<(), Refusal>
+    requires { x.kind ≡ RACK }
+    ensures number { told_number result ≡ number_at state.old x }
+    ensures after { state.new ≡ after_of state.old x }
 {
-    let mut r = racking;
-    let mut cs = carriers;
-    let mut at: usize = 0;
+    let r = state.racking;
+    let z = x.racking;
+    if r != z
+        && machine::any_back(&state.carriers)
+        && machine::any_stretched(&state.carriers, r, z)
+    {
+        return Err(Refusal::Stretched);
+    }
+    state.racking = z;
+    Ok(())
+}
+
+#[tactic(auto, using(crate::proofs::Arms::drops))]
+fn drop_loops(state: &mut State, x: Record)
+    requires { (x.kind ≡ DROP) × (Fits x) }
+    ensures number { 0 ≡ number_at state.old x }
+    ensures after { state.new ≡ after_of state.old x }
+{
+    put(&mut state.loops, x.at, 0);
+}
+
+// The attachments at a needle go to another.
+#[tactic(auto, using(crate::proofs::Arms::moves_along))]
+fn move_attachments(state: &mut State, from: Needle, to: Needle)
+    ensures { state.new ≡ changed state.old state.old.racking state.old.loops (map (moved_to from to) state.old.carriers) }
+{
+    if machine::any_beside(&state.carriers, from) {
+        machine::attachments_moved(&mut state.carriers, from, to);
+    }
+}
+
+#[tactic(auto, using(crate::proofs::Arms::transfers), unfolding(crate::specs::Loops::transferred_loops))]
+fn xfer(state: &mut State, x: Record) -> Result<(), Refusal>
+    requires { (x.kind ≡ XFER) × (Fits x) }
+    ensures number { told_number result ≡ number_at state.old x }
+    ensures after { state.new ≡ after_of state.old x }
+{
+    transfer(&mut state.loops, x.at, x.to, state.racking, 0, state.limit)?;
+    move_attachments(state, x.at, x.to);
+    Ok(())
+}
+
+#[tactic(auto, using(crate::proofs::Arms::enters_or_leaves))]
+fn in_or_out(state: &mut State, x: Record) -> Result<(), Refusal>
+    requires { (IN ≤ x.kind) × (x.kind ≤ OUT) × (Fits x) }
+    ensures number { told_number result ≡ number_at state.old x }
+    ensures after { state.new ≡ after_of state.old x }
+{
+    let k = usize::from(x.carrier) - 1;
+    let m = motion(x, state.racking);
+    asked(x.kind, state.carriers[k], m)?;
+    state.carriers[k] = enter_or_leave(x.kind, m);
+    Ok(())
+}
+
+#[tactic(auto, using(crate::proofs::Arms::misses))]
+fn miss(state: &mut State, x: Record) -> Result<(), Refusal>
+    requires { (x.kind ≡ MISS) × (Fits x) }
+    ensures number { told_number result ≡ number_at state.old x }
+    ensures after { state.new ≡ after_of state.old x }
+{
+    let k = usize::from(x.carrier) - 1;
+    let m = motion(x, state.racking);
+    let c = state.carriers[k];
+    asked(x.kind, c, m)?;
+    state.carriers[k] = pass(c, m);
+    Ok(())
+}
+
+// Tuck and knit. (`asked` says `ready` of both, with one more look at the kind.)
+#[tactic(auto, using(crate::proofs::Arms::forms), unfolding(crate::specs::Loops::formed_loops))]
+fn form_one(state: &mut State, x: Record) -> Result<(), Refusal>
+    requires { (TUCK ≤ x.kind) × (x.kind ≤ KNIT) × (Fits x) }
+    ensures number { told_number result ≡ number_at state.old x }
+    ensures after { state.new ≡ after_of state.old x }
+{
+    let k = usize::from(x.carrier) - 1;
+    let m = motion(x, state.racking);
+    ready(state.carriers[k], m)?;
+    form(x.kind, &mut state.loops, x.at, state.limit)?;
+    state.carriers[k] = attach(m);
+    Ok(())
+}
+
+#[tactic(auto, using(crate::proofs::Arms::splits), unfolding(crate::specs::Loops::transferred_loops))]
+fn split(state: &mut State, x: Record) -> Result<(), Refusal>
+    requires { (x.kind ≡ SPLIT) × (Fits x) }
+    ensures number { told_number result ≡ number_at state.old x }
+    ensures after { state.new ≡ after_of state.old x }
+{
+    let k = usize::from(x.carrier) - 1;
+    let m = motion(x, state.racking);
+    asked(x.kind, state.carriers[k], m)?;
+    transfer(&mut state.loops, x.at, x.to, state.racking, 1, state.limit)?;
+    move_attachments(state, x.at, x.to);
+    state.carriers[k] = attach(m);
+    Ok(())
+}
+
+// A plated stitch.
+#[tactic(auto, using(crate::proofs::Arms::plates), unfolding(crate::specs::Loops::formed_loops))]
+fn form_two(state: &mut State, x: Record) -> Result<(), Refusal>
+    requires { (PLATED_TUCK ≤ x.kind) × (x.kind ≤ PLATED_KNIT) × (Fits x) }
+    ensures number { told_number result ≡ number_at state.old x }
+    ensures after { state.new ≡ after_of state.old x }
+{
+    if x.carrier == x.second {
+        return Err(Refusal::YarnTwice);
+    }
+    let k = usize::from(x.carrier) - 1;
+    let j = usize::from(x.second) - 1;
+    let m = motion(x, state.racking);
+    both_ready(state.carriers[k], state.carriers[j], m)?;
+    form(x.kind, &mut state.loops, x.at, state.limit)?;
+    let then = attach(m);
+    state.carriers[k] = then;
+    state.carriers[j] = then;
+    Ok(())
+}
+
+// The step of a record that its bytes gave: or why it has none, and the state as it was.
+fn make(state: &mut State, x: Record) -> Result<(), Refusal>
+    requires { Fits x }
+    ensures number { told_number result ≡ number_at state.old x }
+    ensures after { state.new ≡ after_of state.old x }
+{
+    match x.kind {
+        RACK => rack(state, x),
+        DROP => {
+            drop_loops(state, x);
+            Ok(())
+        }
+        XFER => xfer(state, x),
+        IN..=OUT => in_or_out(state, x),
+        MISS => miss(state, x),
+        TUCK..=KNIT => form_one(state, x),
+        SPLIT => split(state, x),
+        PLATED_TUCK..=PLATED_KNIT => form_two(state, x),
+        // decode gives no other kind
+        _ => Ok(()),
+    }
+}
+
+// The step of the first record of a slice: its length, or why it has none, and the state as it was.
+#[tactic(auto, using(crate::proofs::Turns::advancing), unfolding(record::specs::Format::refused_as))]
+fn advance(state: &mut State, bytes: &[u8]) -> Result<usize, Refusal>
+    ensures number { told_number result ≡ (step_of state.old bytes.now).number }
+    ensures length { IfOk result (λ size. size ≡ (step_of state.old bytes.now).length) }
+    ensures state { state.new ≡ (step_of state.old bytes.now).state }
+{
+    let d = record::decode(bytes)?;
+    make(state, d.what)?;
+    Ok(d.size)
+}
+
+// The run of bytes of any length from a state, up to the first record that has no step. (A `while`: a record's length decides
+// the next place.)
+#[tactic(auto, using(crate::proofs::Turns::running))]
+fn run_from(state: &mut State, program: &[u8]) -> Result<(), Stop>
+    ensures { ended result state.new ≡ run_from 0 program.now 0 state.old }
+{
+    let mut at = 0;
     while at < program.len() {
-        let d = record::decode(&program[at..]);
-        if d.number != 0 {
-            return halt(d.number, at, r, cs);
-        }
-        let next = at + d.size;
-        let x = d.what;
-        let kind = x.kind;
-        let n = x.at;
-        match kind {
-            RACK => {
-                let z = x.racking;
-                if r.0 != z.0 && machine::any_back(cs) && machine::any_stretched(cs, r, z) {
-                    return halt(STRETCHED, at, r, cs);
-                }
-                r = z;
-            }
-            DROP => put(loops, n, 0),
-            XFER => {
-                let m = x.to;
-                let number = transfer(loops, n, m, r, 0, limit);
-                if number != 0 {
-                    return halt(number, at, r, cs);
-                }
-                if machine::any_beside(cs, n) {
-                    cs = machine::attachments_moved(cs, n, m);
-                }
-            }
-            IN..=OUT => {
-                let k = (x.carrier as usize) - 1;
-                let c = cs[k];
-                let number = asked(kind, n, x.right, c, r);
-                if number != 0 {
-                    return halt(number, at, r, cs);
-                }
-                let then = enter_or_leave(kind, n, r, x.right);
-                cs[k] = then;
-            }
-            MISS => {
-                let k = (x.carrier as usize) - 1;
-                let c = cs[k];
-                let number = asked(kind, n, x.right, c, r);
-                if number != 0 {
-                    return halt(number, at, r, cs);
-                }
-                let then = pass(c, n, r, x.right);
-                cs[k] = then;
-            }
-            // `asked` says `ready` of both, with one more look at the kind
-            TUCK..=KNIT => {
-                let k = (x.carrier as usize) - 1;
-                let c = cs[k];
-                let number = ready(c, n, r, x.right);
-                if number != 0 {
-                    return halt(number, at, r, cs);
-                }
-                let number = form(kind, loops, n, limit);
-                if number != 0 {
-                    return halt(number, at, r, cs);
-                }
-                let then = attach(n, r, x.right);
-                cs[k] = then;
-            }
-            SPLIT => {
-                let m = x.to;
-                let k = (x.carrier as usize) - 1;
-                let c = cs[k];
-                let number = asked(kind, n, x.right, c, r);
-                if number != 0 {
-                    return halt(number, at, r, cs);
-                }
-                let number = transfer(loops, n, m, r, 1, limit);
-                if number != 0 {
-                    return halt(number, at, r, cs);
-                }
-                let then = attach(n, r, x.right);
-                if machine::any_beside(cs, n) {
-                    cs = machine::attachments_moved(cs, n, m);
-                }
-                cs[k] = then;
-            }
-            PLATED_TUCK..=PLATED_KNIT => {
-                if x.carrier == x.second {
-                    return halt(YARN_TWICE, at, r, cs);
-                }
-                let k = (x.carrier as usize) - 1;
-                let j = (x.second as usize) - 1;
-                let number = both_ready(cs[k], cs[j], n, r, x.right);
-                if number != 0 {
-                    return halt(number, at, r, cs);
-                }
-                let number = form(kind, loops, n, limit);
-                if number != 0 {
-                    return halt(number, at, r, cs);
-                }
-                let then = attach(n, r, x.right);
-                cs[k] = then;
-                cs[j] = then;
-            }
-            // decode gives no other kind
-            _ => {}
-        }
-        at = next;
+        at += advance(state, &program[at..]).map_err(|why| Stop { why, place: at })?;
     }
-    halt(0, 0, r, cs)
+    Ok(())
 }
 
-// An answer: whether the state is the empty one is looked at last.
-fn answered(r: Reached) -> Answer
-    ensures { result ≡ answer_of r }
+// The answer of a run that ended so: whether its state is the empty one is looked at last.
+#[tactic(auto, unfolding(crate::specs::Run::answer_of))]
+fn answered(end: Ended, state: State) -> Answer
+    ensures { result ≡ answer_of (reached end.number end.place state) }
 {
-    let state = r.state;
     let complete = state.complete();
     Answer {
-        number: r.number,
-        place: r.place,
+        number: end.number,
+        place: end.place,
         complete,
         state,
     }
@@ -434,11 +454,11 @@ fn answered(r: Reached) -> Answer
 pub fn refused(number: u8, limit: u8) -> Answer
     ensures { result ≡ answer_of (reached number 0 (empty_state (answer_limit limit))) }
 {
-    let state = State::empty(answer_limit(limit));
-    answered(stop(number, 0, state))
+    answered(end_at(number, 0), State::empty(answer_limit(limit)))
 }
 
 // The limit, or 8 where no hook has it.
+#[tactic(auto, unfolding(crate::specs::Run::answer_limit))]
 fn answer_limit(limit: u8) -> u8
     ensures { result ≡ answer_limit limit }
 {
@@ -449,50 +469,18 @@ fn answer_limit(limit: u8) -> u8
     }
 }
 
-// Whether a run can start: 0, or 15 or 1.
-#[tactic(auto, using(crate::proofs::Starting::starting), unfolding(crate::specs::Run::start_no))]
-pub fn start(limit: u8, length: usize) -> u8
-    ensures { result ≡ start_no limit length }
+// Whether a run can start, or 15 or 1.
+#[tactic(auto, unfolding(crate::specs::Run::start_no))]
+pub fn start(limit: u8, length: usize) -> Result<(), Refusal>
+    ensures { told_number result ≡ start_no limit length }
 {
     if !State::has_limit(limit) {
-        return BAD_STATE;
+        return Err(Refusal::BadState);
     }
     if State::PROGRAM_MOST < length {
-        return TOO_LONG;
+        return Err(Refusal::TooLong);
     }
-    0
-}
-
-// Where the run of a program from the empty state stops.
-fn from_empty(limit: u8, program: &[u8]) -> Reached
-    ensures { result ≡ reached_of limit program.now }
-{
-    let state = State::empty(answer_limit(limit));
-    let number = start(limit, program.len());
-    if number != 0 {
-        return stop(number, 0, state);
-    }
-    let r = state.racking;
-    let limit = state.limit;
-    let cs = state.carriers;
-    let mut loops = state.loops;
-    let h = run_from(r, &mut loops, limit, cs, program);
-    let r = h.racking;
-    let cs = h.carriers;
-    let after = State {
-        racking: r,
-        loops,
-        limit,
-        carriers: cs,
-    };
-    stop(h.number, h.place, after)
-}
-
-// The run of a program at a hook limit.
-pub fn run(limit: u8, program: &[u8]) -> Answer
-    ensures { result ≡ run_of limit program.now }
-{
-    answered(from_empty(limit, program))
+    Ok(())
 }
 
 // A number and a place.
@@ -502,69 +490,84 @@ pub fn end_at(number: u8, place: usize) -> Ended
     Ended { number, place }
 }
 
+// Where the run of a program from the empty state ends.
+fn from_empty(limit: u8, program: &[u8]) -> (Ended, State)
+    ensures { reached result.0.number result.0.place result.1 ≡ reached_of limit program.now }
+{
+    let mut state = State::empty(answer_limit(limit));
+    if let Err(why) = start(limit, program.len()) {
+        return (end_at(why.number(), 0), state);
+    }
+    let end = match run_from(&mut state, program) {
+        Ok(()) => end_at(0, 0),
+        Err(stop) => end_at(stop.why.number(), stop.place),
+    };
+    (end, state)
+}
+
+// The run of a program at a hook limit.
+#[tactic(auto, unfolding(crate::specs::Run::run_of))]
+pub fn run(limit: u8, program: &[u8]) -> Answer
+    ensures { result ≡ run_of limit program.now }
+{
+    let (end, state) = from_empty(limit, program);
+    answered(end, state)
+}
+
 // Number and place of a run: its state is not looked at.
+#[tactic(auto, unfolding(crate::specs::Run::run_of, crate::specs::Run::answer_of))]
 pub fn outcome(limit: u8, program: &[u8]) -> Ended
     ensures { (result.number ≡ (run_of limit program.now).number) × (result.place ≡ (run_of limit program.now).place) }
 {
-    let a = from_empty(limit, program);
-    end_at(a.number, a.place)
+    let (end, _) = from_empty(limit, program);
+    end
 }
 
 // The bytes of a slice's first record, or as many of them as there are; of an unknown kind the one byte.
+#[tactic(auto, unfolding(crate::specs::Run::front_of))]
 fn front(bytes: &[u8]) -> usize
     ensures { result ≡ front_of bytes.now }
 {
-    if bytes.len() == 0 {
+    if bytes.is_empty() {
         return 0;
     }
     let size = record::size_of(bytes[0]);
-    if size == 0 {
-        return 1;
-    }
-    if bytes.len() < size {
-        return bytes.len();
-    }
-    size
+    if size == 0 { 1 } else { size.min(bytes.len()) }
 }
 
-// 1 if so, else 0.
-fn one_if(c: bool) -> u8
-    ensures { result ≡ one_if c }
+// The step of a slice's first record, by the run of that record alone: its length, or why it has none, and the state as it was.
+// (`advance` promises the same. Called here too, it leaves the run's loop: 126 instructions a record in place of 96.)
+#[tactic(auto, using(crate::proofs::Alone::standing_alone))]
+fn first_step(state: &mut State, bytes: &[u8]) -> Result<usize, Refusal>
+    ensures number { told_number result ≡ (step_of state.old bytes.now).number }
+    ensures length { IfOk result (λ size. size ≡ (step_of state.old bytes.now).length) }
+    ensures state { state.new ≡ (step_of state.old bytes.now).state }
 {
-    if c { 1 } else { 0 }
+    let size = front(bytes);
+    if size == 0 {
+        return Err(Refusal::CutShort);
+    }
+    run_from(state, &bytes[..size]).map_err(|stop| stop.why)?;
+    Ok(size)
 }
 
-// The step of the first record of a slice of any length: the run of that record alone. (It does not decode the record
-// itself: a second caller of decode would take it out of the run's loop.)
-pub fn step(state: State, bytes: &[u8]) -> Stepped
+// The step of the first record of a slice of any length.
+#[tactic(auto, using(crate::proofs::Alone::stepping), unfolding(machine::specs::Machine::complete_of))]
+pub fn step(mut state: State, bytes: &[u8]) -> Stepped
     ensures { result ≡ step_of state bytes.now }
 {
-    let r = state.racking;
-    let limit = state.limit;
-    let cs = state.carriers;
-    let mut loops = state.loops;
-    let size = front(bytes);
-    let h = run_from(r, &mut loops, limit, cs, &bytes[..size]);
-    let r = h.racking;
-    let beds = machine::look_at_beds(r, &loops);
-    let mut complete = 0;
-    if beds.none {
-        let left = h.carriers;
-        complete = one_if(machine::carriers_pass(left, true));
-    }
-    let number = if size == 0 { CUT_SHORT } else { h.number };
-    let length = if number == 0 { size } else { 0 };
-    let cs = h.carriers;
+    let made = first_step(&mut state, bytes);
+    let beds = machine::look_at_beds(state.racking, &state.loops);
+    let complete = beds.none && machine::all_inactive(&state.carriers);
+    let (number, length) = match made {
+        Ok(length) => (0, length),
+        Err(why) => (why.number(), 0),
+    };
     Stepped {
         number,
-        complete,
+        complete: u8::from(complete),
         looked: beds.looked as u16,
         length,
-        state: State {
-            racking: r,
-            loops,
-            limit,
-            carriers: cs,
-        },
+        state,
     }
 }

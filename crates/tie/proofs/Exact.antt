@@ -13,9 +13,8 @@ use Rattle.machine.specs.declared.Racking.{Racking}
 use Rattle.machine.specs.Limits.{racking_most}
 use Rattle.machine.specs.Range.{racking_ok}
 use Rattle.record.specs.declared.Record.{Record}
-use Rattle.record.specs.declared.Decoded.{Decoded}
 use Rattle.record.specs.Kinds.{RACK}
-use Rattle.record.specs.Format.{byte, refused_as, decode_of}
+use Rattle.record.specs.Format.{Reading, byte, refused_as, decode_of}
 use Rattle.record.proofs.Ranges.{InRange}
 use Rattle.record.proofs.Shapes.{is, known_size, sized_known}
 use Rattle.record.proofs.Forms.{Reads, reads, decode_none, decode_strange, decode_short, decode_known, read_outside, form_decode, form_in, decode_form}
@@ -35,14 +34,14 @@ use Rattle.tie.proofs.Carriers.{shared_none, none_shared, shared_least, least_sh
 pub begins_read : {l : List ℕ} {x : Record} → Begins l x → ((decode_of l).number ≡ 0) × ((decode_of l).what ≡ x)
 begins_read {l} {x} b =
     let e : decode_of l ≡ record { number = 0; size = length b.bytes; what = x } = ap decode_of b.whole ∙ form_decode b.form b.rest in
-    (ap (λ (d : Decoded). d.number) e, ap (λ (d : Decoded). d.what) e)
+    (ap (λ (d : Reading). d.number) e, ap (λ (d : Reading). d.what) e)
 
 read_begins : (l : List ℕ) → (decode_of l).number ≡ 0 → Begins l (decode_of l).what
 read_begins l e =
     let n = (decode_of l).size in
     record { bytes = take n l; rest = drop n l; whole = sym (take-append-drop n l); form = decode_form l e }
 
-unread : (l : List ℕ) {d : Decoded} → Reads l d → (d.number ≡ 0 → ⊥) → Unread l d.number
+unread : (l : List ℕ) {d : Reading} → Reads l d → (d.number ≡ 0 → ⊥) → Unread l d.number
 unfolding refused_as
 unread l (Reads.none e) h = Unread.cut_short (CutShort.no_byte e)
 unread l (Reads.strange a e) h = Unread.unknown_kind (record { some = a; unknown = e })
@@ -54,13 +53,13 @@ unread l (Reads.done f a e) h = absurd (h refl)
 -- 3, 4 or 5
 pub unread_number : {l : List ℕ} {n : ℕ} → Unread l n → ((decode_of l).number ≡ n) × (n ≡ 0 → ⊥)
 unfolding refused_as
-unread_number {l} (Unread.unknown_kind u) = (ap (λ (d : Decoded). d.number) (decode_strange l u.some u.unknown), λ e. omega arith)
-unread_number {l} (Unread.cut_short (CutShort.no_byte e)) = (ap (λ (d : Decoded). d.number) (decode_none l e), λ e. omega arith)
+unread_number {l} (Unread.unknown_kind u) = (ap (λ (d : Reading). d.number) (decode_strange l u.some u.unknown), λ e. omega arith)
+unread_number {l} (Unread.cut_short (CutShort.no_byte e)) = (ap (λ (d : Reading). d.number) (decode_none l e), λ e. omega arith)
 unread_number {l} (Unread.cut_short (CutShort.too_few f h)) =
-    (is (length l) 0 (λ e. ap (λ (d : Decoded). d.number) (decode_none l e)) (λ g. ap (λ (d : Decoded). d.number) (decode_short l (omega arith) h)), λ e. omega arith)
+    (is (length l) 0 (λ e. ap (λ (d : Reading). d.number) (decode_none l e)) (λ g. ap (λ (d : Reading). d.number) (decode_short l (omega arith) h)), λ e. omega arith)
 unread_number {l} (Unread.field_range u) =
     let w = u.whole in
-    (ap (λ (d : Decoded). d.number) (decode_known l w.some w.known ∙ read_outside l w.long u.outside), λ e. omega arith)
+    (ap (λ (d : Reading). d.number) (decode_known l w.some w.known ∙ read_outside l w.long u.outside), λ e. omega arith)
 
 -- ---- two records in range
 module _ (r : Racking) (x y : Record) (h : InRange x) (k : InRange y) where

@@ -1,7 +1,8 @@
 -- Laws of what ties two records.
 pub mod Sides
-pub mod Looks
+pub mod Sharing
 pub mod Reading
+pub mod Looks
 pub mod Rectangles
 pub mod Carriers
 pub mod Exact

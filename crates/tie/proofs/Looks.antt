@@ -1,19 +1,29 @@
 -- What is told, look by look. Assumes nothing.
 use Prim.Native.Nat.{ℕ}
-use mathlib.Core.Path.{◌≡◌, refl, ap, ◌∙◌}
-use mathlib.Core.Bool.{true, false, cond}
+use mathlib.Core.Path.{◌≡◌, refl, sym, ap, ◌∙◌}
+use mathlib.Core.Bool.{Bool, true, false, cond}
+use mir.Syntax.{w8}
+use mir.Facts.{to_z-of_z}
+use mir.Val.{SFits, to_z, of_z}
 use mathlib.Core.List.{List, [], ◌∷◌}
 use lib.IntN.{ℤ}
 use lib.Dec.{eqb}
 use borrow.Author.Tests.{eq-eqb, ne_eqb}
 use Rattle.machine.specs.declared.Racking.{Racking}
 use Rattle.machine.specs.Range.{racking_ok}
+use Rattle.machine.specs.declared.refusals.Refusal.{Refusal}
+use Rattle.machine.specs.Refusals.{number_of}
 use Rattle.record.specs.declared.Record.{Record}
 use Rattle.record.specs.Kinds.{RACK}
-use Rattle.record.specs.Format.{decode_of}
+use Rattle.record.specs.Format.{byte, decode_of}
 use Rattle.record.specs.Names.{carriers_of, outline_of}
+use Rattle.machine.proofs.Refused.{number_some}
 use Rattle.rewrite.specs.Extents.{extent_of}
 use Rattle.rewrite.proofs.Extents.{outline_extent}
+use Rattle.std.specs.Prelude.{Option, Result, Err}
+use Rattle.tie.specs.declared.Bond.{Bond}
+use Rattle.tie.specs.Bonds.{told_of}
+use Rattle.tie.proofs.Reading.{kind_read}
 use Rattle.tie.specs.Tie.{only_number, by_rack, by_carrier, lower, called_in, least, least_shared, tie_of_extents, tie_of_two, tie_of_records, tie_of}
 
 -- ---- two records
@@ -81,3 +91,39 @@ module _ (z : ℤ) (p q : List ℕ) where
       pub both_read : (decode_of q).number ≡ 0 → tie_of z p q ≡ tie_of_records (record { 0 = z }) (decode_of p).what (decode_of q).what
       unfolding tie_of
       both_read c = simp (a, eq-eqb (decode_of p).number 0 b, eq-eqb (decode_of q).number 0 c)
+
+-- the racking as code reads it back
+pub racking_back : (z : ℤ) → SFits w8 z → to_z w8 (of_z w8 z) ≡ z
+racking_back z f = to_z-of_z f
+
+pub racking_in : (z : ℤ) {t b : Bool} → SFits w8 z → b ≡ racking_ok (to_z w8 (of_z w8 z)) → b ≡ t → racking_ok z ≡ t
+racking_in z f e g = sym (ap racking_ok (racking_back z f)) ∙ sym e ∙ g
+
+-- ---- what code finds, look by look
+module _ (z : ℤ) (p q : List ℕ) (a : racking_ok z ≡ true) where
+  pub first_told : (why : Refusal) (r : Result (Option Bond) Refusal) → r ≡ Err why → number_of why ≡ (decode_of p).number → told_of r ≡ tie_of z p q
+  first_told why r e f = ap told_of e ∙ ap only_number f ∙ sym (first_refused z p q a (λ g. number_some why (f ∙ g)))
+
+  module _ (b : (decode_of p).number ≡ 0) where
+    pub second_told : (why : Refusal) (r : Result (Option Bond) Refusal) → r ≡ Err why → number_of why ≡ (decode_of q).number → told_of r ≡ tie_of z p q
+    second_told why r e f = ap told_of e ∙ ap only_number f ∙ sym (second_refused z p q a b (λ g. number_some why (f ∙ g)))
+
+    module _ (c : (decode_of q).number ≡ 0) where
+      abbrev x : Record
+      x = (decode_of p).what
+
+      abbrev y : Record
+      y = (decode_of q).what
+
+      tells : tie_of z p q ≡ tie_of_records (record { 0 = z }) x y
+      tells = both_read z p q a b c
+
+      pub first_is_rack : byte p 0 ≡ RACK → by_rack ≡ tie_of z p q
+      first_is_rack e = sym (tells ∙ first_rack _ x y (kind_read p b ∙ e))
+
+      pub second_is_rack : (byte p 0 ≡ RACK → ⊥) → byte q 0 ≡ RACK → by_rack ≡ tie_of z p q
+      second_is_rack d e = sym (tells ∙ second_rack _ x y (λ f. d (sym (kind_read p b) ∙ f)) (kind_read q c ∙ e))
+
+      pub neither_rack : (byte p 0 ≡ RACK → ⊥) → (byte q 0 ≡ RACK → ⊥) → tie_of_two (record { 0 = z }) (outline_of x) (outline_of y) ≡ tie_of z p q
+      neither_rack d e =
+          outline_tells (record { 0 = z }) x y ∙ sym (tells ∙ no_rack _ x y (λ f. d (sym (kind_read p b) ∙ f)) (λ f. e (sym (kind_read q c) ∙ f)))

@@ -6,7 +6,10 @@ use native.Mathlib.Omega.{arith}
 use lib.ListN.{length, take}
 use Rattle.record.specs.declared.Record.{Record}
 use Rattle.record.specs.Format.{Encodes, byte, decode_of}
-use Rattle.record.proofs.Forms.{decode_form, decode_size}
+use Rattle.record.proofs.Forms.{decode_form, decode_in, decode_size}
+use Rattle.record.specs.Names.{outline_of}
+use Rattle.rewrite.proofs.Carriers.{two_of}
+use Rattle.tie.specs.Bonds.{Carries}
 
 form_kind : {b : List ℕ} {x : Record} → Encodes b x → x.kind ≡ byte b 0
 form_kind (Encodes.rack h) = refl
@@ -26,3 +29,8 @@ kind_read l e = form_kind (decode_form l e) ∙ front_byte (decode_of l).size l 
 
 pub some_byte : (l : List ℕ) → (decode_of l).number ≡ 0 → 0 < length l
 some_byte l e = let (a, b) = decode_size l e in omega arith
+
+-- the carriers that it names are carriers
+pub carries_read : (l : List ℕ) → (decode_of l).number ≡ 0 → Carries (outline_of (decode_of l).what)
+unfolding outline_of
+carries_read l e = let h = decode_in l e in record { first = λ n. h.carrier_low n; second = λ n. h.second_low (two_of (decode_of l).what refl (λ q. omega arith) (λ q. omega arith)) }

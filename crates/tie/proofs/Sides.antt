@@ -1,31 +1,35 @@
--- The further one of two half columns, as code reads them back. Assumes nothing.
-use Prim.Native.Nat.{◌<◌}
-use mathlib.Core.Path.{◌≡◌, sym, ◌∙◌}
-use mathlib.Core.Bool.{true, false}
+-- The further one of two half columns and of two layers, by the library's least and greatest. Assumes nothing.
+use Prim.Native.Nat.{ℕ, max, min}
+use mathlib.Core.Path.{◌≡◌, sym}
+use native.Mathlib.Omega.{arith}
 use lib.IntN.{ℤ}
-use lib.Signed.{lt_z, mag}
-use mir.Syntax.{w32}
-use mir.Val.{to_z, of_z}
-use Rattle.machine.proofs.Signed.{back}
-use Rattle.tie.specs.Tie.{rightmost, leftmost}
+use mir.Facts.{to_z-of_z}
+use Rattle.std.specs.Int.{int_min, int_max}
+use Rattle.std.proofs.lemmas.Int.{ints}
+use Rattle.std.proofs.lemmas.Bool.Decides.{nat_tests}
+use Rattle.rewrite.specs.declared.Extent.{Extent}
+use Rattle.rewrite.specs.Extents.{smaller, greater}
+use Rattle.tie.specs.Tie.{rightmost, leftmost, common}
 
-module _ (a b : ℤ) (h : mag a < 2147483648) (k : mag b < 2147483648) where
-  module _ (e : lt_z (to_z w32 (of_z w32 a)) (to_z w32 (of_z w32 b)) ≡ true) where
-    less : lt_z a b ≡ true
-    less = sym (simp (back w32 a h, back w32 b k)) ∙ e
+right_side : (a b : ℤ) → int_max a b ≡ rightmost a b
+right_side a b = grind (arith, ints)
 
-    pub second_right : to_z w32 (of_z w32 b) ≡ rightmost a b
-    second_right = back w32 b k ∙ sym (simp less)
+left_side : (a b : ℤ) → int_min a b ≡ leftmost a b
+left_side a b = grind (arith, ints)
 
-    pub first_left : to_z w32 (of_z w32 a) ≡ leftmost a b
-    first_left = back w32 a h ∙ sym (simp less)
+upper : (a b : ℕ) → max a b ≡ greater a b
+upper a b = grind (arith, nat_tests)
 
-  module _ (e : lt_z (to_z w32 (of_z w32 a)) (to_z w32 (of_z w32 b)) ≡ false) where
-    not_less : lt_z a b ≡ false
-    not_less = sym (simp (back w32 a h, back w32 b k)) ∙ e
+lesser : (a b : ℕ) → min a b ≡ smaller a b
+lesser a b = grind (arith, nat_tests)
 
-    pub first_right : to_z w32 (of_z w32 a) ≡ rightmost a b
-    first_right = back w32 a h ∙ sym (simp not_less)
+pub common_lem : (e f : Extent) → common e f ≡ record { left = int_max e.left f.left; right = int_min e.right f.right; low = max e.low f.low; high = min e.high f.high }
+unfolding common
+common_lem e f = λ i. record {
+  left = sym (right_side e.left f.left) i;
+  right = sym (left_side e.right f.right) i;
+  low = sym (upper e.low f.low) i;
+  high = sym (lesser e.high f.high) i;
+}
 
-    pub second_left : to_z w32 (of_z w32 b) ≡ leftmost a b
-    second_left = back w32 b k ∙ sym (simp not_less)
+pub ruleset sides = (common_lem, to_z-of_z)

@@ -2,3 +2,4 @@
 pub mod Tie
 pub mod Exact
 pub mod Claims
+pub mod Bonds

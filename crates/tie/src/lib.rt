@@ -2,12 +2,12 @@
 // and layers that both extents cover.
 #![tactic(auto)]
 
-ghost use Rattle.std.specs.Prelude.{◌≡◌};
-ghost use Rattle.rewrite.specs.Extents.{smaller, greater};
-ghost use Rattle.tie.specs.Tie.{lower, called_in, least_shared, rightmost, leftmost, common, only_number, tied_by, tie_of_extents, tie_of_two, tie_of};
+ghost use Rattle.std.specs.Prelude.{◌≡◌, ◌<◌, Ok, unwrap_or, IfSome};
+ghost use Rattle.tie.specs.Bonds.{told_of, Carries};
+ghost use Rattle.tie.specs.Tie.{least_shared, common, only_number, tied_by, tie_of_extents, tie_of_two, tie_of};
 
 use machine::Racking;
-use machine::numbers::{BAD_STATE, TIED};
+use machine::refusals::Refusal;
 use record::{RACK, Record};
 use rewrite::Extent;
 
@@ -28,12 +28,22 @@ pub struct Tied {
     pub high: u8,
 }
 
-// What ties them.
+// What ties them, as C has it.
 pub const BY_RACK: u8 = 1;
 
 pub const BY_CARRIER: u8 = 2;
 
 pub const BY_EXTENTS: u8 = 3;
+
+// The same as a value.
+#[derive(Clone, Copy)]
+enum Bond {
+    Rack,
+    // the least carrier that both name
+    Carrier(u8),
+    // the half columns and layers that both extents cover
+    Extents(Extent),
+}
 
 // A number alone.
 fn only(number: u8) -> Tied
@@ -54,124 +64,100 @@ fn only(number: u8) -> Tied
 fn bound(by: u8, carrier: u8) -> Tied
     ensures { result ≡ tied_by by carrier }
 {
-    let mut t = only(TIED);
-    t.by = by;
-    t.carrier = carrier;
-    t
-}
-
-// The carrier if the record names it, else 0, which is no carrier.
-fn called(y: Record, k: u8) -> u8
-    ensures { result ≡ called_in y k }
-{
-    if rewrite::names(y, k) { k } else { 0 }
-}
-
-// The lower of two carriers, where 0 is none.
-fn lower(a: u8, b: u8) -> u8
-    ensures { result ≡ lower a b }
-{
-    if a == 0 {
-        return b;
-    }
-    if b == 0 {
-        return a;
-    }
-    smaller(a, b)
-}
-
-// The least carrier that both name, 0 if there is none.
-fn shared(x: Record, y: Record) -> u8
-    ensures { result ≡ least_shared x y }
-{
-    match record::carriers_named(x.kind) {
-        0 => 0,
-        1 => lower(called(y, x.carrier), 0),
-        _ => {
-            let k = called(y, x.carrier);
-            lower(k, lower(called(y, x.second), 0))
-        }
+    Tied {
+        by,
+        carrier,
+        ..only(Refusal::Tied.number())
     }
 }
 
-// The one further right of two half columns, and the one further left.
-fn rightmost(a: i32, b: i32) -> i32
-    ensures { result ≡ rightmost a b }
+// What is told of a bond, of none, or of why there is no answer.
+fn told(found: Result<Option<Bond>, Refusal>) -> Tied
+    ensures { result ≡ told_of found }
 {
-    if a < b {
-        return b;
+    match found {
+        Ok(None) => only(0),
+        Ok(Some(Bond::Rack)) => bound(BY_RACK, 0),
+        Ok(Some(Bond::Carrier(k))) => bound(BY_CARRIER, k),
+        Ok(Some(Bond::Extents(e))) => Tied {
+            left: e.left,
+            right: e.right,
+            low: e.low,
+            high: e.high,
+            ..bound(BY_EXTENTS, 0)
+        },
+        Err(why) => only(why.number()),
     }
-    a
 }
 
-fn leftmost(a: i32, b: i32) -> i32
-    ensures { result ≡ leftmost a b }
+// The least carrier that both name, if there is one.
+fn shared(x: Record, y: Record) -> Option<u8>
+    requires { Carries x }
+    ensures value { unwrap_or result 0 ≡ least_shared x y }
+    ensures carrier { IfSome result (λ k. 0 < k) }
 {
-    if a < b {
-        return a;
-    }
-    b
-}
-
-// The greater of two layers, and the smaller.
-fn greater(a: u8, b: u8) -> u8
-    ensures { result ≡ greater a b }
-{
-    if a < b {
-        return b;
-    }
-    a
-}
-
-fn smaller(a: u8, b: u8) -> u8
-    ensures { result ≡ smaller a b }
-{
-    if a < b {
-        return a;
-    }
-    b
+    let carriers = [x.carrier, x.second];
+    let named = &carriers[..usize::from(record::carriers_named(x.kind))];
+    named
+        .iter()
+        .copied()
+        .filter(|k| rewrite::names(y, *k))
+        .min()
 }
 
 // What two extents that meet have in common.
+#[tactic(auto, using(crate::proofs::Sides::sides))]
 fn common(e: Extent, f: Extent) -> Extent
     ensures { result ≡ common e f }
 {
     Extent {
-        left: rightmost(e.left, f.left),
-        right: leftmost(e.right, f.right),
-        low: greater(e.low, f.low),
-        high: smaller(e.high, f.high),
+        left: e.left.max(f.left),
+        right: e.right.min(f.right),
+        low: e.low.max(f.low),
+        high: e.high.min(f.high),
     }
 }
 
-// Whether two extents meet, and where.
-fn crossing(e: Extent, f: Extent) -> Tied
-    ensures { result ≡ tie_of_extents e f }
+// What ties two extents, if they meet.
+#[tactic(auto, unfolding(crate::specs::Tie::tie_of_extents))]
+fn crossing(e: Extent, f: Extent) -> Option<Bond>
+    ensures { told_of (Ok result) ≡ tie_of_extents e f }
 {
-    if !e.meets(f) {
-        return only(0);
-    }
-    let g = common(e, f);
-    Tied {
-        left: g.left,
-        right: g.right,
-        number: TIED,
-        by: BY_EXTENTS,
-        carrier: 0,
-        low: g.low,
-        high: g.high,
+    if e.meets(f) {
+        Some(Bond::Extents(common(e, f)))
+    } else {
+        None
     }
 }
 
 // What ties two records, neither of them a rack, at a racking.
-fn why(x: Record, y: Record, r: Racking) -> Tied
-    ensures { result ≡ tie_of_two r x y }
+#[tactic(auto, unfolding(crate::specs::Tie::tie_of_two))]
+fn what_ties(x: Record, y: Record, r: Racking) -> Option<Bond>
+    requires { Carries x }
+    ensures { told_of (Ok result) ≡ tie_of_two r x y }
 {
-    let k = shared(x, y);
-    if k != 0 {
-        return bound(BY_CARRIER, k);
+    match shared(x, y) {
+        Some(k) => Some(Bond::Carrier(k)),
+        None => crossing(rewrite::extent_of(x, r), rewrite::extent_of(y, r)),
     }
-    crossing(rewrite::extent_of(x, r), rewrite::extent_of(y, r))
+}
+
+// What ties the records at the front of two slices at a racking, or why that can't be told.
+fn find_bond(racking: i8, first: &[u8], second: &[u8]) -> Result<Option<Bond>, Refusal>
+    ensures { told_of result ≡ tie_of racking first.now second.now }
+{
+    let r = Racking(racking);
+    if !r.in_range() {
+        return Err(Refusal::BadState);
+    }
+    record::check(first)?;
+    record::check(second)?;
+    if first[0] == RACK || second[0] == RACK {
+        return Ok(Some(Bond::Rack));
+    }
+    let x = record::outline(first);
+    let y = record::outline(second);
+    Ok(what_ties(x, y, r))
 }
 
 // Whether the records at the front of two slices are tied at a racking, and why: 15 for a racking out of its range, then 3
@@ -179,25 +165,5 @@ fn why(x: Record, y: Record, r: Racking) -> Tied
 pub fn tie(racking: i8, first: &[u8], second: &[u8]) -> Tied
     ensures { result ≡ tie_of racking first.now second.now }
 {
-    let r = Racking(racking);
-    if !r.in_range() {
-        return only(BAD_STATE);
-    }
-    let n = record::refusal(first);
-    if n != 0 {
-        return only(n);
-    }
-    let m = record::refusal(second);
-    if m != 0 {
-        return only(m);
-    }
-    if first[0] == RACK {
-        return bound(BY_RACK, 0);
-    }
-    if second[0] == RACK {
-        return bound(BY_RACK, 0);
-    }
-    let x = record::outline(first);
-    let y = record::outline(second);
-    why(x, y, r)
+    told(find_bond(racking, first, second))
 }

@@ -1,14 +1,15 @@
 -- Swaps of records are exchanges of their marks, and back. Assumes nothing.
 use borrow.Table.Steps.{cases}
 use Prim.Native.Nat.{ℕ, zero, suc}
-use mathlib.Core.Path.{◌≡◌, sym, ap, ◌∙◌}
+use mathlib.Core.Path.{◌≡◌, refl, sym, ap, ◌∙◌}
 use mathlib.Core.Bool.{false, true≢false}
 use mathlib.Core.List.{List, [], ◌∷◌, head-eq_of_cons-eq, tail-eq_of_cons-eq}
+use borrow.Author.Tests.{eq-eqb}
 use Rattle.trace.specs.Records.{Records, tied, Lawful}
 use Rattle.trace.specs.Swaps.{made, behind, swap_at, Swaps, no_swap, swap_first}
 use Rattle.trace.proofs.Exchanges.{Exchange, Exchanges}
 use Rattle.trace.proofs.Swaps.{Made, made_is, untied}
-use Rattle.trace.proofs.Marks.{Mark, eqb_self, marked, marks, marks_eq, stretch_after, tied_marks}
+use Rattle.trace.proofs.Marks.{Mark, marked, marks, marks_eq, stretch_after, tied_marks}
 
 module _ {A R : Type 0} (K : Records A R) (L : Lawful K) where
   open K use {is_rack, after}
@@ -17,7 +18,7 @@ module _ {A R : Type 0} (K : Records A R) (L : Lawful K) where
   made_exchange : {r : R} {i : ℕ} {l m : List A} (k : ℕ) → Made K r i l m → Exchange (tied_marks K) i (marks K k r l) (marks K k r m)
   made_exchange k (Made.here {r} {x} {y} t) =
       let (a, b, c, d) = untied K r x y t in
-      let h : tied_marks K (marked K k r x) (marked K k r y) ≡ false = cc (eqb_self k, racking_refl r) in
+      let h : tied_marks K (marked K k r x) (marked K k r y) ≡ false = cc (eq-eqb k k refl, racking_refl r) in
       rw (a, b, after_other r x a, after_other r y b, after_other r x a) (Exchange.front h)
   made_exchange k (Made.there {x = x} s) = Exchange.behind (made_exchange (stretch_after K k x) s)
 
@@ -33,7 +34,7 @@ module _ {A R : Type 0} (K : Records A R) (L : Lawful K) where
   marks_untied : (k : ℕ) (r : R) (a b : A) → tied_marks K (marked K k r a) (marked K (stretch_after K k a) (after r a) b) ≡ false → tied K r a b ≡ false
   marks_untied k r a b h =
       cases (is_rack a) (λ e. absurd (true≢false (cc))) λ e.
-      cc (after_other r a e, eqb_self k, racking_refl r)
+      cc (after_other r a e, eq-eqb k k refl, racking_refl r)
 
   made_front : (k : ℕ) (r : R) (a b : A) (l : List A) → tied K r a b ≡ false
       → MadeMarks r zero (a ∷ b ∷ l) k

@@ -6,17 +6,15 @@ use mathlib.Core.Bool.{Bool, true, cond, ◌||◌, ◌&&◌}
 use mathlib.Core.List.{List, [], ◌∷◌, map}
 use lib.Dec.{eqb}
 use borrow.Author.Tests.{eqb-true, eq-eqb}
+use Rattle.std.proofs.lemmas.Bool.{and_parts}
 use Rattle.trace.specs.Records.{Records, Lawful}
-use Rattle.trace.proofs.Tests.{and_left, and_right, test_eq, tied_by_lem, tie_sym}
+use Rattle.trace.proofs.Tests.{test_eq, tied_by_lem, tie_sym}
 use Rattle.trace.proofs.Exchanges.{Ties}
 
 pub record Mark (A R : Type 0) : Type 0 where
   pub stretch : ℕ
   pub racking : R
   pub what : A
-
-pub eqb_self : (n : ℕ) → eqb n n ≡ true
-eqb_self n = eq-eqb n n refl
 
 module _ {A R : Type 0} (K : Records A R) where
   open K use {same, same_racking, is_rack, after, share, meet}
@@ -56,13 +54,13 @@ module _ {A R : Type 0} (K : Records A R) where
     open L use {same_refl, same_eq, racking_refl, racking_eq, share_sym, meet_sym, meet_refl}
 
     pub together_stretch : (z w : Mark A R) → together z w ≡ true → z.stretch ≡ w.stretch
-    together_stretch z w e = eqb-true z.stretch w.stretch (and_left (eqb z.stretch w.stretch) (same_racking z.racking w.racking) e)
+    together_stretch z w e = eqb-true z.stretch w.stretch (and_parts (eqb z.stretch w.stretch) (same_racking z.racking w.racking) e).0
 
     together_racking : (z w : Mark A R) → together z w ≡ true → z.racking ≡ w.racking
-    together_racking z w e = racking_eq z.racking w.racking (and_right (eqb z.stretch w.stretch) (same_racking z.racking w.racking) e)
+    together_racking z w e = racking_eq z.racking w.racking (and_parts (eqb z.stretch w.stretch) (same_racking z.racking w.racking) e).1
 
     together_eq : (z w : Mark A R) → z.stretch ≡ w.stretch → z.racking ≡ w.racking → together z w ≡ true
-    together_eq z w e f = cc (eqb_self z.stretch, racking_refl z.racking)
+    together_eq z w e f = cc (eq-eqb z.stretch z.stretch refl, racking_refl z.racking)
 
     together_sym : (z w : Mark A R) → together z w ≡ together w z
     together_sym z w =
@@ -75,8 +73,8 @@ module _ {A R : Type 0} (K : Records A R) where
 
     pub mark_eq : (z w : Mark A R) → same_mark z w ≡ true → z ≡ w
     mark_eq z w e =
-        let n = and_left (together z w) (same z.what w.what) e in
-        let x = same_eq z.what w.what (and_right (together z w) (same z.what w.what) e) in
+        let (n, s) = and_parts (together z w) (same z.what w.what) e in
+        let x = same_eq z.what w.what s in
         let k = together_stretch z w n in
         let r = together_racking z w n in
         λ i. record { stretch = k i; racking = r i; what = x i }

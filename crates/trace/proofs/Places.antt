@@ -8,12 +8,12 @@ use mathlib.Core.Option.{some}
 use native.Mathlib.Omega.{arith}
 use lib.Dec.{eqb, ltb}
 use lib.ListN.{take, get_elem?}
-use borrow.Author.Tests.{eqb-true, eqb-false, ne_eqb, ltb-true, ltb-false}
+use borrow.Author.Tests.{eq-eqb, eqb-true, eqb-false, ne_eqb, ltb-true, ltb-false}
 use Rattle.trace.specs.Lists.{count, Nth}
 use Rattle.trace.specs.Records.{Records, Lawful}
 use Rattle.trace.specs.Order.{in_force, stretch_at, tied_in}
 use Rattle.trace.proofs.Tests.{tie_sym}
-use Rattle.trace.proofs.Marks.{Mark, eqb_self, marked, marks, stretch_after, together, together_stretch, same_mark, tied_marks}
+use Rattle.trace.proofs.Marks.{Mark, marked, marks, stretch_after, together, together_stretch, same_mark, tied_marks}
 
 module _ {A R : Type 0} (K : Records A R) where
   open K use {same, same_racking, is_rack, after, share, meet}
@@ -83,7 +83,7 @@ module _ {A R : Type 0} (K : Records A R) where
         (λ n. rw (a, d, n) (omega arith))
         (λ n. let q : z.stretch ≡ k = omega (arith, ltb-false k z.stretch d) in
         let t = g q in
-        absurd (true≢false (cc (eqb_self k, racking_refl r))))))
+        absurd (true≢false (cc (eq-eqb k k refl, racking_refl r))))))
         (λ a. rw (a, and-false (ltb k z.stretch), and-false (together K z (marked K k r x))) e)
 
     equals_before : (l : List A) (p k : ℕ) (r : R) (z : Mark A R) → get_elem? l p ≡ some z.what → z.stretch ≡ k + stretch_at K l p → z.racking ≡ in_force K r (take p l)

@@ -1,15 +1,7 @@
--- Tests: what a conjunction says, when two are equal, and the four parts of a tie. Assumes nothing.
+-- Tests: when two are equal, and the four parts of a tie. Assumes nothing.
 use borrow.Table.Steps.{cases}
 use mathlib.Core.Path.{◌≡◌, refl, sym}
-use mathlib.Core.Bool.{Bool, true, false, ◌&&◌, ◌||◌}
-
-pub and_left : (a b : Bool) → (a && b) ≡ true → a ≡ true
-and_left true b e = refl
-and_left false b e = e
-
-pub and_right : (a b : Bool) → (a && b) ≡ true → b ≡ true
-and_right true b e = e
-and_right false b e = cc
+use mathlib.Core.Bool.{Bool, true, false, ◌||◌}
 
 -- tests that hold together are equal
 pub test_eq : (a b : Bool) → (a ≡ true → b ≡ true) → (b ≡ true → a ≡ true) → a ≡ b

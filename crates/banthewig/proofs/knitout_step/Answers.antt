@@ -1,5 +1,5 @@
 -- A refused step keeps the state. Assumes nothing.
-use Rattle.std.proofs.Common.{◌≡◌, ap, sym, ◌∙◌}
+use Rattle.std.proofs.Common.{ap, sym, ◌∙◌}
 use Rattle.run.specs.declared.Stepped.{Stepped}
 use Rattle.panel.proofs.Demand.{refused_keeps}
 use Rattle.banthewig.proofs.knitout_step.Goals as goal

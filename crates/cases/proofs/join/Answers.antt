@@ -18,13 +18,10 @@ none : (room : ℕ) (x y : List ℕ) → room < length x + length y → [] ≡ p
 unfolding path_of
 none room x y h = simp (lt-leb _ _ h)
 
-pub returns-then-path-n-clause-path_after : goal.returns-then-path-n-clause-path_after
-returns-then-path-n-clause-path_after c = none (length c.args.path.now) c.args.folder.now c.args.file.now (omega arith)
+pub returns-then-path-end : goal.returns-then-path-end
+returns-then-path-end c = none (length c.args.path.now) c.args.folder.now c.args.file.now (omega arith)
 
-pub returns-then-path-n-2-clause-path_after : goal.returns-then-path-n-2-clause-path_after
-returns-then-path-n-2-clause-path_after c = none (length c.args.path.now) c.args.folder.now c.args.file.now (omega arith)
-
-pub returns-clause-path_after : goal.returns-clause-path_after
-returns-clause-path_after c =
-    front c.args.folder.now c.args.file.now _ _ _ _ c.copy_from_slice.ensures.after c.copy_from_slice-2.ensures.after
+pub returns : goal.returns
+returns c =
+    front c.args.folder.now c.args.file.now _ _ _ _ (c.copy_from_slice.ensures.after ∙ c.as_bytes.ensures.value) (c.copy_from_slice-2.ensures.after ∙ c.as_bytes-2.ensures.value)
     ∙ whole (length c.args.path.now) c.args.folder.now c.args.file.now (omega arith)

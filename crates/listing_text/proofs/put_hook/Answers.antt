@@ -1,8 +1,10 @@
 -- No line without loops; else its parts one after another.
 use Rattle.std.proofs.Common.{ℕ, ◌≡◌, [], ◌∷◌, ◌++◌, ap}
 use borrow.Author.Tests.{eq-eqb, ne_eqb}
+use native.Mathlib.Omega.{arith}
 use Rattle.listing_text.specs.Text.{figures, letter_of, hook_line}
-use Rattle.listing_text.proofs.Grow.{nothing, then, like}
+use Rattle.listing_text.proofs.Adds.{nothing, then, like}
+use Rattle.listing_text.proofs.Digits.{number}
 use Rattle.listing_text.proofs.put_hook.Goals as goal
 
 none : (bed n : ℕ) {x : ℕ} → x ≡ 0 → [] ≡ hook_line bed n x
@@ -13,11 +15,11 @@ some : (bed n : ℕ) {x : ℕ} → (x ≡ 0 → ⊥) → (letter_of bed ∷ 32 �
 unfolding hook_line
 some bed n e = simp (ne_eqb _ 0 e)
 
-pub returns-then-loops-eq0 : goal.returns-then-loops-eq0
-returns-then-loops-eq0 c = like (none c.args.bed c.args.needle c.if-loops-eq0.true) (nothing _ _ c.requires)
+pub returns-then-loops-ne0 : goal.returns-then-loops-ne0
+returns-then-loops-ne0 c =
+    like (some c.args.bed c.args.needle c.if-loops-ne0.true)
+    (then (like (ap (λ (d : ℕ). d ∷ 32 ∷ []) c.letter.ensures) c.put_all.ensures)
+    (then (number (omega arith) c.put_number.ensures) (then c.put.ensures (then (number (omega arith) c.put_number-then-loops-ne0.ensures) c.put-then-loops-ne0.ensures))))
 
-pub returns : goal.returns
-returns c =
-    like (some c.args.bed c.args.needle c.if-loops-eq0.false)
-    (then (like (ap (λ (d : ℕ). d ∷ 32 ∷ []) c.letter.ensures) c.put_all-end.ensures)
-    (then c.put_number-end.ensures (then c.put-end.ensures (then c.put_number-end-2.ensures c.put.ensures))))
+pub returns-else-loops-ne0 : goal.returns-else-loops-ne0
+returns-else-loops-ne0 c = like (none c.args.bed c.args.needle c.if-loops-ne0.false) (nothing c.args.text.now)

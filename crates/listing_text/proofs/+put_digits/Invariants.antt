@@ -1,5 +1,0 @@
--- Each call has one place less.
-use Rattle.listing_text.proofs.+put_digits.Given as goal
-
-abbrev pub decreases-put_digits : goal.decreases-put_digits
-decreases-put_digits l = l.places

@@ -1,0 +1,10 @@
+-- By what `all` answers. Assumes nothing.
+use Rattle.std.proofs.Common.{rules, tests, ◌∙◌}
+use Rattle.std.proofs.lemmas.Iterator.{YieldsList-from_slice}
+use Rattle.std.proofs.lemmas.Iterator.Search.{all_from_yields_List}
+use Rattle.machine.specs.Range.{carrier_ok}
+use Rattle.machine.proofs.Scans.{all_is}
+use Rattle.machine.proofs.all_in_range.Goals as goal
+
+pub returns : goal.returns
+returns c = all_from_yields_List carrier_ok _ _ _ c.all.ensures.ran (YieldsList-from_slice c.args.carriers.now cc) (λ x b q k. search (rules, tests)) ∙ all_is carrier_ok c.args.carriers.now
