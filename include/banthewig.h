@@ -158,10 +158,10 @@ enum knitout_number {
 /* Runs a program from the empty state at a hook limit. Reads program[0] to program[length - 1] at most and writes nothing.
    Gives the first that fits: KNITOUT_BAD_STATE (the limit, before all else), KNITOUT_TOO_LONG, the refusal of the first record
    that has no step, KNITOUT_DONE. A program that is done at a limit is done at every greater one up to KNITOUT_LIMIT_MOST.
-   Stack 736 bytes; worst time 34 ms. */
+   Stack 744 bytes; worst time 34 ms. */
 uint64_t knitout_run_at(uint8_t limit, const uint8_t *program, size_t length);
 
-/* The same at KNITOUT_LIMIT_MOST. Stack 736 bytes; worst time 34 ms. */
+/* The same at KNITOUT_LIMIT_MOST. Stack 744 bytes; worst time 34 ms. */
 uint64_t knitout_run(const uint8_t *program, size_t length);
 
 /* Runs a program at a hook limit, copies it to the output and makes a log's swaps there: two neighbours change places exactly
@@ -175,11 +175,11 @@ uint64_t knitout_run(const uint8_t *program, size_t length);
    the swaps before the refused one made it. Every other number writes nothing. Output past the program's length and work past
    the last record's start keep their contents.
    For a further log hand in the output's front as the program and another area as the output.
-   Stack 888 bytes; worst time 173 ms. */
+   Stack 896 bytes; worst time 173 ms. */
 uint64_t knitout_rewrite_at(uint8_t limit, const uint8_t *program, size_t program_length, const uint8_t *log,
                             size_t log_length, uint8_t *output, size_t output_length, uint16_t *work, size_t work_count);
 
-/* The same at KNITOUT_LIMIT_MOST. Stack 888 bytes; worst time 173 ms. */
+/* The same at KNITOUT_LIMIT_MOST. Stack 896 bytes; worst time 173 ms. */
 uint64_t knitout_rewrite(const uint8_t *program, size_t program_length, const uint8_t *log, size_t log_length,
                          uint8_t *output, size_t output_length, uint16_t *work, size_t work_count);
 
@@ -189,11 +189,11 @@ uint64_t knitout_rewrite(const uint8_t *program, size_t program_length, const ui
    Output and work as for the rewriter, and numbers too, but that there is no log: KNITOUT_NO_PAIR, KNITOUT_TIED and
    KNITOUT_TORN_LOG do not occur. After KNITOUT_DONE the output begins with the ordered program and work with the starts of its
    records; every other number writes nothing. What lies past them keeps its contents.
-   Stack 880 bytes; worst time 64 s, which grows with the square of the length (docs/PERFORMANCE.md). */
+   Stack 888 bytes; worst time 64 s, which grows with the square of the length (docs/PERFORMANCE.md). */
 uint64_t knitout_order_at(uint8_t limit, const uint8_t *program, size_t program_length, uint8_t *output,
                           size_t output_length, uint16_t *work, size_t work_count);
 
-/* The same at KNITOUT_LIMIT_MOST. Stack 880 bytes; worst time 64 s. */
+/* The same at KNITOUT_LIMIT_MOST. Stack 888 bytes; worst time 64 s. */
 uint64_t knitout_order(const uint8_t *program, size_t program_length, uint8_t *output, size_t output_length, uint16_t *work,
                        size_t work_count);
 
@@ -287,7 +287,7 @@ struct knitout_stepped {
    Steps through a program of at most KNITOUT_PROGRAM_MOST bytes, from the empty state at a limit, each lent the rest where the
    last record ended, go the way of the program's run at that limit. (A longer program can be stepped too; its run gets
    KNITOUT_TOO_LONG.)
-   Stack 1,904 bytes; worst time 75 microseconds. */
+   Stack 1,912 bytes; worst time 75 microseconds. */
 struct knitout_stepped knitout_step(struct knitout_state *state, const uint8_t *bytes, size_t length);
 
 /* The answer of a list. */

@@ -23,9 +23,12 @@ fn join<'a>(folder: &str, file: &str, path: &'a mut [u8]) -> &'a [u8]
     &path[..end]
 }
 
-// Writes out a title line and the listing of a folder at a hook limit.
+// Writes out a title line and the listing of a folder at a hook limit. (Three writes for the title: `println!` keeps a line in 65,536
+// bytes of stack, cleared each time, and a title that is cut off is cut elsewhere.)
 fn show(rt: &HostRuntime, limit: u8, folder: &str) -> io::Result<()> {
-    println!(rt; "# {folder}")?;
+    rt.write_all(b"# ")?;
+    rt.write_all(folder.as_bytes())?;
+    rt.write_all(b"\n")?;
     let mut program = [0u8; PATH_MOST];
     let mut log = [0u8; PATH_MOST];
     let program = join(folder, "/knit.prg", &mut program);

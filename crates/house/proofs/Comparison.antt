@@ -5,13 +5,17 @@ use Rattle.std.specs.Ordering.{nat_cmp, is_lt, is_some_and}
 use Rattle.std.specs.Cmp.Lexicographic.{slice_partial_cmp}
 use Rattle.std.proofs.lemmas.Cmp.{same_from_slice_cmp_tested}
 use Rattle.std.proofs.lemmas.Bool.Decides.{nat_tests}
-use Prim.Native.Nat.{ℕ, ◌<◌}
-use mathlib.Core.Path.{◌≡◌, refl, sym, subst, ◌∙◌}
+use Prim.Native.Nat.{ℕ, suc, ◌+◌, ◌≤◌, ◌<◌}
+use mathlib.Core.Path.{◌≡◌, refl, sym, ap, subst, ◌∙◌}
 use mathlib.Core.Bool.{Bool, true, false, true≢false}
 use mathlib.Core.List.{List, [], ◌∷◌}
+use mathlib.Core.Logic.{◌⊎◌, inl, inr}
 use native.Mathlib.Omega.{arith}
+use native.Mathlib.Numerals.{add-one}
 use lib.Dec.{eqb, ltb}
-use borrow.Author.Tests.{eq-eqb, ne_eqb, eqb-true, eqb-false, lt-ltb, ltb-true, ltb-false}
+use lib.ListN.{length, drop, get_or, drop_of_length-le}
+use lib.Seq.{drop-cons}
+use borrow.Author.Tests.{eq-eqb, ne_eqb, eqb-true, eqb-false, lt-ltb, le-ltb, ltb-true, ltb-false}
 use Rattle.house.specs.Order.{bytes_first}
 use Rattle.house.specs.Exact.{BytesFirst, shorter, smaller, next_byte}
 use Rattle.house.specs.Claims.{BytesFirstExactly, ComparisonStrict}
@@ -24,6 +28,32 @@ heads a b x y d = simp (ne_eqb a b d)
 same_heads : (a b : ℕ) (x y : List ℕ) → a ≡ b → bytes_first (a ∷ x) (b ∷ y) ≡ bytes_first x y
 unfolding bytes_first
 same_heads a b x y e = simp (eq-eqb a b e)
+
+module _ (x y : List ℕ) (i : ℕ) where
+  module _ (h : i < length x) (k : i < length y) where
+    cut : bytes_first (drop i x) (drop i y) ≡ bytes_first (get_or x i 0 ∷ drop (suc i) x) (get_or y i 0 ∷ drop (suc i) y)
+    cut = λ n. bytes_first (drop-cons x i 0 h n) (drop-cons y i 0 k n)
+
+    pub differ : (get_or x i 0 ≡ get_or y i 0 → ⊥) → bytes_first (drop i x) (drop i y) ≡ ltb (get_or x i 0) (get_or y i 0)
+    differ d = cut ∙ heads (get_or x i 0) (get_or y i 0) (drop (suc i) x) (drop (suc i) y) d
+
+    pub agree : get_or x i 0 ≡ get_or y i 0 → bytes_first (drop i x) (drop i y) ≡ bytes_first (drop (i + 1) x) (drop (i + 1) y)
+    agree e = cut ∙ same_heads (get_or x i 0) (get_or y i 0) (drop (suc i) x) (drop (suc i) y) e ∙ ap (λ (n : ℕ). bytes_first (drop n x) (drop n y)) (sym (add-one i))
+
+  -- at the end of the shorter one
+  past_second : length y ≤ i → bytes_first (drop i x) (drop i y) ≡ false
+  unfolding bytes_first
+  past_second h = ap (bytes_first (drop i x)) (drop_of_length-le y h)
+
+  past_first : length x ≤ i → i < length y → bytes_first (drop i x) (drop i y) ≡ true
+  unfolding bytes_first
+  past_first h k = λ n. bytes_first (drop_of_length-le x h n) (drop-cons y i 0 k n)
+
+  pub ends : i ≤ length x → i ≤ length y → (i ≡ length x) ⊎ (i ≡ length y) → ltb (length x) (length y) ≡ bytes_first (drop i x) (drop i y)
+  ends h k (inr e) = le-ltb (length x) (length y) (omega arith) ∙ sym (past_second (omega arith))
+  ends h k (inl e) =
+      cases (ltb (length x) (length y)) (λ t. t ∙ sym (past_first (omega arith) (omega (arith, ltb-true (length x) (length y) t))))
+      (λ t. t ∙ sym (past_second (omega (arith, ltb-false (length x) (length y) t))))
 
 -- as the library compares
 pub compared : (x y : List ℕ) (r : Bool) → r ≡ is_some_and is_lt (slice_partial_cmp (λ a b. Some (nat_cmp a b)) x y) → r ≡ bytes_first x y

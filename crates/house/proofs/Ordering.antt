@@ -8,6 +8,8 @@ use lib.Seq.{take_at, drop_at, length-take-le}
 use borrow.Author.Tests.{eq-eqb, ne_eqb}
 use Rattle.machine.specs.Machine.{empty_state}
 use Rattle.machine.specs.declared.State.{State}
+use Rattle.run.specs.declared.Answer.{Answer}
+use Rattle.run.specs.declared.Ended.{Ended}
 use Rattle.run.specs.Run.{reached, answer_limit, answer_of, run_of}
 use Rattle.run.proofs.Demand.{accepts, final}
 use Rattle.trace.specs.House.{house_order}
@@ -82,6 +84,44 @@ module _ (limit : ℕ) (p output work : List ℕ) where
           output = house_of p ++ drop (length p) output;
           work = starts_of 0 (house_records p) ++ drop (length (house_records p)) work;
         })
+
+  -- what is answered and left
+  unfoldable pub Gives : Answer → List ℕ → List ℕ → Type 0
+  Gives a q v = (a ≡ call.answer) × ((q ≡ call.output) × (v ≡ call.work))
+
+  gives : (w : Rewritten) → call ≡ w → Gives w.answer w.output w.work
+  unfolding Gives
+  gives w f = (sym (ap (λ (c : Rewritten). c.answer) f), (sym (ap (λ (c : Rewritten). c.output) f), sym (ap (λ (c : Rewritten). c.work) f)))
+
+  pub gives_lent : (n : ℕ) (a : Answer) → n ≡ number → (n ≡ 0 → ⊥) → a ≡ answer_of (reached n 0 (empty_state (answer_limit limit))) → Gives a output work
+  gives_lent n a f d g =
+      let none : number ≡ 0 → ⊥ = λ q. d (f ∙ q) in
+      subst (λ (b : Answer). Gives b output work) (sym (g ∙ ap (λ (k : ℕ). answer_of (reached k 0 (empty_state (answer_limit limit)))) f))
+      (gives (refused (answer_of (reached number 0 (empty_state (answer_limit limit)))) output work) (as_plain (λ q. none (sym (plain_lent none) ∙ q)) ∙ lent_call limit p [] output work none))
+
+  module _ (lent : number ≡ 0) where
+    pub gives_refused : ((run_of limit p).number ≡ 0 → ⊥) → Gives (run_of limit p) output work
+    gives_refused none = gives (refused (run_of limit p) output work) (as_plain (λ q. none (sym (plain_run lent none) ∙ q)) ∙ refused_call limit p [] output work lent none)
+
+    pub gives_ordered : (run_of limit p).number ≡ 0 → (q v : List ℕ) → q ≡ house_of p ++ drop (length p) output → v ≡ starts_of 0 (house_records p) ++ drop (length (house_records p)) work → Gives (run_of limit p) q v
+    unfolding Gives
+    gives_ordered y q v bytes starts =
+        let g = gives (written limit p (ended 0 0 (house_records p)) output work) (as_ordered (plain_done lent y)) in
+        let (t, u) = (accepts limit p).0 y in
+        let a : run_of limit p ≡ record { number = 0; place = 0; complete = (run_of limit p).complete; state = (run_of limit p).state } =
+        (λ i. record { number = y i; place = (final limit p t u).place i; complete = (run_of limit p).complete; state = (run_of limit p).state }) in
+        (a ∙ g.0, (bytes ∙ g.1.0, starts ∙ g.1.1))
+
+  pub as_run : (q v : List ℕ) (a : Answer) → a ≡ run_of limit p → Gives (run_of limit p) q v → Gives a q v
+  as_run q v a e g = subst (λ (b : Answer). Gives b q v) (sym e) g
+
+  -- number and place of it
+  unfoldable pub Tells : Ended → List ℕ → List ℕ → Type 0
+  Tells e q v = ((e.number ≡ call.answer.number) × (e.place ≡ call.answer.place)) × ((q ≡ call.output) × (v ≡ call.work))
+
+  pub tells : (q v : List ℕ) (a : Answer) → Gives a q v → (e : Ended) → e.number ≡ a.number → e.place ≡ a.place → Tells e q v
+  unfolding Gives Tells
+  tells q v a (f, g) e n z = ((n ∙ ap (λ (b : Answer). b.number) f, z ∙ ap (λ (b : Answer). b.place) f), g)
 
 -- an answer before the run
 pub answer_number : (n : ℕ) (s : State) → (answer_of (reached n 0 s)).number ≡ n

@@ -1,6 +1,6 @@
 -- The records at the starts written end to end, one after another, and their new starts. Assumes nothing.
 use Prim.Native.Nat.{ℕ, suc, ◌+◌, ◌≤◌, ◌<◌}
-use mathlib.Core.Path.{◌≡◌, sym, ap, ◌∙◌}
+use mathlib.Core.Path.{◌≡◌, refl, sym, ap, ◌∙◌}
 use mathlib.Core.List.{List, [], ◌∷◌, ◌++◌, append_assoc, append-nil}
 use native.Mathlib.Omega.{arith}
 use native.Mathlib.Numerals.{add-one}
@@ -19,6 +19,9 @@ pub record Written (p o₀ w₀ output work : List ℕ) (at i : ℕ) : Type 0 wh
   pub long : length work ≡ length w₀
   pub front : take i work ≡ take i (starts_of 0 (records_at p w₀))
   pub past : drop i work ≡ drop i w₀
+
+pub none_written : (p o₀ w₀ : List ℕ) → Written p o₀ w₀ o₀ w₀ 0 0
+none_written p o₀ w₀ = record { upto = omega arith; place = refl; bytes = refl; long = refl; front = refl; past = refl }
 
 module _ (p o₀ w₀ : List ℕ) (s : Starts p w₀) (room : length p ≤ length o₀) where
   abbrev all : List (List ℕ)

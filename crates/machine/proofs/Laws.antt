@@ -1,15 +1,18 @@
 -- Laws of the machine's definitions: columns and slots as code reads them back, walks along a list, attachments, the empty state, the most loops. Assumes nothing.
-use Prim.Native.Nat.{ℕ, ◌+◌, ◌<◌, ◌≤◌}
-use mathlib.Core.Path.{◌≡◌, refl, ap, ◌∙◌}
-use mathlib.Core.Bool.{Bool, true, false, not, cond, and-false}
+use borrow.Table.Steps.{cases}
+use Prim.Native.Nat.{ℕ, zero, suc, ◌+◌, ◌-◌, ◌<◌, ◌≤◌}
+use mathlib.Core.Path.{◌≡◌, refl, sym, ap, ◌∙◌}
+use mathlib.Core.Bool.{Bool, true, false, ◌&&◌, not, cond, and-true, and-false, and_assoc, false≢true}
 use mathlib.Core.List.{List, [], ◌∷◌, map}
 use mathlib.Core.Logic.{◌↔◌}
 use native.Mathlib.Omega.{arith}
-use lib.IntN.{ℤ, pos, ◌+ℤ◌, ◌-ℤ◌}
-use lib.Signed.{mag}
-use lib.Dec.{eqb}
-use lib.ListN.{length, replicate}
-use borrow.Author.Tests.{eqb-true, not-true}
+use lib.IntN.{ℤ, pos, negsuc, ◌+ℤ◌, ◌-ℤ◌}
+use lib.Signed.{le_z, mag}
+use lib.Dec.{eqb, leb, ltb}
+use lib.ListN.{get_or, length, take, drop, replicate}
+use lib.Seq.{drop-cons, drop-length}
+use native.Mathlib.Numerals.{add-one}
+use borrow.Author.Tests.{eqb-true, not-true, ltb-true, ltb-false, leb-true, le-leb}
 use Rattle.std.proofs.lemmas.Bool.{and_parts}
 use Rattle.machine.specs.declared.Needle.{Needle}
 use Rattle.machine.specs.declared.Carrier.{Carrier}
@@ -19,7 +22,9 @@ use mir.Syntax.{w32, w64}
 use mir.Val.{SFits, to_z, of_z}
 use mir.Facts.{to_z-of_z}
 use Rattle.machine.specs.Geometry.{column_of, eq_z}
-use Rattle.machine.specs.Machine.{same_needle, all, attached_at, moved_to, no_loops, inactive, inactive_carrier, empty_state, complete_of}
+use Rattle.machine.specs.Machine.{same_needle, all, attached_at, moved_to, no_loops, inactive, inactive_carrier, all_inactive, empty_state, complete_of}
+use Rattle.machine.specs.Range.{slot_ok}
+use Rattle.machine.specs.Looks.{beds_empty}
 use Rattle.machine.proofs.Signed.{mag_sum, eq_z_true, fits_difference, cast_back}
 
 -- how far a column reaches
@@ -42,6 +47,39 @@ module _ (a b : ℤ) (h : mag a < 2147483648) (k : mag b < 2147483648) where
   pub difference_is : to_z w64 (of_z w64 (wide a -ℤ wide b)) ≡ a -ℤ b
   difference_is = to_z-of_z difference_fits ∙ simp (cast_back w32 w64 a h (omega arith), cast_back w32 w64 b k (omega arith))
 
+-- a walk along a list
+module _ {A : Type 0} (p : A → Bool) where
+  pub all_next : (l : List A) (i : ℕ) (d : A) → i < length l → all p (drop i l) ≡ (p (get_or l i d) && all p (drop (i + 1) l))
+  unfolding all
+  all_next l i d h = rw (drop-cons l i d h, add-one i)
+
+  pub all_end : (l : List A) (i : ℕ) → i ≡ length l → all p (drop i l) ≡ true
+  unfolding all
+  all_end l i h = rw (h, drop-length l)
+
+-- and downwards
+module _ {A : Type 0} (p : A → Bool) where
+  last : (l : List A) (i : ℕ) (d : A) → i < length l → all p (take (suc i) l) ≡ (all p (take i l) && p (get_or l i d))
+  unfolding all
+  last [] i d h = absurd (omega arith)
+  last (x ∷ l) zero d h = and-true (p x)
+  last (x ∷ l) (suc i) d h = ap (λ (b : Bool). p x && b) (last l i d (omega arith)) ∙ sym (and_assoc (p x) (all p (take i l)) (p (get_or l i d)))
+
+  pub all_last : (l : List A) (k : ℕ) (d : A) → 0 < k → k ≤ length l → all p (take k l) ≡ (all p (take (k - 1) l) && p (get_or l (k - 1) d))
+  all_last l k d h m = let e : k ≡ suc (k - 1) = omega arith in ap (λ (n : ℕ). all p (take n l)) e ∙ last l (k - 1) d (omega arith)
+
+  pub all_none : (l : List A) (k : ℕ) → k ≡ 0 → all p (take k l) ≡ true
+  unfolding all
+  all_none l k e = rw e refl
+
+and_left : (a b : Bool) → (a && b) ≡ true → a ≡ true
+and_left true b e = refl
+and_left false b e = e
+
+and_right : (a b : Bool) → (a && b) ≡ true → b ≡ true
+and_right true b e = e
+and_right false b e = absurd (false≢true e)
+
 -- a carrier that names no needle of the number
 abbrev pub other : Needle → Carrier → Bool
 other n c = not (eqb c.needle.1 n.1)
@@ -60,6 +98,9 @@ all_one : {A : Type 0} (p : A → Bool) (a : A) → ((x : A) → p x ≡ true �
 unfolding all
 all_one p a only [] e = refl
 all_one p a only (x ∷ l) e = cc (only x (and_parts (p x) (all p l) e).0, all_one p a only l (and_parts (p x) (all p l) e).1)
+
+pub and_two : (a b : Bool) → (a && b) ≡ true → (a ≡ true) × (b ≡ true)
+and_two a b e = (and_left a b e, and_right a b e)
 
 same_fields : (a b x y : ℕ) (z : ℤ) → a ≡ 0 → b ≡ 0 → z ≡ pos 0 → x ≡ 0 → y ≡ 0
     → ◌≡◌ {A = Carrier} (record { active = a; side = b; slot = record { 0 = z }; needle = record { 0 = x; 1 = y } }) inactive
@@ -80,6 +121,12 @@ same_parts : (z : ℤ) (l : List ℕ) (n : ℕ) (k : List Carrier) → z ≡ pos
 unfolding empty_state
 same_parts z l n k p q r = simp (p, q, r)
 
+-- complete: the beds, then the carriers
+pub complete_by : (s : State) {t : Bool} → beds_empty s.racking s.loops ≡ t → (t && all_inactive s.carriers) ≡ complete_of s
+unfolding complete_of
+complete_by s e =
+    sym (sym (and_assoc (eq_z s.racking.0 (pos 0)) (no_loops s.loops) (all_inactive s.carriers)) ∙ ap (λ (t : Bool). t && all_inactive s.carriers) e)
+
 -- complete is true exactly of the empty state at the state's own limit
 complete_is_empty : (s : State) → length s.loops ≡ 500 → length s.carriers ≡ 10 → complete_of s ≡ true → s ≡ empty_state s.limit
 unfolding complete_of
@@ -96,3 +143,19 @@ empty_is_complete limit = refl
 
 pub complete_exactly : (s : State) → length s.loops ≡ 500 → length s.carriers ≡ 10 → (complete_of s ≡ true) ↔ (s ≡ empty_state s.limit)
 complete_exactly s hl hc = (complete_is_empty s hl hc, λ e. ap complete_of e ∙ empty_is_complete s.limit)
+
+-- a slot in range, as two comparisons
+pub slot_in : (z : ℤ) → slot_ok z ≡ (le_z (negsuc 7) z && le_z z (pos 258))
+unfolding slot_ok
+slot_in (pos n) = refl
+slot_in (negsuc n) = sym (and-true (leb n 7))
+
+-- the larger of two is at most b exactly if both are
+larger_leb : (b a v : ℕ) → leb (cond (ltb a v) v a) b ≡ (leb a b && leb v b)
+larger_leb b a v =
+    cases (ltb a v) (λ t. let h = ltb-true a v t in simp t (cases (leb v b) (λ u. let k = leb-true v b u in simp (u, le-leb a b (omega arith))) (λ u. simp (u, and-false (leb a b)))))
+    (λ t. let h = ltb-false a v t in simp t (cases (leb a b) (λ u. let k = leb-true a b u in simp (u, le-leb v b (omega arith))) (λ u. simp u)))
+
+-- a walk that keeps the largest number so far: one element more
+pub larger_next : (b most v m : ℕ) (rest : Bool) → m ≡ cond (ltb most v) v most → (leb most b && (leb v b && rest)) ≡ (leb m b && rest)
+larger_next b most v m rest e = sym (and_assoc (leb most b) (leb v b) rest) ∙ ap (λ (t : Bool). t && rest) (sym (larger_leb b most v) ∙ ap (λ (k : ℕ). leb k b) (sym e))

@@ -2,12 +2,12 @@
 use borrow.Table.Steps.{cases}
 use Prim.Native.Nat.{ℕ, zero, suc, ◌+◌, ◌-◌, ◌≤◌, ◌<◌, ◌^◌}
 use mathlib.Core.Path.{◌≡◌, refl, sym, ap, subst, ◌∙◌}
-use mathlib.Core.Bool.{true, false, not, true≢false, false≢true}
+use mathlib.Core.Bool.{true, false, ◌&&◌, not, and-true, true≢false, false≢true}
 use mathlib.Core.Logic.{◌↔◌, ◌⊎◌, inl, inr, ⊎_elim}
 use native.Mathlib.Omega.{arith}
 use lib.IntN.{ℤ, pos, negsuc, ◌+ℤ◌, ◌-ℤ◌, neg_ℤ, sub_ℕ, nat_abs}
-use lib.Signed.{le_z, lt_z, mag}
-use lib.Dec.{leb, ltb}
+use lib.Signed.{le_z, lt_z, mag, non_neg}
+use lib.Dec.{T, leb, ltb, leb-suc-suc}
 use borrow.Author.Tests.{eq-eqb, ne_eqb, eqb-true, ltb-true, ltb-false, leb-true, leb-false, lt-ltb, le-ltb, not-true, not-false}
 use mir.Syntax.{Width}
 use mir.Facts.{to_z-of_z}
@@ -101,6 +101,14 @@ lt_z_true a b e = not-true (le_z b a) (sym (lt_z_not a b) ∙ e)
 pub lt_z_false : (a b : ℤ) → lt_z a b ≡ false → le_z b a ≡ true
 lt_z_false a b e = not-false (le_z b a) (sym (lt_z_not a b) ∙ e)
 
+-- from lo to hi, looked at from below
+module _ (lo hi z : ℤ) where
+  pub under : lt_z z lo ≡ true → (le_z lo z && le_z z hi) ≡ false
+  under e = simp (lt_z_true z lo e)
+
+  pub not_under : lt_z z lo ≡ false → (le_z lo z && le_z z hi) ≡ le_z z hi
+  not_under e = simp (lt_z_false z lo e)
+
 -- magnitudes: mag z < k says -k ≤ z < k
 up_mag : (a : ℤ) → up a ≤ mag a
 up_mag (pos a) = omega arith
@@ -126,6 +134,27 @@ neg_mag a = go (neg_ℤ a) (up_neg a) (dn_neg a)
 
 pub mag_difference : (a b : ℤ) → mag (a -ℤ b) ≤ mag a + mag b + 2
 mag_difference a b = omega (arith, mag_sum a (neg_ℤ b), neg_mag b)
+
+-- a magnitude of at most k + 1, as two comparisons
+pub abs_in : (k : ℕ) (d : ℤ) → leb (nat_abs d) (suc k) ≡ (le_z (negsuc k) d && le_z d (pos (suc k)))
+abs_in k (pos n) = refl
+abs_in k (negsuc n) = leb-suc-suc n k ∙ sym (and-true (leb n k))
+
+-- a number below 0, negated, and one that is not, as unsigned ones
+pub below : (y : ℤ) → lt_z y (pos 0) ≡ true → T (non_neg (pos 0 -ℤ y)) × (nat_abs (pos 0 -ℤ y) ≡ nat_abs y)
+below (pos n) t = absurd (no n (ltb-true n 0 t))
+  where
+    no : (n : ℕ) → n < 0 → ⊥
+    no n h = omega arith
+below (negsuc n) t = (tt, omega arith)
+
+pub not_below : (y : ℤ) → lt_z y (pos 0) ≡ false → T (non_neg y)
+not_below (pos n) t = tt
+not_below (negsuc n) t = absurd (true≢false t)
+
+pub abs_mag : (y : ℤ) → nat_abs y ≤ mag y + 1
+abs_mag (pos n) = omega arith
+abs_mag (negsuc n) = omega arith
 
 -- two numbers are d apart exactly if one of them is d more than the other
 more : (a b : ℤ) (d : ℕ) → a ≡ b +ℤ pos d → up a + dn b ≡ dn a + (up b + d)

@@ -5,7 +5,8 @@ use mathlib.Core.Bool.{Bool, true, false, cond}
 use mathlib.Core.List.{List, [], ◌∷◌, ◌++◌}
 use native.Mathlib.Omega.{arith}
 use lib.IntN.{pos}
-use lib.ListN.{length, get_or}
+use lib.ListN.{length, drop, get_or}
+use lib.Seq.{drop-cons, drop-length}
 use lib.Dec.{eqb}
 use borrow.Author.Tests.{eq-eqb, ne_eqb, eqb-true, eqb-false}
 use borrow.Table.Steps.{cases}
@@ -46,6 +47,36 @@ found_behind [] n after h d = stopped n after d
 found_behind (m ∷ l) n after h d =
     let p = passed m (l ++ n ∷ after) h.0 in let q = found_behind l n after h.1 d in
     (p.0 ∙ q.0, p.1 ∙ ap suc q.1)
+
+-- ---- on the way: what is ahead tells what there is
+pub record Ahead (l : List ℕ) (i : ℕ) : Type 0 where
+  pub loops : no_loops (drop i l) ≡ no_loops l
+  pub looks : i + looked_at (drop i l) ≡ looked_at l
+
+module _ (l : List ℕ) where
+  pub ahead_first : Ahead l 0
+  ahead_first = record { loops = refl; looks = omega arith }
+
+  module _ (i : ℕ) (a : Ahead l i) where
+    pub ahead_next : i < length l → get_or l i 0 ≡ 0 → Ahead l (i + 1)
+    ahead_next h e =
+        let p = passed (get_or l i 0) (drop (suc i) l) e in let f = drop-cons l i 0 h in let g : i + 1 ≡ suc i = omega arith in
+        record {
+          loops = ap (λ (k : ℕ). no_loops (drop k l)) g ∙ sym p.0 ∙ ap no_loops (sym f) ∙ a.loops;
+          looks = omega (arith, ap (λ (k : ℕ). looked_at (drop k l)) g, p.1, ap looked_at f, a.looks);
+        }
+
+    pub ahead_found : i < length l → (get_or l i 0 ≡ 0 → ⊥) → ◌≡◌ {A = Walked} (record { none = false; looked = i + 1 }) (walk_of l)
+    unfolding walk_of
+    ahead_found h d =
+        let p = stopped (get_or l i 0) (drop (suc i) l) d in let f = drop-cons l i 0 h in
+        walked_as (sym p.0 ∙ ap no_loops (sym f) ∙ a.loops) (omega (arith, p.1, ap looked_at f, a.looks))
+
+    pub ahead_none : i ≡ length l → ◌≡◌ {A = Walked} (record { none = true; looked = i }) (walk_of l)
+    unfolding walk_of
+    ahead_none h =
+        let f : drop i l ≡ [] = ap (λ (k : ℕ). drop k l) h ∙ drop-length l in
+        walked_as (sym ran_out.0 ∙ ap no_loops (sym f) ∙ a.loops) (omega (arith, ran_out.1, ap looked_at f, a.looks))
 
 -- ---- from the place of the first loop, if there is one
 at_place : (l : List ℕ) (i : ℕ) → i < length l → (get_or l i 0 ≡ 0 → ⊥) → ((k : ℕ) → k < i → get_or l k 0 ≡ 0) → (no_loops l ≡ false) × (looked_at l ≡ i + 1)

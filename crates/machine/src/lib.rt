@@ -126,6 +126,13 @@ impl State {
         }
     }
 
+    // The same without a limit, all of whose bytes are 0.
+    pub fn cleared() -> State
+        ensures { result ≡ empty_state 0 }
+    {
+        State::empty(0)
+    }
+
     // Whether hooks can have the limit.
     pub fn has_limit(limit: u8) -> bool
         ensures { result ≡ limit_ok limit }

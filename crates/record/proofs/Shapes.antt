@@ -274,7 +274,13 @@ loop (Forms.split e) = rw e (record { formed = omega arith; carried = omega arit
 loop (Forms.plated (Plated.tuck e)) = rw e (record { formed = omega arith; carried = omega arith; not_in = λ q. omega arith; not_out = λ q. omega arith })
 loop (Forms.plated (Plated.knit e)) = rw e (record { formed = omega arith; carried = omega arith; not_in = λ q. omega arith; not_out = λ q. omega arith })
 
--- no kind but tuck to plated knit forms loops
+-- tuck to plated knit form loops, and no other kind does
+pub forms_some : (k : ℕ) → TUCK ≤ k → k ≤ PLATED_KNIT → leb 1 (loops_formed k) ≡ true
+unfolding by_kind
+forms_some k h j =
+    is k TUCK (λ e. simp e) (λ a. is k KNIT (λ e. simp e) (λ b. is k SPLIT (λ e. simp e) (λ c. is k PLATED_TUCK (λ e. simp e)
+    (λ d. let e : k ≡ PLATED_KNIT = omega arith in simp e))))
+
 pub forms_none : (k : ℕ) → (TUCK ≤ k → k ≤ PLATED_KNIT → ⊥) → loops_formed k ≡ 0
 unfolding by_kind
 forms_none k h =
@@ -330,6 +336,9 @@ uncarried k e =
     }
 
 -- ---- in to knit have a four-byte body
+pub above_bare : (k : ℕ) → 1 ≤ k → (k ≡ RACK → ⊥) → (k ≡ DROP → ⊥) → (k ≡ XFER → ⊥) → IN ≤ k
+above_bare k h a b d = omega arith
+
 pub work_size : (k : ℕ) → IN ≤ k → k ≤ KNIT → size_of k ≡ 5
 unfolding by_kind
 work_size = in_work (λ (k : ℕ). size_of k ≡ 5) refl refl refl refl refl
@@ -342,3 +351,21 @@ plated_size = in_plated (λ (k : ℕ). size_of k ≡ 6) refl refl
 pub six_bytes : (k : ℕ) → SPLIT ≤ k → k ≤ PLATED_KNIT → size_of k ≡ 6
 unfolding by_kind
 six_bytes k h j = is k SPLIT (λ e. simp e) (λ d. plated_size k (omega arith) j)
+
+-- what is none of them, nor another known kind, has no length
+pub no_size : (k : ℕ) → (k ≡ RACK → ⊥) → (k ≡ DROP → ⊥) → (k ≡ XFER → ⊥) → (IN ≤ k → k ≤ PLATED_KNIT → ⊥) → size_of k ≡ 0
+no_size k a b c w = go (named k)
+  where
+    go : Named k → size_of k ≡ 0
+    go (Named.unknown n e) = e
+    go (Named.known (Known.rack e)) = absurd (a e)
+    go (Named.known (Known.drop e)) = absurd (b e)
+    go (Named.known (Known.xfer e)) = absurd (c e)
+    go (Named.known (Known.carrier_in e)) = absurd (w (omega arith) (omega arith))
+    go (Named.known (Known.carrier_out e)) = absurd (w (omega arith) (omega arith))
+    go (Named.known (Known.miss e)) = absurd (w (omega arith) (omega arith))
+    go (Named.known (Known.tuck e)) = absurd (w (omega arith) (omega arith))
+    go (Named.known (Known.knit e)) = absurd (w (omega arith) (omega arith))
+    go (Named.known (Known.split e)) = absurd (w (omega arith) (omega arith))
+    go (Named.known (Known.plated_tuck e)) = absurd (w (omega arith) (omega arith))
+    go (Named.known (Known.plated_knit e)) = absurd (w (omega arith) (omega arith))

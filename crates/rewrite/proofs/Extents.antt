@@ -10,7 +10,7 @@ use lib.Signed.{le_z, lt_z, mag}
 use mir.Syntax.{w32}
 use mir.Val.{to_z, of_z}
 use lib.Dec.{eqb, leb, ltb, leb-suc-suc}
-use borrow.Author.Tests.{ne_eqb, ltb-true, ltb-false}
+use borrow.Author.Tests.{ne_eqb, le-leb, ltb-true, ltb-false}
 use Rattle.std.proofs.lemmas.Bool.{and_parts}
 use Rattle.machine.proofs.Signed.{back, up, dn, sum, difference}
 use Rattle.machine.specs.Geometry.{column_of}
@@ -105,6 +105,11 @@ module _ (a b : Extent) where
       go : (t : Bool) → (t && (leb a.low b.high && leb b.low a.high)) ≡ false
       go true = simp e
       go false = refl
+
+  module _ (p : le_z a.left b.right ≡ true) (q : le_z b.left a.right ≡ true) where
+    pub else_meets : a.low ≤ b.high → meets a b ≡ leb b.low a.high
+    unfolding meets
+    else_meets h = simp (p, q, le-leb a.low b.high h)
 
 -- the tests of a tie, one after another
 module _ (r : Racking) (x y : List ℕ) where

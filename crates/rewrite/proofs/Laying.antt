@@ -165,6 +165,10 @@ module _ (p : List ℕ) (sound : Sound p) (n at : ℕ) (h : Upto p n at) where
         ∙ sym (take-suc own n 0 k)
         ∙ ap (λ (m : ℕ). take m own) (sym (add-one n))
 
+-- none are written at first
+pub upto_none : (p : List ℕ) → Upto p 0 0
+upto_none p = record { some = omega arith; place = refl }
+
 -- what is past them stays
 pub past_next : (w w₀ : List ℕ) (n a : ℕ) → drop n w ≡ drop n w₀ → drop (n + 1) (set w n a) ≡ drop (n + 1) w₀
 past_next w w₀ n a h = drop-set-lt (n + 1) w n a (omega arith) ∙ sym (drop-drop 1 n w) ∙ ap (drop 1) h ∙ drop-drop 1 n w₀

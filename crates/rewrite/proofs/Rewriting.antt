@@ -1,19 +1,20 @@
 -- The rewriter's call, put together: refused by its limit, by its lengths or by its run, or the program laid and its log replayed. Assumes nothing.
+use borrow.Table.Steps.{cases}
 use Prim.Native.Nat.{ℕ, ◌/◌, ◌≤◌, ◌<◌}
 use mathlib.Core.Path.{◌≡◌, refl, sym, ap, subst, ◌∙◌}
 use mathlib.Core.Bool.{Bool, true, false, ◌||◌, cond}
 use mathlib.Core.List.{List, ◌++◌}
 use native.Mathlib.Omega.{arith}
-use lib.Dec.{eqb, ltb}
+use lib.Dec.{eqb, leb, ltb}
 use lib.ListN.{length, take, drop, length-append, length-drop}
 use lib.Seq.{take_at, drop_at}
-use borrow.Author.Tests.{eq-eqb, ne_eqb, eqb-true, lt-ltb, le-ltb, ltb-false}
+use borrow.Author.Tests.{eq-eqb, ne_eqb, eqb-true, leb-true, leb-false, lt-ltb, le-ltb, ltb-false}
 use Rattle.machine.specs.Limits.{program_most, log_most}
 use Rattle.machine.specs.Machine.{empty_state}
 use Rattle.machine.specs.Range.{LimitInRange}
 use Rattle.machine.proofs.Ranges.{limit_exactly, limit_cases, limit_out}
 use Rattle.run.specs.declared.Answer.{Answer}
-use Rattle.run.specs.Run.{reached, answer_limit, answer_of, run_of}
+use Rattle.run.specs.Run.{reached, start_no, answer_limit, answer_of, run_of}
 use Rattle.record.proofs.Shapes.{cond_cases}
 use Rattle.run.proofs.Answers.{FullSize, answered, answer_size, empty_size}
 use Rattle.run.proofs.Demand.{place_bound}
@@ -58,6 +59,22 @@ module _ (limit program log output work : ℕ) where
       unfolding lent_no
       all_enough k m =
           simp ((limit_exactly limit).1 b, le-ltb program_most program h, le-ltb log_most log i, le-ltb output program k, le-ltb work (program / 2) m)
+
+  -- 15 and 1 of the program are the run's own
+  pub start_lent : (start_no limit program ≡ 0 → ⊥) → start_no limit program ≡ lent_here
+  unfolding start_no
+  start_lent d =
+      limit_cases limit
+      (λ b. cases (leb program program_most) (λ t. absurd (d (simp ((limit_exactly limit).1 b, t))))
+      (λ t. simp ((limit_exactly limit).1 b, t) (sym (program_long b (leb-false program program_most t)))))
+      (λ b. simp (limit_out limit b) (sym (limit_bad b)))
+
+  pub started : start_no limit program ≡ 0 → LimitInRange limit × (program ≤ program_most)
+  unfolding start_no
+  started e =
+      limit_cases limit
+      (λ b. cases (leb program program_most) (λ t. (b, leb-true program program_most t)) (λ t. absurd (omega (arith, simp ((limit_exactly limit).1 b, t) at e))))
+      (λ b. absurd (omega (arith, simp (limit_out limit b) at e)))
 
 -- what 0 says
 neither : (a b : Bool) {m n : ℕ} → (n ≡ 0 → ⊥) → cond (a || b) n m ≡ 0 → (a ≡ false) × (b ≡ false) × (m ≡ 0)

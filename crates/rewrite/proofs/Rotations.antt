@@ -4,8 +4,8 @@ use mathlib.Core.List.{List, [], ◌∷◌, ◌++◌, append-nil, append_assoc}
 use Prim.Native.Nat.{ℕ, suc, ◌+◌, ◌-◌, ◌≤◌, ◌<◌}
 use native.Mathlib.Omega.{arith}
 use native.Mathlib.Numerals.{add-one}
-use lib.ListN.{length, take, drop, get_or, set, length-append, length-drop, drop_of_length-le}
-use lib.Seq.{take_at, take-append-le, drop-append-le, length-take-le, take-take, drop-drop}
+use lib.ListN.{length, take, drop, get_or, set, length-append, length-drop, drop_of_length-le, take-append-drop}
+use lib.Seq.{take_all, take_at, take-append-le, drop-append-le, length-take-le, take-take, drop-drop}
 use lib.Seq.{drop-cons, take-suc, set_at, get_or_at}
 use Rattle.std.proofs.lemmas.List.{drop-take}
 use Rattle.rewrite.specs.Laid.{exchanged}
@@ -121,6 +121,16 @@ module _ (p : List ℕ) (k : ℕ) (h : length p ≡ k + k) where
 
   pub half_back : length (drop k p) ≡ k
   half_back = omega (arith, length-drop k p)
+
+  pub half_none : p ≡ halfway (take k p) (drop k p) 0
+  half_none = sym (take-append-drop k p)
+
+  pub half_all : (i : ℕ) → i ≡ k → halfway (take k p) (drop k p) i ≡ turned p k
+  half_all i e =
+      ap (halfway (take k p) (drop k p)) e
+      ∙ (λ n. (take_all k (drop k p) (omega (arith, half_back)) n ++ drop_of_length-le (take k p) {i = k} (omega (arith, half_front)) n)
+      ++ (take_all k (take k p) (omega (arith, half_front)) n ++ drop_of_length-le (drop k p) {i = k} (omega (arith, half_back)) n))
+      ∙ (λ n. append-nil (drop k p) n ++ append-nil (take k p) n)
 
 -- ---- the part put back
 -- what a part holds from j on

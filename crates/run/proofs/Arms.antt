@@ -1,12 +1,13 @@
 -- The arms of the step, as the small functions have them: the number of a record of some kinds, and the state after it. Assumes nothing.
-use Prim.Native.Nat.{ℕ, ◌-◌, ◌≤◌}
+use Prim.Native.Nat.{ℕ, ◌+◌, ◌-◌, ◌≤◌}
 use mathlib.Core.Path.{◌≡◌, refl, sym, ap, ◌∙◌}
 use mathlib.Core.Bool.{false, cond}
 use mathlib.Core.List.{List, map}
-use lib.ListN.{set}
+use lib.ListN.{get_or, set}
 use lib.Dec.{eqb}
-use borrow.Author.Tests.{not-false}
+use borrow.Author.Tests.{eq-eqb, ne_eqb, not-false}
 use Rattle.machine.specs.declared.Needle.{Needle}
+use Rattle.machine.specs.declared.Racking.{Racking}
 use Rattle.machine.specs.declared.Carrier.{Carrier}
 use Rattle.machine.specs.declared.State.{State}
 use Rattle.machine.specs.Machine.{inactive, changed, hook_of, loops_on, moved_to}
@@ -19,9 +20,19 @@ use Rattle.record.specs.Kinds.{IN, OUT, MISS, TUCK, KNIT, SPLIT, PLATED_TUCK, PL
 use Rattle.record.proofs.Shapes.{one_of_two, two_named}
 use Rattle.run.specs.Relation.{entry_slot, exit_slot, unattached, attached}
 use Rattle.run.specs.Step.{or_number, twice_no, asked_no, first_after, first_asked, number_at, apply_of}
-use Rattle.run.specs.Loops.{tuck_no, form_no, transfer_no}
+use Rattle.run.specs.Loops.{tuck_no, form_no, formed_loops, transfer_no, transferred_loops}
 use Rattle.run.proofs.ByKind.{or_zero, none_fits, seen, ready_no, pair_no, rack_number, rack_state, drop_number, drop_state, xfer_number, xfer_state, in_number, in_state, out_number, out_state, miss_number, miss_state, tuck_number, tuck_state, knit_number, knit_state, split_number, split_state_lem, plated_tuck_number, plated_tuck_state, plated_knit_number, plated_knit_state}
 use Rattle.run.proofs.Premises.{twice_zero, twice_sixteen}
+
+-- the loops after a transfer, by its number
+module _ (limit : ℕ) (l : List ℕ) (a b : Needle) (r : Racking) (v n : ℕ) (is : n ≡ transfer_no limit l a b r) where
+  pub transfer_kept : (n ≡ 0 → ⊥) → transferred_loops limit l a b r v ≡ l
+  unfolding transferred_loops
+  transfer_kept h = simp (← is, ne_eqb n 0 h)
+
+  transfer_made : n ≡ 0 → transferred_loops limit l a b r v ≡ set (set l (hook_of a) v) (hook_of b) (get_or l (hook_of a) 0 + get_or l (hook_of b) 0)
+  unfolding transferred_loops
+  transfer_made h = simp (← is, eq-eqb n 0 h)
 
 -- the carriers after a move: where none names the needle, as they were
 pub unmoved : (a b : Needle) (l : List Carrier) → any_beside a l ≡ false → map (moved_to a b) l ≡ l
@@ -60,8 +71,20 @@ module _ (s : State) (x : Record) where
   abbrev forms_no : ℕ
   forms_no = form_no s.limit x.kind (loops_on s x.at)
 
+  abbrev formed : List ℕ
+  formed = formed_loops s.limit x.kind s.loops x.at
+
   abbrev after_forming : List ℕ
   after_forming = set s.loops (hook_of x.at) (first_after x.kind (loops_on s x.at))
+
+  module _ (m : ℕ) (f : m ≡ forms_no) where
+    pub form_kept : (m ≡ 0 → ⊥) → formed ≡ s.loops
+    unfolding formed_loops
+    form_kept g = simp (ne_eqb forms_no 0 (λ e. g (f ∙ e)))
+
+    form_made : m ≡ 0 → formed ≡ after_forming
+    unfolding formed_loops
+    form_made g = simp (eq-eqb forms_no 0 (sym f ∙ g))
 
   -- tuck and knit: a tuck asks for room besides
   module _ (low : TUCK ≤ x.kind) (high : x.kind ≤ KNIT) where

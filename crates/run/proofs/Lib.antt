@@ -1,5 +1,6 @@
 -- Laws of the step and the run; the theorems are in Demand.
 pub mod ByKind
+pub mod Looks
 pub mod Arms
 pub mod Turns
 pub mod Alone

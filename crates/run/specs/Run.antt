@@ -97,6 +97,6 @@ abbrev pub after_of : State → Record → State
 after_of s x = cond (eqb (number_at s x) 0) (apply_of s x) s
 
 -- where the loop ended, with the state that it was lent
-abbrev pub ended : Result (Unit {0}) Stop → State → Reached
+abbrev pub ended : Result ℕ Stop → State → Reached
 ended (Ok _) s = reached 0 0 s
 ended (Err stop) s = reached (number_of stop.why) stop.place s

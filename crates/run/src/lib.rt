@@ -1,7 +1,7 @@
 // The step of a record and the run of a program, with the refusals 1, 3 to 11, 15 of a limit, 16 and 17.
 #![tactic(auto)]
 
-ghost use Rattle.std.specs.Prelude.{◌≡◌, ◌≤◌, ◌<◌, ◌+◌, get_or, set, eqb, not, cond, map, IfOk};
+ghost use Rattle.std.specs.Prelude.{◌≡◌, ◌≤◌, ◌<◌, ◌+◌, length, get_or, set, eqb, not, cond, map, IfOk};
 ghost use Rattle.machine.specs.Machine.{OnBed, hook_of, inactive, empty_state, changed, moved_to};
 ghost use Rattle.machine.specs.Geometry.{column_of, entry_of, exit_of};
 ghost use Rattle.machine.specs.Refusals.{told_number};
@@ -422,17 +422,19 @@ fn advance(state: &mut State, bytes: &[u8]) -> Result<usize, Refusal>
     Ok(d.size)
 }
 
-// The run of bytes of any length from a state, up to the first record that has no step. (A `while`: a record's length decides
-// the next place.)
+// The run of bytes of any length from a state, up to the first record that has no step: how many bytes were run, all of them, or
+// why it stopped. (A `while`: a record's length decides the next place. The count is that `Ok` has something to say: an `Ok` without
+// is 16 bytes to be cleared, for which the archive for a Cortex-M0+ wants `__aeabi_memclr`.)
 #[tactic(auto, using(crate::proofs::Turns::running))]
-fn run_from(state: &mut State, program: &[u8]) -> Result<(), Stop>
-    ensures { ended result state.new ≡ run_from 0 program.now 0 state.old }
+fn run_from(state: &mut State, program: &[u8]) -> Result<usize, Stop>
+    ensures run { ended result state.new ≡ run_from 0 program.now 0 state.old }
+    ensures length { IfOk result (λ size. size ≡ length program.now) }
 {
     let mut at = 0;
     while at < program.len() {
         at += advance(state, &program[at..]).map_err(|why| Stop { why, place: at })?;
     }
-    Ok(())
+    Ok(at)
 }
 
 // The answer of a run that ended so: whether its state is the empty one is looked at last.
@@ -490,16 +492,21 @@ pub fn end_at(number: u8, place: usize) -> Ended
     Ended { number, place }
 }
 
-// Where the run of a program from the empty state ends.
+// Where the run of a program from the empty state ends. (The state is made after the look whether a run can start: a refused call
+// clears nothing. Its limit is stored where it lies, so that all its bytes are cleared by one call: with two, the controller's
+// archive wants `__aeabi_memclr`.)
+#[tactic(auto, unfolding(machine::specs::Machine::empty_state))]
 fn from_empty(limit: u8, program: &[u8]) -> (Ended, State)
     ensures { reached result.0.number result.0.place result.1 ≡ reached_of limit program.now }
 {
-    let mut state = State::empty(answer_limit(limit));
+    let empty = answer_limit(limit);
     if let Err(why) = start(limit, program.len()) {
-        return (end_at(why.number(), 0), state);
+        return (end_at(why.number(), 0), State::empty(empty));
     }
+    let mut state = State::cleared();
+    state.limit = empty;
     let end = match run_from(&mut state, program) {
-        Ok(()) => end_at(0, 0),
+        Ok(_) => end_at(0, 0),
         Err(stop) => end_at(stop.why.number(), stop.place),
     };
     (end, state)
