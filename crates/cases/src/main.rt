@@ -23,8 +23,8 @@ fn join<'a>(folder: &str, file: &str, path: &'a mut [u8]) -> &'a [u8]
     &path[..end]
 }
 
-// Writes out a title line and the listing of a folder at a hook limit. (Three writes for the title: `println!` keeps a line in 65,536
-// bytes of stack, cleared each time, and a title that is cut off is cut elsewhere.)
+// Writes out a title line and the listing of a folder at a hook limit. (Three writes for the title: by `println!`, which makes one,
+// other bytes are out where the output takes a write whole or not at all.)
 fn show(rt: &HostRuntime, limit: u8, folder: &str) -> io::Result<()> {
     rt.write_all(b"# ")?;
     rt.write_all(folder.as_bytes())?;
